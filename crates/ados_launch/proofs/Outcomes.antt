@@ -26,11 +26,11 @@ use Rattle.ados_launch.proofs.ReaderEnd.{reader-ended}
 use Rattle.ados_launch.proofs.Sessions.{Driven, driven-cut, next-dropped, next-is, stands, stands-after, takes-session, why-read}
 use Rattle.ados_launch.proofs.Waits.{none-open}
 
-pub ends : (turns n : ℕ) (breaks : List BreakAt) (before now : Moment) (standing : ScheduleState) (held : List ℕ) (end : End) → Driven before now breaks n standing (bytes_ahead held now.left) → n ≤ turns
+pub ends : (turns n : ℕ) (breaks : List BreakAt) (before now : Moment) (schedule : ScheduleState) (held : List ℕ) (end : End) → Driven before now breaks n schedule (bytes_ahead held now.left) → n ≤ turns
     → end.events ≡ n → end.code ≡ (codes_at now.world 1).code → end.result2 ≡ (codes_at now.world 1).result2 → length now.world.shells ≡ 20 → IsIdle now.world → ReadsWell before now → WritesWell before now
     → ComesToEnd turns breaks before now end
-ends turns n breaks before now standing held end d within count code result2 size idle reads writes = record {
-  stands = subst (λ m. SessionProgress before now breaks m []) (sym count) (stands before now breaks n standing (bytes_ahead held now.left) d);
+ends turns n breaks before now schedule held end d within count code result2 size idle reads writes = record {
+  stands = subst (λ m. SessionProgress before now breaks m []) (sym count) (stands before now breaks n schedule (bytes_ahead held now.left) d);
   within = omega (arith, count, within);
   no_shell = over now.world size idle;
   code = code;
@@ -40,55 +40,55 @@ ends turns n breaks before now standing held end d within count code result2 siz
   reader_ended = λ bytes e. reader-ended before.world bytes d.taken now.world held now.left d.session.run (d.session.lines bytes e) (d.left_is bytes e) idle;
 }
 
-pub stops-turns : (turns n : ℕ) (breaks : List BreakAt) (before now : Moment) (standing : ScheduleState) (held : List ℕ) → Driven before now breaks n standing (bytes_ahead held now.left) → n ≡ turns → length held < 4096
+pub stops-turns : (turns n : ℕ) (breaks : List BreakAt) (before now : Moment) (schedule : ScheduleState) (held : List ℕ) → Driven before now breaks n schedule (bytes_ahead held now.left) → n ≡ turns → length held < 4096
     → IsRunning now.world → ReadsWell before now → WritesWell before now → StopsAtTurns turns breaks before now
-stops-turns turns n breaks before now standing held d count few running reads writes =
+stops-turns turns n breaks before now schedule held d count few running reads writes =
     subst (λ m. StopsAtTurns m breaks before now) count (record {
-      stands = stands before now breaks n standing (bytes_ahead held now.left) d;
+      stands = stands before now breaks n schedule (bytes_ahead held now.left) d;
       running = running;
       unread = λ bytes e. (held, few, d.left_is bytes e);
       reads_well = reads;
       writes_well = writes;
     })
 
-pub stops-memory : (turns n : ℕ) (breaks : List BreakAt) (before mid now : Moment) (standing : ScheduleState) (rest : Option (List ℕ)) (held : List ℕ) (next : Next) (dropped : List Call) → Driven before mid breaks n standing rest → n < turns
-    → standing.round.place ≤ 61 → scheduled_next standing mid.world ≡ Some next → (mid.is_full ≡ true → now.is_full ≡ true) → now.world ≡ mid.world → now.contents ≡ mid.contents → now.calls ≡ mid.calls ++ dropped
+pub stops-memory : (turns n : ℕ) (breaks : List BreakAt) (before mid now : Moment) (schedule : ScheduleState) (rest : Option (List ℕ)) (held : List ℕ) (next : Next) (dropped : List Call) → Driven before mid breaks n schedule rest → n < turns
+    → schedule.round.place ≤ 61 → scheduled_next schedule mid.world ≡ Some next → (mid.is_full ≡ true → now.is_full ≡ true) → now.world ≡ mid.world → now.contents ≡ mid.contents → now.calls ≡ mid.calls ++ dropped
     → AreDropped mid.world (Some next) dropped → length held < 4096 → IfKnown rest (λ bytes. TakesPartAt next bytes (bytes_ahead held now.left)) → ReadsWell before now → WritesWell before now
     → StopsAtMemory turns breaks before now
-stops-memory turns n breaks before mid now standing rest held next dropped d few in_round here stays world written calls one less part reads writes = record {
+stops-memory turns n breaks before mid now schedule rest held next dropped d few in_round here stays world written calls one less part reads writes = record {
   n = n;
   few = few;
   dropped = dropped;
-  stands = stands-after before mid now breaks n standing rest dropped stays world written calls d;
-  dropped_is = rw world (next-dropped before mid breaks n standing rest next dropped d here one);
-  running = rw world (next-running standing mid.world next in_round here);
-  unread = rw world (no-further before mid breaks n standing rest next held now.left d here less part);
+  stands = stands-after before mid now breaks n schedule rest dropped stays world written calls d;
+  dropped_is = rw world (next-dropped before mid breaks n schedule rest next dropped d here one);
+  running = rw world (next-running schedule mid.world next in_round here);
+  unread = rw world (no-further before mid breaks n schedule rest next held now.left d here less part);
   reads_well = reads;
   writes_well = writes;
 }
 
-pub stops-read : (turns n : ℕ) (breaks : List BreakAt) (before mid now : Moment) (standing : ScheduleState) (rest : Option (List ℕ)) (held : List ℕ) → Driven before mid breaks n standing rest → n < turns
-    → scheduled_next standing mid.world ≡ Some AtLine → (mid.is_full ≡ true → now.is_full ≡ true) → now.world ≡ mid.world → now.contents ≡ mid.contents → now.calls ≡ mid.calls → length held < 4096
+pub stops-read : (turns n : ℕ) (breaks : List BreakAt) (before mid now : Moment) (schedule : ScheduleState) (rest : Option (List ℕ)) (held : List ℕ) → Driven before mid breaks n schedule rest → n < turns
+    → scheduled_next schedule mid.world ≡ Some AtLine → (mid.is_full ≡ true → now.is_full ≡ true) → now.world ≡ mid.world → now.contents ≡ mid.contents → now.calls ≡ mid.calls → length held < 4096
     → ReadsWell before mid → IsUnreadable mid.read_faults now.read_faults rest (bytes_ahead held now.left)
     → WritesWell before now → StopsAtRead turns breaks before now
-stops-read turns n breaks before mid now standing rest held d few here stays world written calls less reads cause writes = record {
+stops-read turns n breaks before mid now schedule rest held d few here stays world written calls less reads cause writes = record {
   n = n;
   few = few;
-  stands = stands-after before mid now breaks n standing rest [] stays world written (calls ∙ sym (append-nil mid.calls)) d;
-  reading = rw world (next-is before mid breaks n standing rest AtLine d here);
-  cause = why-read before mid breaks n standing rest d mid.read_faults before.read_faults now.read_faults held now.left reads less cause;
+  stands = stands-after before mid now breaks n schedule rest [] stays world written (calls ∙ sym (append-nil mid.calls)) d;
+  reading = rw world (next-is before mid breaks n schedule rest AtLine d here);
+  cause = why-read before mid breaks n schedule rest d mid.read_faults before.read_faults now.read_faults held now.left reads less cause;
   writes_well = writes;
 }
 
-pub stops-write : (turns n m : ℕ) (breaks : List BreakAt) (before mid now : Moment) (standing : ScheduleState) (rest later : Option (List ℕ)) (next : Next) (out : List ℕ) → Driven before mid breaks n standing rest → n < turns
-    → scheduled_next standing mid.world ≡ Some next → (mid.is_full ≡ true → now.is_full ≡ true) → TakesNextItem mid.world rest now.is_full mid.calls next now.world later now.calls out → Agrees now.world now.calls
+pub stops-write : (turns n m : ℕ) (breaks : List BreakAt) (before mid now : Moment) (schedule : ScheduleState) (rest later : Option (List ℕ)) (next : Next) (out : List ℕ) → Driven before mid breaks n schedule rest → n < turns
+    → scheduled_next schedule mid.world ≡ Some next → (mid.is_full ≡ true → now.is_full ≡ true) → TakesNextItem mid.world rest now.is_full mid.calls next now.world later now.calls out → Agrees now.world now.calls
     → m < length out → Appends mid.contents now.contents (take m out) → ReadsWell before now
     → ((now.write_faults ≡ before.write_faults + 1) × (now.stalls ≡ before.stalls)) ⊎ ((now.write_faults ≡ before.write_faults) × (now.stalls ≡ one_more before.stalls))
     → StopsAtWrite turns breaks before now
-stops-write turns n m breaks before mid now standing rest later next out d few here stays t agrees some front reads cause = record {
+stops-write turns n m breaks before mid now schedule rest later next out d few here stays t agrees some front reads cause = record {
   n = n + 1;
   within = omega (arith, few);
-  stands = driven-cut before mid now breaks n m standing rest later next out d here stays t agrees some front;
+  stands = driven-cut before mid now breaks n m schedule rest later next out d here stays t agrees some front;
   cause = cause;
   reads_well = reads;
 }

@@ -69,12 +69,12 @@ pub part-at-none : (next : Next) (bytes : List ℕ) (now : Option (List ℕ)) �
 part-at-none next bytes now e = record { part = part-none bytes now e; none = λ other. refl }
 
 -- for what comes next nothing was read past the line that is due
-pub no-further : (before mid : Moment) (breaks : List BreakAt) (n : ℕ) (standing : ScheduleState) (rest : Option (List ℕ)) (next : Next) (held : List ℕ) (left : Option (List ℕ)) (d : Driven before mid breaks n standing rest)
-    → scheduled_next standing mid.world ≡ Some next → length held < 4096 → IfKnown rest (λ bytes. TakesPartAt next bytes (bytes_ahead held left))
+pub no-further : (before mid : Moment) (breaks : List BreakAt) (n : ℕ) (schedule : ScheduleState) (rest : Option (List ℕ)) (next : Next) (held : List ℕ) (left : Option (List ℕ)) (d : Driven before mid breaks n schedule rest)
+    → scheduled_next schedule mid.world ≡ Some next → length held < 4096 → IfKnown rest (λ bytes. TakesPartAt next bytes (bytes_ahead held left))
     → IfKnown before.left (λ bytes. ReadsOnlyDueLine (next_after_taken breaks before.world d.taken mid.world) (rest_after_items bytes d.taken) left)
-no-further before mid breaks n standing rest next held left d here less part bytes e =
+no-further before mid breaks n schedule rest next held left d here less part bytes e =
     let at : TakesPartAt next (rest_after_items bytes d.taken) (bytes_ahead held left) = part (rest_after_items bytes d.taken) (d.left_is bytes e) in
-    subst (λ found. ReadsOnlyDueLine found (rest_after_items bytes d.taken) left) (sym (next-is before mid breaks n standing rest next d here))
+    subst (λ found. ReadsOnlyDueLine found (rest_after_items bytes d.taken) left) (sym (next-is before mid breaks n schedule rest next d here))
     (record {
       count = at.part.count;
       none = λ other. at.none (λ is. other (ap Some is));

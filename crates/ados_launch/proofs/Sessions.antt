@@ -20,24 +20,24 @@ use Rattle.ados_launch.specs.Session.{AreDropped, LeavesOverlong, Moment, Sessio
 use Rattle.ados_launch.proofs.Taken.{run-more, order-more, standing-more, along-full, along-more, asked-more, asked-full, lines-more, left-more, written-more, count-more}
 
 -- this many were taken, and all of their bytes written; the schedule goes on, with this left to read
-pub record Driven (before now : Moment) (breaks : List BreakAt) (n : ℕ) (standing : ScheduleState) (rest : Option (List ℕ)) : Type 0 where
+pub record Driven (before now : Moment) (breaks : List BreakAt) (n : ℕ) (schedule : ScheduleState) (rest : Option (List ℕ)) : Type 0 where
   pub taken : List TakenItem
   pub listed : List Call
   pub count_is : length taken ≡ n
   pub session : Session before.world before.left breaks before.calls now.is_full listed taken now.world
-  pub standing_is : standing ≡ final_schedule_state (first_schedule_state breaks) before.world taken
+  pub schedule_is : schedule ≡ final_schedule_state (first_schedule_state breaks) before.world taken
   pub left_is : IfKnown before.left (λ bytes. rest ≡ Some (rest_after_items bytes taken))
   pub written : Appends before.contents now.contents (written_bytes taken)
   pub calls_are : now.calls ≡ before.calls ++ listed
 
-pub driven-none : (before : Moment) (breaks : List BreakAt) (standing : ScheduleState) (rest : Option (List ℕ)) → rest ≡ before.left → standing ≡ first_schedule_state breaks → Agrees before.world before.calls
-    → Driven before before breaks 0 standing rest
-driven-none before breaks standing rest same begins agrees = record {
+pub driven-none : (before : Moment) (breaks : List BreakAt) (schedule : ScheduleState) (rest : Option (List ℕ)) → rest ≡ before.left → schedule ≡ first_schedule_state breaks → Agrees before.world before.calls
+    → Driven before before breaks 0 schedule rest
+driven-none before breaks schedule rest same begins agrees = record {
   taken = [];
   listed = [];
   count_is = refl;
   session = record { run = refl; ordered = tt; lines = λ bytes e. tt; asked = refl; agreed = agrees };
-  standing_is = begins;
+  schedule_is = begins;
   left_is = λ bytes e. same ∙ e;
   written = Appends-nil before.contents;
   calls_are = sym (append-nil before.calls);
@@ -47,13 +47,13 @@ pub calls-more : (calls mid now listed more : List Call) → mid ≡ calls ++ li
 calls-more calls mid now listed more e f = f ∙ (ap (λ xs. xs ++ more) e ∙ append_assoc calls listed more)
 
 -- one more was taken
-session-more : (before mid now : Moment) (breaks : List BreakAt) (n : ℕ) (standing : ScheduleState) (rest later : Option (List ℕ)) (next : Next) (out : List ℕ)
-    → (d : Driven before mid breaks n standing rest) → scheduled_next standing mid.world ≡ Some next → (mid.is_full ≡ true → now.is_full ≡ true)
+session-more : (before mid now : Moment) (breaks : List BreakAt) (n : ℕ) (schedule : ScheduleState) (rest later : Option (List ℕ)) (next : Next) (out : List ℕ)
+    → (d : Driven before mid breaks n schedule rest) → scheduled_next schedule mid.world ≡ Some next → (mid.is_full ≡ true → now.is_full ≡ true)
     → (t : TakesNextItem mid.world rest now.is_full mid.calls next now.world later now.calls out) → Agrees now.world now.calls
     → Session before.world before.left breaks before.calls now.is_full (d.listed ++ t.listed) (d.taken ++ t.item ∷ []) now.world
-session-more before mid now breaks n standing rest later next out d here stays t agrees = record {
+session-more before mid now breaks n schedule rest later next out d here stays t agrees = record {
   run = rw t.takes.world_is (run-more before.world d.taken mid.world t.item d.session.run t.takes.accepted);
-  ordered = order-more (first_schedule_state breaks) before.world d.taken mid.world t.item d.session.ordered d.session.run (rw (← d.standing_is, t.next_is) here);
+  ordered = order-more (first_schedule_state breaks) before.world d.taken mid.world t.item d.session.ordered d.session.run (rw (← d.schedule_is, t.next_is) here);
   lines = λ bytes e. lines-more bytes d.taken t.item (d.session.lines bytes e) (t.takes.lines (rest_after_items bytes d.taken) (d.left_is bytes e)).0;
   asked = asked-more now.is_full before.world d.taken d.listed mid.world t.item t.listed (asked-full mid.is_full now.is_full before.world d.taken d.listed stays d.session.asked) d.session.run t.asked t.when_full;
   agreed = along-more now.is_full before.world before.calls d.taken d.listed mid.world t.item t.listed now.calls (asked-full mid.is_full now.is_full before.world d.taken d.listed stays d.session.asked) d.session.run t.asked t.when_full
@@ -62,16 +62,16 @@ session-more before mid now breaks n standing rest later next out d here stays t
       (subst (λ world. Agrees world now.calls) t.takes.world_is agrees);
 }
 
-pub driven-more : (before mid now : Moment) (breaks : List BreakAt) (n : ℕ) (standing after : ScheduleState) (rest later : Option (List ℕ)) (next : Next) (out : List ℕ)
-    → Driven before mid breaks n standing rest → scheduled_next standing mid.world ≡ Some next → (mid.is_full ≡ true → now.is_full ≡ true)
-    → TakesNextItem mid.world rest now.is_full mid.calls next now.world later now.calls out → Agrees now.world now.calls → Appends mid.contents now.contents out → after ≡ following_schedule_state standing mid.world next
+pub driven-more : (before mid now : Moment) (breaks : List BreakAt) (n : ℕ) (schedule after : ScheduleState) (rest later : Option (List ℕ)) (next : Next) (out : List ℕ)
+    → Driven before mid breaks n schedule rest → scheduled_next schedule mid.world ≡ Some next → (mid.is_full ≡ true → now.is_full ≡ true)
+    → TakesNextItem mid.world rest now.is_full mid.calls next now.world later now.calls out → Agrees now.world now.calls → Appends mid.contents now.contents out → after ≡ following_schedule_state schedule mid.world next
     → Driven before now breaks (n + 1) after later
-driven-more before mid now breaks n standing after rest later next out d here stays t agrees grown is = record {
+driven-more before mid now breaks n schedule after rest later next out d here stays t agrees grown is = record {
   taken = d.taken ++ t.item ∷ [];
   listed = d.listed ++ t.listed;
   count_is = count-more d.taken t.item ∙ ap (λ m. m + 1) d.count_is;
-  session = session-more before mid now breaks n standing rest later next out d here stays t agrees;
-  standing_is = is ∙ (ap (following_schedule_state standing mid.world) (sym t.next_is) ∙ (ap (λ s. following_schedule_state s mid.world (next_of t.item)) d.standing_is
+  session = session-more before mid now breaks n schedule rest later next out d here stays t agrees;
+  schedule_is = is ∙ (ap (following_schedule_state schedule mid.world) (sym t.next_is) ∙ (ap (λ s. following_schedule_state s mid.world (next_of t.item)) d.schedule_is
       ∙ sym (standing-more (first_schedule_state breaks) before.world d.taken mid.world t.item d.session.run)));
   left_is = λ bytes e. (t.takes.lines (rest_after_items bytes d.taken) (d.left_is bytes e)).1 ∙ ap Some (sym (left-more bytes d.taken t.item));
   written = rw written-more (Appends-trans before.contents mid.contents now.contents (written_bytes d.taken) (bytes_of t.item) d.written (rw t.takes.bytes_are at grown));
@@ -79,16 +79,16 @@ driven-more before mid now breaks n standing after rest later next out d here st
 }
 
 -- a prefix of the last one's bytes was written
-pub driven-cut : (before mid now : Moment) (breaks : List BreakAt) (n m : ℕ) (standing : ScheduleState) (rest later : Option (List ℕ)) (next : Next) (out : List ℕ)
-    → Driven before mid breaks n standing rest → scheduled_next standing mid.world ≡ Some next → (mid.is_full ≡ true → now.is_full ≡ true)
+pub driven-cut : (before mid now : Moment) (breaks : List BreakAt) (n m : ℕ) (schedule : ScheduleState) (rest later : Option (List ℕ)) (next : Next) (out : List ℕ)
+    → Driven before mid breaks n schedule rest → scheduled_next schedule mid.world ≡ Some next → (mid.is_full ≡ true → now.is_full ≡ true)
     → TakesNextItem mid.world rest now.is_full mid.calls next now.world later now.calls out → Agrees now.world now.calls → m < length out → Appends mid.contents now.contents (take m out)
     → CutSessionProgress before now breaks (n + 1)
-driven-cut before mid now breaks n m standing rest later next out d here stays t agrees some front = record {
+driven-cut before mid now breaks n m schedule rest later next out d here stays t agrees some front = record {
   taken = d.taken;
   item = t.item;
   listed = d.listed ++ t.listed;
   count_is = ap (λ i. i + 1) d.count_is;
-  session = session-more before mid now breaks n standing rest later next out d here stays t agrees;
+  session = session-more before mid now breaks n schedule rest later next out d here stays t agrees;
   length_written = m;
   cut = rw t.takes.bytes_are at some;
   written = Appends-trans before.contents mid.contents now.contents (written_bytes d.taken) (take m (bytes_of t.item)) d.written (rw t.takes.bytes_are at front);
@@ -106,10 +106,10 @@ full-session was_full is_full before breaks listed taken last stays s = record {
 }
 
 -- the same with more calls after; the world and what is written are unchanged
-abbrev pub stands-after : (before mid now : Moment) (breaks : List BreakAt) (n : ℕ) (standing : ScheduleState) (rest : Option (List ℕ)) (others : List Call)
-    → (mid.is_full ≡ true → now.is_full ≡ true) → now.world ≡ mid.world → now.contents ≡ mid.contents → now.calls ≡ mid.calls ++ others → Driven before mid breaks n standing rest
+abbrev pub stands-after : (before mid now : Moment) (breaks : List BreakAt) (n : ℕ) (schedule : ScheduleState) (rest : Option (List ℕ)) (others : List Call)
+    → (mid.is_full ≡ true → now.is_full ≡ true) → now.world ≡ mid.world → now.contents ≡ mid.contents → now.calls ≡ mid.calls ++ others → Driven before mid breaks n schedule rest
     → SessionProgress before now breaks n others
-stands-after before mid now breaks n standing rest others stays world written calls d = record {
+stands-after before mid now breaks n schedule rest others stays world written calls d = record {
   taken = d.taken;
   listed = d.listed;
   count_is = d.count_is;
@@ -119,27 +119,27 @@ stands-after before mid now breaks n standing rest others stays world written ca
   calls_are = calls-more before.calls mid.calls now.calls d.listed others d.calls_are calls;
 }
 
-abbrev pub stands : (before now : Moment) (breaks : List BreakAt) (n : ℕ) (standing : ScheduleState) (rest : Option (List ℕ)) → Driven before now breaks n standing rest → SessionProgress before now breaks n []
-stands before now breaks n standing rest d = stands-after before now now breaks n standing rest [] (λ e. e) refl refl (sym (append-nil now.calls)) d
+abbrev pub stands : (before now : Moment) (breaks : List BreakAt) (n : ℕ) (schedule : ScheduleState) (rest : Option (List ℕ)) → Driven before now breaks n schedule rest → SessionProgress before now breaks n []
+stands before now breaks n schedule rest d = stands-after before now now breaks n schedule rest [] (λ e. e) refl refl (sym (append-nil now.calls)) d
 
 -- a read failed, or none did and the line that is due is too long
-pub why-read : (before mid : Moment) (breaks : List BreakAt) (n : ℕ) (standing : ScheduleState) (rest : Option (List ℕ)) (d : Driven before mid breaks n standing rest) (faults old new : ℕ) (held : List ℕ) (later : Option (List ℕ))
+pub why-read : (before mid : Moment) (breaks : List BreakAt) (n : ℕ) (schedule : ScheduleState) (rest : Option (List ℕ)) (d : Driven before mid breaks n schedule rest) (faults old new : ℕ) (held : List ℕ) (later : Option (List ℕ))
     → faults ≡ old → length held < 4096 → IsUnreadable faults new rest (bytes_ahead held later)
     → (new ≡ old + 1) ⊎ ((new ≡ old) × IfKnown before.left (λ bytes. LeavesOverlong (rest_after_items bytes d.taken) later))
-why-read before mid breaks n standing rest d faults old new held later same few (inl failed) = inl (failed ∙ ap (λ m. m + 1) same)
-why-read before mid breaks n standing rest d faults old new held later same few (inr long) =
+why-read before mid breaks n schedule rest d faults old new held later same few (inl failed) = inl (failed ∙ ap (λ m. m + 1) same)
+why-read before mid breaks n schedule rest d faults old new held later same few (inr long) =
     inr (long.0 ∙ same, λ bytes e. let begins = long.1 (rest_after_items bytes d.taken) (d.left_is bytes e) in (begins.0, (held, few, begins.1)))
 
 -- after what was taken this comes next
-pub next-is : (before mid : Moment) (breaks : List BreakAt) (n : ℕ) (standing : ScheduleState) (rest : Option (List ℕ)) (next : Next) (d : Driven before mid breaks n standing rest)
-    → scheduled_next standing mid.world ≡ Some next → next_after_taken breaks before.world d.taken mid.world ≡ Some next
-next-is before mid breaks n standing rest next d here = subst (λ s. scheduled_next s mid.world ≡ Some next) d.standing_is here
+pub next-is : (before mid : Moment) (breaks : List BreakAt) (n : ℕ) (schedule : ScheduleState) (rest : Option (List ℕ)) (next : Next) (d : Driven before mid breaks n schedule rest)
+    → scheduled_next schedule mid.world ≡ Some next → next_after_taken breaks before.world d.taken mid.world ≡ Some next
+next-is before mid breaks n schedule rest next d here = subst (λ s. scheduled_next s mid.world ≡ Some next) d.schedule_is here
 
 -- the call whose answer was not taken is for what comes next after what was taken
-pub next-dropped : (before mid : Moment) (breaks : List BreakAt) (n : ℕ) (standing : ScheduleState) (rest : Option (List ℕ)) (next : Next) (dropped : List Call) (d : Driven before mid breaks n standing rest)
-    → scheduled_next standing mid.world ≡ Some next → AreDropped mid.world (Some next) dropped → AreDropped mid.world (next_after_taken breaks before.world d.taken mid.world) dropped
-next-dropped before mid breaks n standing rest next dropped d here one =
-    subst (λ found. AreDropped mid.world found dropped) (sym (next-is before mid breaks n standing rest next d here)) one
+pub next-dropped : (before mid : Moment) (breaks : List BreakAt) (n : ℕ) (schedule : ScheduleState) (rest : Option (List ℕ)) (next : Next) (dropped : List Call) (d : Driven before mid breaks n schedule rest)
+    → scheduled_next schedule mid.world ≡ Some next → AreDropped mid.world (Some next) dropped → AreDropped mid.world (next_after_taken breaks before.world d.taken mid.world) dropped
+next-dropped before mid breaks n schedule rest next dropped d here one =
+    subst (λ found. AreDropped mid.world found dropped) (sym (next-is before mid breaks n schedule rest next d here)) one
 
 -- whatever the result of the schedule, a session was taken
 whole-session : (turns n : ℕ) (before now : Moment) (breaks : List BreakAt) (dropped : List Call) → n ≤ turns → (s : SessionProgress before now breaks n dropped)

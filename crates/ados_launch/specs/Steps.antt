@@ -11,7 +11,7 @@ use Rattle.ados_launch.specs.Session.{Moment}
 
 -- the state of a session: its schedule, the bytes that were read ahead, and which children are open, by number
 pub record SessionState : Type 0 where
-  pub standing : ScheduleState
+  pub schedule : ScheduleState
   pub held : List ℕ
   pub children : List Bool
 
@@ -27,10 +27,10 @@ next_request w None = None
 -- What came next was taken, its bytes were written, and the schedule went on.
 pub record TakesOne (was now : SessionState) (before after : Moment) : Type 0 where
   pub next : Next
-  pub next_is : scheduled_next was.standing before.world ≡ Some next
+  pub next_is : scheduled_next was.schedule before.world ≡ Some next
   pub bytes : List ℕ
   pub takes : TakesNextItem before.world (bytes_ahead was.held before.left) after.is_full before.calls next after.world (bytes_ahead now.held after.left) after.calls bytes
-  pub standing_is : now.standing ≡ following_schedule_state was.standing before.world next
+  pub schedule_is : now.schedule ≡ following_schedule_state was.schedule before.world next
   pub written : Appends before.contents after.contents bytes
   pub reads_well : ReadsWell before after
   pub writes_well : WritesWell before after

@@ -38,7 +38,7 @@ impl<'a> Model for Session<'a> {
 
     ghost Value = { SessionState };
 
-    ghost view = { λ s. record { standing = s.schedule; held = s.intake.held; children = s.intake.children } };
+    ghost view = { λ s. record { schedule = s.schedule; held = s.intake.held; children = s.intake.children } };
 
     ghost invariant = { λ s. (s.schedule.round.place ≤ 61) × (length s.intake.held < 4096) };
 }
@@ -46,7 +46,7 @@ impl<'a> Model for Session<'a> {
 impl<'a> Session<'a> {
     /// A session with this world begins, with these breaks.
     pub fn new(alloc: Global, world: &World, breaks: &'a [BreakAt]) -> Session<'a>
-        ensures standing { result.standing ≡ first_schedule_state breaks.now }
+        ensures schedule { result.schedule ≡ first_schedule_state breaks.now }
         ensures held { result.held ≡ [] }
         ensures children { (k : ℕ) → get_or result.children k false ≡ asks_read_or_wait (pending_of world.now k) }
     {
@@ -59,8 +59,8 @@ impl<'a> Session<'a> {
     /// What the next event asks of the launcher; `None` if it asks nothing, or nothing comes.
     #[tactic(auto, using(crate::proofs::Requests::request_none, crate::proofs::Requests::request_low, crate::proofs::Requests::request_high))]
     pub fn request<'w>(&self, world: &'w World) -> Option<&'w Request>
-        requires count { self.now.standing.taken < 2 ^ 64 - 1 }
-        ensures { option_copied result ≡ next_request world.now (scheduled_next self.now.standing world.now) }
+        requires count { self.now.schedule.taken < 2 ^ 64 - 1 }
+        ensures { option_copied result ≡ next_request world.now (scheduled_next self.now.schedule world.now) }
     {
         let place = self.schedule.place(world)?;
         if place < 21 {
@@ -82,7 +82,7 @@ impl<'a> Session<'a> {
     ) -> Result<bool, DriveFault>
         requires reader { S.faults reader.old < 2 ^ 64 - 1 }
         requires writer { K.faults writer.old < 2 ^ 64 - 1 }
-        requires count { self.old.standing.taken < 2 ^ 64 - 1 }
+        requires count { self.old.schedule.taken < 2 ^ 64 - 1 }
         requires agrees { Agrees world.old (L.calls launcher.old) }
         requires children { IsOpenTable self.old.children (L.calls launcher.old) }
         // What came next was taken, and its bytes were written.
@@ -90,7 +90,7 @@ impl<'a> Session<'a> {
             (record { world = world.old; left = S.left reader.old; read_faults = S.faults reader.old; contents = K.contents writer.old; write_faults = K.faults writer.old; stalls = K.stalls writer.old; calls = L.calls launcher.old; is_full = L.is_full launcher.old })
             (record { world = world.new; left = S.left reader.new; read_faults = S.faults reader.new; contents = K.contents writer.new; write_faults = K.faults writer.new; stalls = K.stalls writer.new; calls = L.calls launcher.new; is_full = L.is_full launcher.new })) }
         // Nothing comes.
-        ensures over { IfOk result (λ is_taken. is_taken ≡ false → (scheduled_next self.old.standing world.old ≡ None) × (world.new ≡ world.old)) }
+        ensures over { IfOk result (λ is_taken. is_taken ≡ false → (scheduled_next self.old.schedule world.old ≡ None) × (world.new ≡ world.old)) }
         // However it ends, what happened is that the machine accepted an event, or nothing.
         ensures leads { Reaches world.old world.new }
         ensures unmoved { (IsErrOf result DriveFault.Read ⊎ IsErrOf result DriveFault.Memory) → world.new ≡ world.old }
@@ -99,7 +99,7 @@ impl<'a> Session<'a> {
         ensures agrees { OnOk result (Agrees world.new (L.calls launcher.new)) }
         ensures children { IsOpenTable self.new.children (L.calls launcher.new) }
         // What the next step needs.
-        ensures count { self.new.standing.taken ≤ self.old.standing.taken + 1 }
+        ensures count { self.new.schedule.taken ≤ self.old.schedule.taken + 1 }
         ensures reads { OnOk result (S.faults reader.new ≡ S.faults reader.old) }
         ensures writes { OnOk result (K.faults writer.new ≡ K.faults writer.old) }
     {
@@ -115,7 +115,7 @@ impl<'a> Session<'a> {
     /// Looks up which children are open, after lines ran alone in the world.
     pub fn look(&mut self, world: &World)
         ensures children { (k : ℕ) → get_or self.new.children k false ≡ asks_read_or_wait (pending_of world.now k) }
-        ensures standing { self.new.standing ≡ self.old.standing }
+        ensures schedule { self.new.schedule ≡ self.old.schedule }
         ensures held { self.new.held ≡ self.old.held }
     {
         self.intake.children = open_children(world);
@@ -123,7 +123,7 @@ impl<'a> Session<'a> {
 
     /// Nothing comes any longer.
     pub fn is_over(&self, world: &World) -> bool
-        ensures { result ≡ is_none (due_place self.now.standing.round world.now) }
+        ensures { result ≡ is_none (due_place self.now.schedule.round world.now) }
     {
         self.schedule.is_over(world)
     }
@@ -132,7 +132,7 @@ impl<'a> Session<'a> {
     pub fn end(&self, world: &World) -> End
         ensures code { result.code ≡ (codes_at world.now 1).code }
         ensures result2 { result.result2 ≡ (codes_at world.now 1).result2 }
-        ensures events { result.events ≡ self.now.standing.taken }
+        ensures events { result.events ≡ self.now.schedule.taken }
         ensures shells { length world.now.shells ≡ 20 }
     {
         End::of(world, self.schedule.taken())

@@ -44,7 +44,7 @@ enum Due {
 impl Due {
     // What the next event asks for.
     fn next(session: &Session<'_>, world: &World) -> Due
-        requires count { session.now.standing.taken < 2 ^ 64 - 1 }
+        requires count { session.now.schedule.taken < 2 ^ 64 - 1 }
     {
         match session.request(world) {
             Some(Request::Start(job)) => Due::Start(job.shell),
@@ -103,12 +103,12 @@ impl Share {
         session: &mut Session<'_>,
         is_ready: bool,
     ) -> Result<(), Fault>
-        requires count { session.old.standing.taken < 2 ^ 64 - 1 }
+        requires count { session.old.schedule.taken < 2 ^ 64 - 1 }
         requires agrees { Agrees world.old launcher.old.calls }
         requires children { IsOpenTable session.old.children launcher.old.calls }
         ensures agrees { OnOk result (Agrees world.new launcher.new.calls) }
         ensures children { OnOk result (IsOpenTable session.new.children launcher.new.calls) }
-        ensures standing { session.new.standing ≡ session.old.standing }
+        ensures schedule { session.new.schedule ≡ session.old.schedule }
         ensures leads { Reaches world.old world.new }
     {
         self.mirror.watch(world.files());

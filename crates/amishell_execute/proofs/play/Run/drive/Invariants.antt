@@ -7,7 +7,7 @@ abbrev pub invariant-loop : goal.invariant-loop
 invariant-loop g l = record {
   reader : l.self.reader.faults ≡ l.fn.self.reader.faults;
   writer : g.K.Sink.faults l.self.writer ≡ g.K.Sink.faults l.fn.self.writer;
-  count : l.session.standing.taken ≤ l.counter;
+  count : l.session.schedule.taken ≤ l.counter;
   agrees : Agrees l.world l.self.launcher.calls;
   leads : Reaches l.fn.world l.world;
   children : IsOpenTable l.session.children l.self.launcher.calls;
