@@ -65,7 +65,7 @@ impl Account {
     }
 
     /// Notes that the Shell holds an object which is not written.
-    pub fn owe(&mut self, path: &str) -> Result<(), TransferFault>
+    pub fn add_unwritten(&mut self, path: &str) -> Result<(), TransferFault>
         ensures unwritten { OnOk result (option_map string_bytes self.new.unwritten ≡ first_path (option_map string_bytes self.old.unwritten) path.now) }
         ensures rest { self.new ≡ record self.old { unwritten = self.new.unwritten } }
     {
@@ -76,7 +76,7 @@ impl Account {
     }
 
     /// Notes that the Shell holds this entry, which is not written.
-    pub fn owe_entry(&mut self, path: &str, entry: &Entry) -> Result<(), TransferFault>
+    pub fn add_unwritten_entry(&mut self, path: &str, entry: &Entry) -> Result<(), TransferFault>
         ensures unwritten { OnOk result (option_map string_bytes self.new.unwritten ≡ first_path (option_map string_bytes self.old.unwritten) path.now) }
         ensures bytes { OnOk result (self.new.bytes.items ≡ with_bytes_of self.old.bytes.items entry.now.body) }
         ensures rest { self.new ≡ record self.old { unwritten = self.new.unwritten; bytes = self.new.bytes } }
@@ -84,7 +84,7 @@ impl Account {
         if let Body::File(bytes) = &entry.body {
             self.bytes.push(bytes.clone()?)?;
         }
-        self.owe(path)
+        self.add_unwritten(path)
     }
 
     /// These bytes are in a file that is not written.

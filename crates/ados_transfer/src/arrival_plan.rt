@@ -116,7 +116,7 @@ impl<'a> ArrivalPlan<'a> {
     ) -> Result<(), TransferFault> {
         let entry = self.look(seen.key.as_str(), place);
         if place.path(self.alloc)?.as_bytes().len() > PATH_LIMIT {
-            return mirror.tell_once("bad name for the Shell, left alone", seen.path.as_str());
+            return mirror.report_once("bad name for the Shell, left alone", seen.path.as_str());
         }
         let Some(stamp) = here.stamp() else {
             return Ok(());
@@ -210,7 +210,7 @@ impl<'a> ArrivalPlan<'a> {
                 Ok(())
             }
             Err(TransferFault::LongLine(_)) => {
-                mirror.tell_once("bad name for the Shell, left alone", arrival.path.as_str())
+                mirror.report_once("bad name for the Shell, left alone", arrival.path.as_str())
             }
             Err(fault) => Err(fault),
         }

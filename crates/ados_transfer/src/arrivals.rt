@@ -109,15 +109,15 @@ impl Mirror {
     ) -> Result<Vec<Arrival>, TransferFault> {
         self.begin_look();
         if self.is_elsewhere(rt) {
-            self.tell_unread("", "")?;
+            self.report_unread("", "")?;
             return Ok(Vec::new(self.alloc));
         }
         let look = Look::new(rt, self.folder.as_str(), self.options.all, &self.records)?;
         for unread in &look.unread {
-            self.tell_unread(unread.key.as_str(), unread.path.as_str())?;
+            self.report_unread(unread.key.as_str(), unread.path.as_str())?;
         }
         for line in &look.lines {
-            self.tell_line(String::from_str(self.alloc, line.as_str())?)?;
+            self.report_line(String::from_str(self.alloc, line.as_str())?)?;
         }
         let changes = self.changes(&look, files)?;
         if changes.is_empty() {

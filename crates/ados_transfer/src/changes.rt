@@ -40,7 +40,7 @@ impl Mirror {
         let gone = (key, record.path.as_str());
         let arrival = Arrival::new(self.alloc, gone, Coming::Nothing, Stamp::NONE)?;
         if decision == Decision::Conflict {
-            self.tell_standing(key, arrival.path.as_str(), false)?;
+            self.report_kept(key, arrival.path.as_str(), false)?;
             self.overrule(arrival.path.as_str(), entry.is_some() && !is_foreign)?;
         }
         let is_forgotten = match (decision, entry) {
@@ -86,11 +86,11 @@ impl Mirror {
         let place = self.place_of(seen.path.as_str())?;
         let entry = plan.look(key, &place);
         if entry.is_none() && plan.is_full() && self.records.find(key).is_none() {
-            return self.tell_full(seen.path.as_str());
+            return self.report_full(seen.path.as_str());
         }
         let here = Here::look(rt, self.folder.as_str(), seen.path.as_str())?;
         if here.is_unread() {
-            return self.tell_unread(key, seen.path.as_str());
+            return self.report_unread(key, seen.path.as_str());
         }
         let record = match self.records.find(key) {
             Some(record) if !plan.deletes(key) => Some(record),
@@ -104,7 +104,7 @@ impl Mirror {
             Decision::Keep => self.keep_alike(plan, seen, &here, entry),
             Decision::Write => self.keep_marks(plan, seen, &here),
             Decision::Conflict => {
-                self.tell_standing(key, seen.path.as_str(), is_stand_in)?;
+                self.report_kept(key, seen.path.as_str(), is_stand_in)?;
                 self.overrule(seen.path.as_str(), entry.is_some())?;
                 plan.add_object(self, seen, here, &place)
             }

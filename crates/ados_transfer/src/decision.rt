@@ -109,7 +109,7 @@ pub fn decide_removal(
     has_unwritten: bool,
 ) -> Removal
     // Nothing is deleted while anything that the Shell holds is unwritten.
-    ensures owed { result ≡ Removal.Delete → has_unwritten ≡ false }
+    ensures nothing_unwritten { result ≡ Removal.Delete → has_unwritten ≡ false }
     // What is deleted is there, and is what was there at the last time.
     ensures safe { result ≡ Removal.Delete → (is_absent here.now ≡ false) × (is_same here.now last.now ≡ true) }
     // A file that the Shell can't hold is deleted only if the Shell's is gone, and if that is allowed.

@@ -51,7 +51,7 @@ impl Mirror {
                 self.delete_here(rt, departure, &mut account)?;
             }
         }
-        self.tell_account(&account)
+        self.report_account(&account)
     }
 
     // Makes way for what is of another kind now, and writes what needs the place. What is moved aside for it is deleted only if all of
@@ -151,17 +151,17 @@ impl Mirror {
                     is_at_turn: false,
                 })?;
             } else if !entry.is_directory() {
-                account.owe_entry(path.as_str(), entry)?;
+                account.add_unwritten_entry(path.as_str(), entry)?;
             }
         }
         Ok(())
     }
 
     // Reports what is not deleted.
-    pub(crate) fn tell_account(&mut self, account: &Account) -> Result<(), TransferFault> {
+    pub(crate) fn report_account(&mut self, account: &Account) -> Result<(), TransferFault> {
         self.is_holding = account.is_holding();
         match account.line()? {
-            Some(line) => self.tell_line(line),
+            Some(line) => self.report_line(line),
             None => Ok(()),
         }
     }

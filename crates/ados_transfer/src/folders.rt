@@ -147,7 +147,7 @@ impl Look {
             if is_chosen {
                 self.add(rt, folder, named, &mut folders)?;
             } else {
-                self.tell(
+                self.report(
                     alloc,
                     "name is taken twice, left alone",
                     named.path.as_str(),
@@ -198,7 +198,7 @@ impl Look {
                     path,
                 })?,
                 Err(TransferFault::NoMemory) => return Err(TransferFault::NoMemory),
-                Err(_) => self.tell(alloc, "bad name for the Shell, left alone", path.as_str())?,
+                Err(_) => self.report(alloc, "bad name for the Shell, left alone", path.as_str())?,
             }
         }
         below.sort_by(|a, b| order(a, b))?;
@@ -223,7 +223,7 @@ impl Look {
         let kind = kind_of(&found);
         match kind {
             Kind::Directory => folders.push(String::from_str(alloc, named.path.as_str())?)?,
-            Kind::Foreign => self.tell(
+            Kind::Foreign => self.report(
                 alloc,
                 "no file or folder, left alone",
                 named.path.as_str(),
@@ -240,7 +240,7 @@ impl Look {
     }
 
     // Adds a line about an object.
-    fn tell(&mut self, alloc: Global, text: &str, path: &str) -> Result<(), TransferFault> {
+    fn report(&mut self, alloc: Global, text: &str, path: &str) -> Result<(), TransferFault> {
         self.lines.push(format!(in alloc; "{text}: {path}")?)?;
         Ok(())
     }

@@ -158,19 +158,19 @@ impl Mirror {
     }
 
     // Reports a line about an object.
-    pub(crate) fn tell(&mut self, text: &str, path: &str) -> Result<(), TransferFault> {
+    pub(crate) fn report(&mut self, text: &str, path: &str) -> Result<(), TransferFault> {
         self.lines.push(format!(in self.alloc; "{text}: {path}")?)?;
         Ok(())
     }
 
     // Reports a line about an object once in a run.
-    pub(crate) fn tell_once(&mut self, text: &str, path: &str) -> Result<(), TransferFault> {
+    pub(crate) fn report_once(&mut self, text: &str, path: &str) -> Result<(), TransferFault> {
         let line = format!(in self.alloc; "{text}: {path}")?;
-        self.tell_line(line)
+        self.report_line(line)
     }
 
     // Reports a line once in a run.
-    pub(crate) fn tell_line(&mut self, line: String) -> Result<(), TransferFault> {
+    pub(crate) fn report_line(&mut self, line: String) -> Result<(), TransferFault> {
         if self.reported.add(line.as_str())? {
             self.lines.push(line)?;
         }
@@ -178,7 +178,7 @@ impl Mirror {
     }
 
     // Reports that this machine's object stays, once until that is settled.
-    pub(crate) fn tell_standing(
+    pub(crate) fn report_kept(
         &mut self,
         key: &str,
         path: &str,
@@ -188,9 +188,9 @@ impl Mirror {
             return Ok(());
         }
         if is_stand_in {
-            self.tell("kept, since the Shell can't hold it", path)
+            self.report("kept, since the Shell can't hold it", path)
         } else {
-            self.tell("both changed, kept this machine's", path)
+            self.report("both changed, kept this machine's", path)
         }
     }
 
@@ -203,20 +203,20 @@ impl Mirror {
     }
 
     // Reports that a folder stays, since more is in it than the Shell knows, once until that is settled.
-    pub(crate) fn tell_not_empty(&mut self, key: &str, path: &str) -> Result<(), TransferFault> {
+    pub(crate) fn report_not_empty(&mut self, key: &str, path: &str) -> Result<(), TransferFault> {
         if self.standing.add(key)? {
-            self.tell("kept, since it is not empty", path)?;
+            self.report("kept, since it is not empty", path)?;
         }
         Ok(())
     }
 
     // Reports the first object for which the Shell's files have no place.
-    pub(crate) fn tell_full(&mut self, path: &str) -> Result<(), TransferFault> {
+    pub(crate) fn report_full(&mut self, path: &str) -> Result<(), TransferFault> {
         if self.is_full {
             return Ok(());
         }
         self.is_full = true;
-        self.tell("more than 1024 files and folders, left alone from", path)
+        self.report("more than 1024 files and folders, left alone from", path)
     }
 
     // An object could not be written or brought in, and has not been since.
@@ -229,7 +229,7 @@ impl Mirror {
         if !self.failing.add(key)? {
             return Ok(());
         }
-        self.tell(text, path)
+        self.report(text, path)
     }
 
     // Begins a look: nothing is known yet of what cannot be read.
@@ -239,7 +239,7 @@ impl Mirror {
     }
 
     // Reports that an object cannot be read, unless that was so at the look before.
-    pub(crate) fn tell_unread(&mut self, key: &str, path: &str) -> Result<(), TransferFault> {
+    pub(crate) fn report_unread(&mut self, key: &str, path: &str) -> Result<(), TransferFault> {
         if !self.unread.add(key)? || self.unread_before.has(key) {
             return Ok(());
         }
@@ -248,7 +248,7 @@ impl Mirror {
             self.lines.push(line)?;
             return Ok(());
         }
-        self.tell("cannot read", path)
+        self.report("cannot read", path)
     }
 
     // The time; if the clock can't be read, one that is before all others.

@@ -50,7 +50,7 @@ impl Mirror {
                 account.hold(path)
             }
             Removal::Conflict => {
-                owe_at_turn(departure, account)?;
+                add_unwritten_at_turn(departure, account)?;
                 self.not_touched(departure, &here, "cannot delete", is_large)
             }
             Removal::Leave => Ok(()),
@@ -67,7 +67,7 @@ impl Mirror {
     ) -> Result<(), TransferFault> {
         let (key, path) = (departure.key.as_str(), departure.path.as_str());
         if self.options.dry {
-            return self.tell_once("would delete", path);
+            return self.report_once("would delete", path);
         }
         let is_done = if departure.is_at_turn {
             self.set_aside(rt, departure, here, account)
@@ -75,17 +75,17 @@ impl Mirror {
             remove(rt, self.folder.as_str(), path, here)
         };
         if !matches!(is_done, Ok(true)) {
-            owe_at_turn(departure, account)?;
+            add_unwritten_at_turn(departure, account)?;
         }
         match is_done {
             Ok(true) => {
                 self.forget(key);
                 Ok(())
             }
-            Ok(false) => self.tell_standing(key, path, false),
+            Ok(false) => self.report_kept(key, path, false),
             Err(error) if error.kind() == ErrorKind::DirectoryNotEmpty => {
                 self.forget(key);
-                self.tell_not_empty(key, path)
+                self.report_not_empty(key, path)
             }
             Err(error) => self.not_done(&error, "cannot delete", departure),
         }
@@ -98,7 +98,7 @@ impl Mirror {
             return Ok(());
         };
         let mut account = Account::new(self.alloc);
-        account.owe(path.as_str())?;
+        account.add_unwritten(path.as_str())?;
         let mut keys = Vec::new(self.alloc);
         for record in self.records.all() {
             if record.is_gone(files.look(&record.place)) {
@@ -109,7 +109,7 @@ impl Mirror {
         for key in &keys {
             self.forget(key.as_str());
         }
-        self.tell_account(&account)
+        self.report_account(&account)
     }
 
     // Moves an object aside; `false` if something else came to be there since it was looked at.
@@ -194,7 +194,7 @@ impl Mirror {
             _ => match beside {
                 Some(beside) => {
                     let text = format!(in self.alloc; "kept as {beside}")?;
-                    self.tell(text.as_str(), record.path.as_str())
+                    self.report(text.as_str(), record.path.as_str())
                 }
                 None => Ok(()),
             },
@@ -203,9 +203,12 @@ impl Mirror {
 }
 
 // What needs the place of an object that stays cannot be written.
-fn owe_at_turn(departure: &Departure<'_>, account: &mut Account) -> Result<(), TransferFault> {
+fn add_unwritten_at_turn(
+    departure: &Departure<'_>,
+    account: &mut Account,
+) -> Result<(), TransferFault> {
     if departure.is_at_turn {
-        account.owe(departure.path.as_str())
+        account.add_unwritten(departure.path.as_str())
     } else {
         Ok(())
     }

@@ -37,7 +37,7 @@ impl Mirror {
             return Ok(());
         }
         if departure.is_at_turn && self.options.dry {
-            return self.tell_once("would write", path);
+            return self.report_once("would write", path);
         }
         let here = Here::look(rt, self.folder.as_str(), path)?;
         let record = self.records.find(departure.key.as_str());
@@ -49,10 +49,10 @@ impl Mirror {
             },
             Decision::Bring => Ok(()),
             Decision::Conflict => {
-                account.owe_entry(path, entry)?;
+                account.add_unwritten_entry(path, entry)?;
                 self.not_touched(departure, &here, "cannot write", is_large)
             }
-            Decision::Write if self.options.dry => self.tell_once("would write", path),
+            Decision::Write if self.options.dry => self.report_once("would write", path),
             Decision::Write => {
                 let mode = self.mode_of(rt, files, entry, account)?;
                 self.write(rt, departure, &Draft::new(entry, &here, mode), account)
@@ -72,17 +72,17 @@ impl Mirror {
         if is_moved_away(draft, account) {
             // It comes in again.
             self.forget(departure.key.as_str());
-            account.owe_entry(path, draft.entry)?;
+            account.add_unwritten_entry(path, draft.entry)?;
             return account.hold(path);
         }
         match write_entry(rt, self.folder.as_str(), path, draft) {
             Ok(Some(stamp)) => self.keep_written(rt, departure, draft.entry, stamp),
             Ok(None) => {
-                account.owe_entry(path, draft.entry)?;
-                self.tell_standing(departure.key.as_str(), path, false)
+                account.add_unwritten_entry(path, draft.entry)?;
+                self.report_kept(departure.key.as_str(), path, false)
             }
             Err(error) => {
-                account.owe_entry(path, draft.entry)?;
+                account.add_unwritten_entry(path, draft.entry)?;
                 self.not_done(&error, "cannot write", departure)
             }
         }
@@ -144,7 +144,7 @@ impl Mirror {
         if here.is_unread() {
             self.fail(key, text, path)
         } else {
-            self.tell_standing(key, path, is_large)
+            self.report_kept(key, path, is_large)
         }
     }
 

@@ -82,7 +82,7 @@ pub fn bad_host(alloc: Global, words: &str) -> Fault {
 
 /// Writes a line on standard error, in which control characters of names are escaped: a newline would begin another line, and a
 /// terminal obeys others. If even this line cannot be written, the exit status reports it.
-pub fn tell<R: AllocGlobal + Eprint, T: Display>(rt: &R, line: &T) {
+pub fn report<R: AllocGlobal + Eprint, T: Display>(rt: &R, line: &T) {
     let _ = match escaped(rt.alloc(), line) {
         Ok(shown) => rt.eprintln(format_args!("amishell-execute: {shown}")),
         Err(_) => rt.eprintln(format_args!("amishell-execute: out of memory")),

@@ -20,7 +20,7 @@ use ados_ram::Place;
 use ados_text::{Code, Text};
 use ados_transfer::{Lines, Plan, bring, bring_script, take};
 use ados_world::{NewFault, World};
-use faults::{Fault, tell};
+use faults::{Fault, report};
 use hosts::hosts_for;
 use play::{Script, play};
 use request::{Options, Refused};
@@ -39,7 +39,7 @@ fn main(rt: HostRuntime) -> ExitCode {
     match run(&rt) {
         Ok(status) => ExitCode::from(status),
         Err(fault) => {
-            tell(&rt, &fault);
+            report(&rt, &fault);
             ExitCode::from(FAILED)
         }
     }
@@ -164,7 +164,7 @@ fn take_all<R: AllocGlobal + Files + Eprint>(rt: &R, options: &Options<'_>, worl
     let mut is_taken = true;
     for words in &options.take {
         if let Err(fault) = take(rt, world.files(), world.assigns(), words) {
-            tell(rt, &fault);
+            report(rt, &fault);
             is_taken = false;
         }
     }

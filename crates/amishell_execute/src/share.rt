@@ -3,7 +3,7 @@ ghost use Rattle.std.specs.Prelude.{◌≡◌, ◌<◌, ◌^◌, ◌-◌, [], Is
 ghost use Rattle.ados_launch.specs.Agreement.{Agrees, IsOpenTable};
 ghost use Rattle.ados_launch.specs.Leads.{Reaches};
 
-use crate::faults::{Fault, cannot_read, tell};
+use crate::faults::{Fault, cannot_read, report};
 use crate::launcher::{Bringer, Start};
 use ados_launch::{Launcher, Listed, Session, SystemEnd, SystemFault, system};
 use ados_launcher::StartFolder;
@@ -162,7 +162,7 @@ impl Share {
             let arrival = take_in(rt.alloc(), world, launcher, arrival)?;
             self.mirror.settle(arrival, world.files())?;
         }
-        self.tell_lines(rt);
+        self.report_lines(rt);
         Ok(())
     }
 
@@ -173,7 +173,7 @@ impl Share {
         world: &World,
     ) -> Result<(), Fault> {
         self.mirror.write_out(rt, world.files())?;
-        self.tell_lines(rt);
+        self.report_lines(rt);
         Ok(())
     }
 
@@ -194,16 +194,16 @@ impl Share {
                 home: String::from_str(rt.alloc(), self.home.as_str())?,
             })),
             StartPlace::Nowhere => {
-                self.tell_lines(rt);
+                self.report_lines(rt);
                 Ok(Start::Nowhere)
             }
         }
     }
 
     // Writes to standard error the lines that the mirror has to report.
-    fn tell_lines<R: AllocGlobal + Eprint>(&mut self, rt: &R) {
+    fn report_lines<R: AllocGlobal + Eprint>(&mut self, rt: &R) {
         for line in &self.mirror.take_lines() {
-            tell(rt, line);
+            report(rt, line);
         }
     }
 }

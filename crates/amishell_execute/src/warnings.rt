@@ -1,6 +1,6 @@
 //! The lines that report which options of the script the Shell leaves out.
 
-use crate::faults::{Fault, tell};
+use crate::faults::{Fault, report};
 use ados_transfer::options_left_out;
 use std::io::Eprint;
 
@@ -11,7 +11,7 @@ pub fn warn<R: AllocGlobal + Eprint>(rt: &R, script: &str, bytes: &[u8]) -> Resu
     let found = options_left_out(rt.alloc(), bytes)?;
     for one in &found {
         let line = format!(in rt.alloc(); "{script}: {one}")?;
-        tell(rt, &line);
+        report(rt, &line);
     }
     Ok(!found.is_empty())
 }
