@@ -63,9 +63,7 @@ fn bringing_lines(alloc: Global, planned: &[Planned]) -> Result<Lines, TransferF
 
 // How many answers of the launcher a file with these bytes takes.
 fn pieces(bytes: &[u8]) -> u64 {
-    (bytes.len() as u64)
-        .div_ceil(PIECE_BYTES as u64)
-        .saturating_add(3)
+    (bytes.len().div_ceil(PIECE_BYTES) as u64).saturating_add(3)
 }
 
 impl Lines {
