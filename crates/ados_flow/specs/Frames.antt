@@ -90,7 +90,7 @@ abbrev pub current_line : List FrameState → ℕ
 current_line [] = 0
 current_line (frame ∷ frames) = frame.line
 
--- the line of a frame's last record, and what it answered: 0, and success, if it has none
+-- the line of a frame's last record, and what it returned: 0, and success, if it has none
 abbrev pub last_line : Option Record → ℕ
 last_line None = 0
 last_line (Some entry) = entry.line

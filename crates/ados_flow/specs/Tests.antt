@@ -104,6 +104,6 @@ holds shared view args Greater = order_result is_greater (argument_order args 6)
 holds shared view args GreaterOrEqual = order_result is_not_less (argument_order args 7)
 holds shared view args Exists = Ok (exists shared view (option_text args 9))
 
--- the one test that is asked for holds, or what If answers if that can't be decided
+-- the one test that is asked for holds, or what If returns if that can't be decided
 abbrev pub if_test : SharedState → View → List Arg → Result Bool Codes
 if_test shared view args = if_found Err (test_of args) (holds shared view args)

@@ -8,11 +8,11 @@ use std::alloc::Global;
 /// What a command does to its shell.
 #[derive(Drop)]
 pub enum Action {
-    /// It answers.
+    /// It returns.
     Does(Outcome),
-    /// It ends its script with these codes, or answers them if it is in none.
+    /// It ends its script with these codes, or returns them if it is in none.
     Quits(Codes),
-    /// It answers these codes, and its script continues at this line, counted from 1.
+    /// It returns these codes, and its script continues at this line, counted from 1.
     Jumps { line: usize, codes: Codes },
     /// It calls a script.
     Calls(Called),
@@ -25,7 +25,7 @@ impl Action {
     ghost use Rattle.ados_find.specs.Shared.{SharedState};
     ghost use Rattle.ados_flow.specs.Actions.{Does, action_effect};
 
-    /// It answers this, changes nothing and prints nothing.
+    /// It returns this, changes nothing and prints nothing.
     pub fn answering(alloc: Global, codes: Codes) -> Action
         ensures { (shared : SharedState) → action_effect shared result ≡ Does (codes_effect shared codes) }
     {

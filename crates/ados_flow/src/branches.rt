@@ -102,7 +102,7 @@ fn jumped(jump: Jump) -> Action
     }
 }
 
-// What a branch answers outside a script.
+// What a branch returns outside a script.
 fn wrong_type(alloc: Global) -> Action
     ensures { (shared : SharedState) → action_effect shared result ≡ Does (codes_effect shared (fail_codes WRONG_TYPE)) }
 {

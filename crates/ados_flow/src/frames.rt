@@ -147,7 +147,7 @@ impl Frame {
         }
     }
 
-    /// A command of it answered, with this limit after it.
+    /// A command of it returned, with this limit after it.
     pub fn answer(&mut self, answered: Codes, limit: Code)
         ensures { (below : List FrameState) → self.new ≡ answered_frame self.old below answered limit }
     {
@@ -165,7 +165,7 @@ impl Frame {
         self.fixed.script.lines().len() <= self.position
     }
 
-    /// The code rule: after a command that answered this, with this limit after it, the frame ends if no line is
+    /// The code rule: after a command that returned this, with this limit after it, the frame ends if no line is
     /// left, and a script also if the command quits or its code reaches the limit.
     pub fn is_ended(&self, quits: bool, answered: Codes, limit: Code) -> bool
         ensures { result ≡ is_ended quits answered limit self.now }
@@ -211,7 +211,7 @@ impl Frame {
         }
     }
 
-    /// What its last command answered; success if none has.
+    /// What its last command returned; success if none has.
     pub fn last_codes(&self) -> Codes
         ensures { result ≡ last_codes self.now.last }
     {

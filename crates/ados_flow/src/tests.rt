@@ -193,7 +193,7 @@ fn place_exists(
     }
 }
 
-// If answers 20 with a fault of its arguments.
+// If returns 20 for a fault of its arguments.
 fn refused<X>(fault: Result2) -> Result<X, Refusal>
     ensures { Gives result (Err (fail_codes fault)) }
 {

@@ -1,4 +1,4 @@
--- Drives: the state of a world after a drive, by its result.
+-- Drives: what a call of `Drive::run` leaves of world, reader, writer and launcher, by its result. A `Moment` is these four at one time.
 use Rattle.std.specs.Prelude.{◌≡◌, ◌⊎◌, ℕ, ◌+◌, ◌<◌, ◌≤◌, List, [], ◌++◌, length, take, true, Some, Result, Ok, Err}
 use Rattle.std.specs.Io.KnownBytes.{Appends}
 use Rattle.ados_machine.specs.declared.events.BreakAt.{BreakAt}
@@ -24,7 +24,7 @@ ReadsWell before now = now.read_faults ≡ before.read_faults
 abbrev pub WritesWell : Moment → Moment → Type 0
 WritesWell before now = (now.write_faults ≡ before.write_faults) × (now.stalls ≡ before.stalls)
 
--- The end of a run.
+-- The run came to its end: no shell is left.
 pub record ComesToEnd (turns : ℕ) (breaks : List BreakAt) (before now : Moment) (end : End) : Type 0 where
   -- as many were taken as the result says, all of their bytes were written, and nothing else was asked of the launcher
   pub stands : SessionProgress before now breaks end.events []
@@ -37,7 +37,7 @@ pub record ComesToEnd (turns : ℕ) (breaks : List BreakAt) (before now : Moment
   -- the reader reached its end, unless shell 1 or its input had ended before
   pub reader_ended : IfKnown before.left (λ bytes. takes_input before.world ≡ true → now.left ≡ Some [])
 
--- As many as allowed were taken, all of their bytes were written, and something is due.
+-- As many events and long lines as allowed were taken, all of their bytes were written, and something is due.
 pub record StopsAtTurns (turns : ℕ) (breaks : List BreakAt) (before now : Moment) : Type 0 where
   pub stands : SessionProgress before now breaks turns []
   pub running : IsRunning now.world
@@ -93,8 +93,8 @@ HasDriveResult turns breaks before now (Err Read) = StopsAtRead turns breaks bef
 HasDriveResult turns breaks before now (Err Write) = StopsAtWrite turns breaks before now
 
 -- What was taken, however it ended, is a session: a run of the machine, which accepted each event, in the order of the schedule.
--- The launcher listed what was asked for it, and after that at most one call, for the answer that comes next and was not
--- taken. A prefix of its bytes was written.
+-- The launcher's list has the calls for what was taken, and after these at most one, for the reply that comes next and was not
+-- taken. A prefix of what was printed was written.
 pub record TakesSession (turns : ℕ) (breaks : List BreakAt) (before now : Moment) : Type 0 where
   pub taken : List TakenItem
   pub listed : List Call
@@ -114,7 +114,7 @@ pub record Drives (turns : ℕ) (breaks : List BreakAt) (before now : Moment) (r
   pub takes : TakesSession turns breaks before (record now { calls = called })
   -- What the result says is true of the session.
   pub comes_to : HasDriveResult turns breaks before (record now { calls = called }) result
-  -- Then each open child was waited for once, in ascending order of number, and nothing else was asked.
+  -- Then each open child process was waited for once, in ascending order of its shell's number, and nothing else was called.
   pub waits : WaitsForOpen called now.calls
-  -- At every end no child is open, and each was waited for once: the calls for each number are a row of whole lives.
+  -- At every end no child process is open, and each was waited for once: the calls for each number are a sequence of complete lifecycles.
   pub over : AreOver now.calls

@@ -58,7 +58,7 @@ in_next_round w = find (is_due w no_answers) (range_with_len 0 61)
 abbrev pub due_place : Round → WorldState → Option ℕ
 due_place round w = option_or (in_this_round round w) (in_next_round w)
 
--- which shells had an answer in the round of the next event
+-- which shells had an answer in the round of the next event: none, if that begins a new round
 abbrev pub answered_or_none : Option ℕ → List Bool → List Bool
 answered_or_none None answered = no_answers
 answered_or_none (Some place) answered = answered
@@ -71,7 +71,7 @@ abbrev pub following_place : ℕ → ℕ
 following_place zero = 0
 following_place (suc k) = suc k + 1
 
--- the shell to which this place belongs has had an answer
+-- the same, with the shell of this place, if a reply comes at it
 abbrev pub marked_answers : ℕ → List Bool → List Bool
 marked_answers place answered =
     if nat_lt place 21 then answered else

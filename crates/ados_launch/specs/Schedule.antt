@@ -51,7 +51,7 @@ place_of (AtFurther shell) = shell + 40
 abbrev pub is_passed : ℕ → WorldState → BreakAt → Bool
 is_passed number w at = nat_le at.event number && not (is_some (numbered_shell w at.shell))
 
--- the breaks that are left before the next event
+-- the breaks that are left before the next event, without those that are passed over
 abbrev pub breaks_left : ScheduleState → WorldState → List BreakAt
 breaks_left s w = drop (prefix_len (is_passed (s.taken + 1) w) s.breaks) s.breaks
 
@@ -116,7 +116,7 @@ abbrev pub next_of : TakenItem → Next
 next_of (Given event out) = next_of_event event
 next_of LongLine = AtLine
 
--- from here on, in this world, each was the next to come
+-- from this state of the schedule and this world on, each of them was the next to come
 abbrev pub InOrder : ScheduleState → WorldState → List TakenItem → Type 0
 InOrder s w [] = Unit {0}
 InOrder s w (item ∷ taken) = (scheduled_next s w ≡ Some (next_of item)) × InOrder (following_schedule_state s w (next_of item)) (world_after_item w item) taken

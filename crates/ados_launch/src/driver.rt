@@ -47,7 +47,7 @@ impl End {
     }
 }
 
-/// How far a world is driven, and the breaks that are given meanwhile.
+/// How far a world is driven, and the breaks that come meanwhile.
 #[derive(Clone, Copy)]
 pub struct Drive<'a> {
     /// Where the memory for lines and outputs comes from.
@@ -62,32 +62,34 @@ impl Drive<'_> {
     /// Gives a reader's lines, the shells' turns, a launcher's answers and the breaks to a world, and writes what the world
     /// prints.
     ///
-    /// A round: while the world wants a line one is read, up to byte 10 or the end, and typed, with `?`
+    /// A round: while the world wants a line one is read, up to a newline or the end, and typed, with `?`
     /// in place of each byte above ASCII; at the reader's end the input ends. Then each shell from 1 to
-    /// 20 takes a turn if it is ready when its place comes. Then each start that a shell asks for is
-    /// answered, in ascending order of number, and then each read and each wait of a shell that had no answer in this
-    /// round. What an event prints is written before the next event. Instead of a line of 513 to 65,536
-    /// bytes, which is not an event but counts as one, `Line too long` and a newline are written. The run
+    /// 20 takes a turn if it is ready when its place comes. Then the launcher is called for each start that a shell requests,
+    /// in ascending order of the shells' numbers, and then for each read and each wait that is requested by a shell to which it
+    /// has not replied in this round; each reply is an event. What an event prints is written before the next event. Instead of a
+    /// line of 513 to 65,536 bytes, which is not an event but counts as one, `Line too long` and a newline are written. The run
     /// ends if no shell is left.
     ///
-    /// Before each event or long line, and before its line is read or the launcher called for it, breaks are given: for as
-    /// long as the first that is left names the number of the next event, counted from 1, or an earlier one. A break is an event
-    /// too, and counts as one; one of a shell that does not run is passed over and does not count. The list is taken in its own
-    /// order; what is left of it at the end is not given.
+    /// Before each event or long line, and before its line is read or the launcher is called for it, breaks come: as long as
+    /// the number of the first break that is left in the list is that of the next event (counted from 1), or a smaller one, this
+    /// break is the next event, and counts as one. A break of a shell that does not run is skipped, and does not count. The order
+    /// is that of the list; breaks that are left at the end do not come.
     ///
     /// At most `turns` events and long lines are taken, and for another one no line is read and the
     /// launcher is not called. At a fault the world has taken the events that it accepted, and what they print is written,
-    /// except for what a `Write` fault kept back; a line that was read and not accepted is lost, and so is an answer. Then each
-    /// child that is open is waited for once, in ascending order of number. `Read`: the reader failed, or a line has more than
+    /// except for what a `Write` fault kept back; a line that was read and not accepted is lost, and so is a reply. Then each
+    /// child process that is open is waited for once, in ascending order of its shell's number.
+    ///
+    /// `Read`: the reader failed, or a line has more than
     /// 65,536 bytes. `Write`: the writer failed, or wrote nothing. `Turns`: another event was due. `Memory`: there was no
     /// memory for the next line or event; no byte past that line is taken. A read or write that is interrupted has failed, and
     /// is not tried again.
     ///
-    /// Before the call the reader's faults and the writer's are below 2^64 - 1, and the launcher's list agrees with the world as
-    /// for [`system`](crate::system); a new world and a new launcher do. After a fault the pair is not driven again: the world
-    /// still asks for children that are gone. Bytes are read ahead of the
-    /// lines, as many as come with a read: those read and not taken are lost at the return, even to a second call with the
-    /// same reader.
+    /// Before the call the reader's faults and the writer's are below 2^64 - 1, and the launcher's list of calls agrees with the
+    /// world as for [`system`](crate::system); those of a new world and a new launcher do. After a fault this world and this
+    /// launcher must not be driven again: the world still requests reads and waits of child processes that are gone. Bytes are
+    /// read ahead of the lines, as many as come with a read: those read and not taken are lost at the return, even to a second
+    /// call with the same reader.
     pub fn run<L: Launcher, S: Source, K: Sink>(
         &self,
         world: &mut World,

@@ -31,7 +31,7 @@ use Rattle.ados_machine.specs.World.{seen_shells}
 use Rattle.ados_machine.specs.Step.{after_event}
 
 -- what lines pass on: the shells (at the shell's own number it only matters that there is one), what all share, what the shell
--- itself has: its parts, what its command substitutions put out, and what is printed; its scripts that ended, the newest first;
+-- itself has: its parts, the output of its command substitutions, and what is printed; its scripts that ended, the newest first;
 -- and whether it is flagged
 pub record Common : Type 0 where
   pub shells : List (Option ShellState)
@@ -42,7 +42,7 @@ pub record Common : Type 0 where
 
 -- where lines are. What their caller passes to them: where output goes, whether they are a script's, how many scripts run at or
 -- below them, their depth, the lines, the files kept open by them and their callers, and the shell's name in Status. And how far
--- they got: the place of the next line, the line at which the last command began, and the record of the last that answered
+-- they got: the place of the next line, the line at which the last command began, and the record of the last that returned
 pub record At : Type 0 where
   pub shell : ℕ
   pub sink : Sink
@@ -56,7 +56,7 @@ pub record At : Type 0 where
   pub line : ℕ
   pub last : Option Record
 
--- what lines mean: they come to their end, with n events and these answers left, with what their last command answered,
+-- what lines mean: they come to their end, with n events and these answers left, with what their last command returned,
 -- and pass this on; or they end at a break, which ends the lines that called them too, up to the outermost script's; or one
 -- more event is needed; or an answer is missing
 pub data Whole : Type 0 where
@@ -145,7 +145,7 @@ common_after_event common course =
       flagged = course.flagged;
     })
 
--- a command answered: the shell has its codes, and if its code reaches the limit it is printed that it failed
+-- a command returned: the shell has its codes, and if its code reaches the limit it is printed that it failed
 abbrev pub says : Text → Codes → Common → Common
 says word answer common = record common { said = with_answer word answer common.said }
 
@@ -153,7 +153,7 @@ says word answer common = record common { said = with_answer word answer common.
 abbrev pub record_at : At → Codes → Common → Record
 record_at at answer common = record { line = at.line; codes = answer; limit = common.said.parts.limit }
 
--- a command of these lines answered: a script ends here at its limit, or if it quits; other lines continue
+-- a command of these lines returned: a script ends here at its limit, or if it quits; other lines continue
 abbrev pub after_answer : Meaning → ℕ → List Reply → Common → At → Text → Codes → Bool → Whole
 after_answer go n answers common at word answer quits =
     if at.in_script && (quits || is_reached common.said.parts.limit answer.code) then Done n answers (Some (record_at at answer common)) (says word answer common)
@@ -217,14 +217,14 @@ abbrev pub with_report : EndReport → Common → Common
 with_report report common = record common { reports = report ∷ common.reports }
 
 -- after a script that ended at a break, with this many scripts at or below these lines: after the outermost one the command
--- that called it answers with 10 and 304, and otherwise these lines end too, at the same break
+-- that called it returns 10 and 304, and otherwise these lines end too, at the same break
 abbrev pub after_broken : Meaning → ℕ → List Reply → Common → At → Code → Text → ℕ → Whole
 after_broken go n answers common at limit word zero =
     after_answer go n answers (record common { said = with_limit (limit_above_scripts at.scripts limit) common.said }) at word broken_codes false
 after_broken go n answers common at limit word (suc scripts) = Broken n answers at.last common
 
 -- after a script: it is reported, the limit of its beginning is restored, or 10 if no script is left; its last codes are
--- the answer of the command that called it
+-- the return of the command that called it
 abbrev pub after_call : Meaning → At → Code → Text → Text → Whole → Whole
 after_call go at limit name word (Done n answers last common) =
     after_answer go n answers (record (with_report (report_of at.shell name last) common) { said = with_limit (limit_above_scripts at.scripts limit) common.said })
@@ -234,7 +234,7 @@ after_call go at limit name word (Broken n answers last common) =
 after_call go at limit name word (Late answers) = Late answers
 after_call go at limit name word Short = Short
 
--- a command substitution begins to keep what is put out, and gives it to the line that continues after it
+-- a command substitution begins to keep output, and gives it to the line that continues after it
 abbrev pub common_with_tick : Common → Common
 common_with_tick common = record common { said = with_tick common.said }
 

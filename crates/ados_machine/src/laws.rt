@@ -36,7 +36,7 @@ ghost use Rattle.std.specs.Prelude.{List};
 
 /// In every run of a world that is sane (no script runs on after a failure), as a fresh one is and events keep it: in
 /// every shell each script ends early exactly at its first command whose code reaches the limit after it, and reports
-/// the line and the code of its last command; the command that called it answers with that one's codes, at the limit
+/// the line and the code of its last command; the command that called it returns that one's codes, at the limit
 /// that the end restores.
 pub fn scripts_end_where_the_rule_says()
     ensures { ScriptsEndWhereTheRuleSays }

@@ -1,7 +1,7 @@
 #![tactic(auto)]
 //! The words of the machine: what happens to it, what it answers, and why it refuses.
 //!
-//! Its definitions are in `specs/`: what a line asks for, what a command answers, how frames end,
+//! Its definitions are in `specs/`: what a line asks for, what a command returns, how frames end,
 //! what an event does to a world, and what a run of events is. The crates above hold the bodies
 //! that meet them.
 

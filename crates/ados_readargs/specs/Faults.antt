@@ -1,4 +1,4 @@
--- The faults of templates and of lines that do not fill them, and the numbers by which commands answer.
+-- The faults of templates and of lines that do not fill them, and the numbers that commands return for them.
 use Rattle.std.specs.Prelude.{◌≡◌, Option, None, Result, Ok, Err}
 use Rattle.ados_text.specs.declared.codes.Result2.{Result2}
 use Rattle.ados_text.specs.declared.errors.NoMemory.{NoMemory}
@@ -25,7 +25,7 @@ IsBadTemplate defined fault.TooMany = ⊥
 IsBadTemplate defined fault.Unmatched = ⊥
 IsBadTemplate defined fault.NoMemory = Unit {0}
 
--- the number by which a command answers the fault; running out of memory has none
+-- the number that a command returns for the fault; running out of memory has none
 abbrev pub result2_of : ArgFault → Result Result2 NoMemory
 result2_of fault.BadTemplate = Ok (record { 0 = 114 })
 result2_of fault.BadNumber = Ok (record { 0 = 115 })

@@ -34,9 +34,9 @@ pub enum ArgFault {
 }
 
 impl ArgFault {
-    /// The number by which a command answers the fault.
+    /// The number that a command returns for the fault.
     ///
-    /// Running out of memory is not an answer of a command: it is returned as `NoMemory`.
+    /// Running out of memory is not a fault of a command: it is passed on as `NoMemory`.
     pub fn result2(self) -> Result<Result2, NoMemory>
         ensures { result ≡ result2_of self }
     {

@@ -38,7 +38,7 @@ use Rattle.ados_shell.specs.Stacks.{drafted_frames}
 abbrev pub drafted_phase : ShellDraft → Phase
 drafted_phase draft = phase_of (option_map (λ p. p.value) draft.phase)
 
--- what the ticks put out, if that changed
+-- the output of the ticks, if that changed
 abbrev pub drafted_outputs : ShellDraft → Option (List Bytes)
 drafted_outputs draft = option_map (λ k. reverse k.items) draft.kept
 
@@ -142,7 +142,7 @@ held_course scene held limit codes printed = record {
   flagged = held.flagged;
 }
 
--- what a turn that sees this hands on
+-- what a turn in this scene has changed so far, as the machine's course
 abbrev pub course_of : Scene → Draft → Course
 course_of scene draft = held_course scene (held_state draft) draft.shell.limit draft.shell.codes draft.printed.items
 
@@ -203,7 +203,7 @@ pub record IsReported (scene : Scene) (before after : Draft) (name : Text) (fram
   pub printed : after.printed.items ≡ before.printed.items
   pub reports : after.reports.items ≡ before.reports.items ++ report_of scene.number name frame ∷ []
 
--- the end of a tick left its line to go on, with what it put out
+-- the end of a tick left its line to go on, with its output
 pub record IsTicked (scene : Scene) (mid after : Draft) (front after_it : Text) : Type 0 where
   pub frames : after.shell.frames ≡ mid.shell.frames
   pub phase : drafted_phase after.shell ≡ GoingOn (record { before = front; output = newest_kept (course_of scene mid).kept; after = after_it })

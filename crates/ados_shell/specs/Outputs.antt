@@ -58,7 +58,7 @@ HasOpened scene before after output (Err (Refused fault)) (Err other) = (fault �
 HasOpened scene before after output (Err NoMemory) opened = Unit {0}
 HasOpened scene before after output _ _ = ⊥
 
--- a turn after output was put, and what the command answers then
+-- a turn after output was put, and what the command returns then
 pub record IsPut (scene : Scene) (before after : Draft) (codes : Codes) (done : course.Put) : Type 0 where
   pub frames : after.shell.frames ≡ before.shell.frames
   pub codes_are : codes ≡ done.codes

@@ -30,7 +30,7 @@ impl Draft {
     /// to be changed. Nothing else is changed, and what the draft held before is forgotten.
     ///
     /// A program that has started has its output opened, and is read until that ends; then its end is waited for, and its
-    /// command answers. A piece of no bytes, or of more than 4,096, is never waited for.
+    /// command returns. A piece of no bytes, or of more than 4,096, is never waited for.
     ///
     /// `NoMemory` if there is none for what the answer makes, and only if the shell waits for it.
     pub fn take_answer_of(&mut self, scene: &Scene, answer: &Answer) -> Result<Answering, NoMemory>
@@ -161,7 +161,7 @@ impl Draft {
         Ok(Answering::Goes)
     }
 
-    /// A piece of the program's output is put out as it comes, and the shell waits for the next, or for the program's end if
+    /// A piece of the program's output is written as it comes, and the shell waits for the next, or for the program's end if
     /// that was broken; after a fault the piece is dropped.
     fn take_piece(&mut self, scene: &Scene, child: &Child, bytes: &Octets) -> Result<(), NoMemory>
         ensures { OnOk result (Settles scene.now self.old self.new
@@ -173,7 +173,7 @@ impl Draft {
         }
     }
 
-    /// A piece of the program's output is put out, and the shell waits for what comes next. If it does not fit, that is the
+    /// A piece of the program's output is written, and the shell waits for what comes next. If it does not fit, that is the
     /// program's first fault, unless it was broken before; its output stays open.
     fn put_piece(&mut self, scene: &Scene, child: &Child, bytes: &Octets) -> Result<(), NoMemory>
         ensures { OnOk result (Settles scene.now self.old self.new
@@ -186,7 +186,7 @@ impl Draft {
         self.wait(scene, child.next())
     }
 
-    /// An answer for a shell that waits for the end of a program, whose command answers then.
+    /// An answer for a shell that waits for the end of a program, whose command then returns.
     fn reply_to_wait(
         &mut self,
         scene: &Scene,
@@ -219,7 +219,7 @@ impl Draft {
         Ok(Answering::Goes)
     }
 
-    /// The program has ended: the first fault that came is its command's; without one the command answers with these codes.
+    /// The program has ended: the first fault that came is its command's; without one the command returns these codes.
     fn end_program(&mut self, scene: &Scene, child: &Child, codes: Codes) -> Result<(), NoMemory>
         ensures { OnOk result (Settles scene.now self.old self.new (ended_completion child.now codes (course_of scene.now self.old) child.now.fault)) }
     {
@@ -230,7 +230,7 @@ impl Draft {
     }
 }
 
-/// The fault of what was put out, if there was one.
+/// The fault of the output that was written, if there was one.
 fn output_fault(codes: Codes) -> Option<Result2>
     ensures { result ≡ output_fault codes }
 {
@@ -249,7 +249,7 @@ fn is_piece(bytes: &Octets) -> bool
     !bytes.is_empty() && bytes.len() <= PIECE_BYTES
 }
 
-/// What the command of a program that ended with a status answers.
+/// What the command of a program that ended with a status returns.
 fn codes_of(status: u8) -> Codes
     ensures { result ≡ record { code = code_of status; result2 = NONE } }
 {

@@ -17,7 +17,7 @@ use ados_text::{NoMemory, Result2, Text};
 impl Draft {
     ghost use Rattle.ados_shell.specs.Drafts.{IsReported, IsRuled, Settles, course_of, frames_of, next_line_place};
 
-    /// No command was there to answer: the newest frame ends if no line is left.
+    /// No command was there to return: the newest frame ends if no line is left.
     pub(crate) fn pass(&mut self, scene: &Scene) -> Result<(), NoMemory>
         ensures { OnOk result (Settles scene.now self.old self.new (Passes (course_of scene.now self.old))) }
     {
@@ -38,7 +38,7 @@ impl Draft {
         }
     }
 
-    /// A command answered: the text of its fault is printed, and the code rule follows.
+    /// A command returned: the text of its fault is printed, and the code rule follows.
     pub(crate) fn answer(
         &mut self,
         scene: &Scene,
@@ -64,7 +64,7 @@ impl Draft {
         self.answer(scene, word.as_bytes(), Codes::failed(fault), false)
     }
 
-    /// A command answered, and the newest frame goes on at a line.
+    /// A command returned, and the newest frame goes on at a line.
     #[inline(never)]
     pub(crate) fn jump(
         &mut self,
@@ -79,7 +79,7 @@ impl Draft {
         self.answer(scene, word.as_bytes(), codes, false)
     }
 
-    /// A command answered that took this many more lines of the newest frame, or all that are left.
+    /// A command returned that took this many more lines of the newest frame, or all that are left.
     #[inline(never)]
     pub(crate) fn skip(
         &mut self,
@@ -134,7 +134,7 @@ impl Draft {
     }
 
     /// The code rule: the newest frame ends if it quits, at the limit, or if no line is left,
-    /// and its end is the answer of the command that made it, and so on down.
+    /// and its end is the return of the command that made it, and so on down.
     pub(crate) fn finish(
         &mut self,
         scene: &Scene,

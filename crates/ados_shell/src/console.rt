@@ -6,7 +6,7 @@ ghost use Rattle.ados_machine.specs.CodeRule.{fault_line, failure, failed_line};
 use ados_flow::is_reached;
 use ados_text::{Code, NoMemory, Octets, Result2, fault_text, push_number};
 
-/// Prints what a command puts out. If nothing was printed before, the output is moved, not copied.
+/// Prints a command's output. If nothing was printed before, the output is moved, not copied.
 pub fn push_output(out: &mut Vec<u8>, output: Octets) -> Result<(), NoMemory>
     ensures { OnOk result (out.new.items ≡ out.old.items ++ output) }
 {

@@ -52,13 +52,13 @@ pub struct ShellDraft {
     pub phase: Option<Box<Phase>>,
     /// The fail limit.
     pub limit: Code,
-    /// What the last command answered.
+    /// What the last command returned.
     pub codes: Codes,
     /// The current directory, if it is a new one.
     pub directory: Option<Place>,
     /// What the command set in the shell, if it set something.
     pub setting: Option<Setting>,
-    /// What its ticks put out so far, if that changed; that of the newest is the last.
+    /// The output of its ticks so far, if that changed; that of the newest is the last.
     pub kept: Option<Vec<Octets>>,
     /// Its scripts end at its next turn.
     pub flagged: bool,

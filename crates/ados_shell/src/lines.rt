@@ -104,7 +104,7 @@ impl Draft {
         self.run_line(scene, found, line)
     }
 
-    /// Runs a line for whose command this was found, and lays on the frames how it ends.
+    /// Runs a line for whose command this was found, and applies its completion to the frames.
     fn run_line(&mut self, scene: &Scene, found: Found, line: &Line) -> Result<(), NoMemory>
         requires { IsUnset self.old }
         ensures { OnOk result (Settles scene.now self.old self.new

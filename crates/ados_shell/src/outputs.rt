@@ -126,7 +126,7 @@ impl Draft {
     }
 
     /// Puts a command's output where it goes: to its own target, if it has one, otherwise where that of the newest
-    /// frame goes; gives what the command answers then.
+    /// frame goes; gives what the command returns then.
     pub(crate) fn put(
         &mut self,
         scene: &Scene,

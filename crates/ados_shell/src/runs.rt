@@ -167,7 +167,7 @@ impl Draft {
         self.answer_begun(scene, word, commands.copy()?, output.as_ref())
     }
 
-    /// Makes a shell for these commands, whose output leads there, and the Run with this word answers.
+    /// Makes a shell for these commands, whose output leads there, and the Run with this word returns.
     fn answer_begun(
         &mut self,
         scene: &Scene,
@@ -183,8 +183,8 @@ impl Draft {
         self.answer(scene, word.as_bytes(), codes, false)
     }
 
-    /// Makes a shell with the lowest free number for these commands, whose output leads there, and puts out its number;
-    /// gives what Run answers then. If no number is free nothing is changed.
+    /// Makes a shell with the lowest free number for these commands, whose output leads there, and writes its number there;
+    /// gives what Run returns then. If no number is free nothing is changed.
     fn make_shell(
         &mut self,
         scene: &Scene,

@@ -28,7 +28,7 @@ pub struct Shell {
     pub(crate) limit: Code,
     pub(crate) codes: Codes,
     pub(crate) settings: Settings,
-    // What its ticks put out so far; that of the newest is the last.
+    // The output of its ticks so far; that of the newest is the last.
     pub(crate) kept: Vec<Octets>,
     // Its scripts end at its next turn.
     pub(crate) flagged: bool,
@@ -79,7 +79,7 @@ impl Shell {
     ghost use Rattle.ados_machine.specs.World.{can_take, has_frame, has_input, takes_input};
     ghost use Rattle.ados_shell.specs.Asking.{asks_for_line};
 
-    /// The shell with this number in which nothing has answered yet, in the root.
+    /// The shell with this number in which no command has returned yet, in the root.
     pub fn new(alloc: Global, number: u8) -> Result<Shell, NoMemory>
         ensures { IfOk result (λ shell. shell ≡ fresh_shell number) }
     {
@@ -97,7 +97,7 @@ impl Shell {
         })
     }
 
-    /// The shell with this number that a Run makes, in which nothing has answered yet; its commands are its one frame.
+    /// The shell with this number that a Run makes, in which no command has returned yet; its commands are its one frame.
     pub fn begun(alloc: Global, number: u8, begun: Begun) -> Result<Shell, NoMemory>
         ensures { IfOk result (λ shell. shell ≡ begun_shell number begun) }
     {
@@ -121,7 +121,7 @@ impl Shell {
         })
     }
 
-    /// What the last command answered.
+    /// What the last command returned.
     pub fn codes(&self) -> Codes
         ensures { result ≡ self.now.parts.codes }
     {
@@ -149,7 +149,7 @@ impl Shell {
         &self.directory
     }
 
-    /// What its ticks put out so far; that of the newest is the last.
+    /// The output of its ticks so far; that of the newest is the last.
     pub(crate) fn kept(&self) -> &[Octets]
         ensures { reverse result.now ≡ self.now.kept }
     {

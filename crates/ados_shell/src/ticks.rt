@@ -58,7 +58,7 @@ impl Draft {
         self.shell.frames.push(frame)
     }
 
-    /// The newest tick has ended and was popped: its line goes on with what the tick put out, between these texts.
+    /// The newest tick has ended and was popped: its line goes on with the tick's output between these texts.
     pub(crate) fn end_tick(
         &mut self,
         scene: &Scene,
@@ -82,7 +82,7 @@ impl Draft {
         Ok(())
     }
 
-    /// The newest tick keeps what a command puts out.
+    /// The newest tick keeps the output of a command.
     pub(crate) fn keep(
         &mut self,
         scene: &Scene,
@@ -114,7 +114,7 @@ impl Draft {
 impl ShellDraft {
     ghost use Rattle.ados_shell.specs.Drafts.{drafted_shell};
 
-    /// A copy of what the ticks put out so far; that of the newest is the last.
+    /// A copy of the output of the ticks so far; that of the newest is the last.
     pub(crate) fn kept_copy(&self, scene: &Scene) -> Result<Vec<Octets>, NoMemory>
         ensures { IfOk result (λ kept. reverse kept.items ≡ (drafted_shell self.now scene.now.shell.now).kept) }
     {

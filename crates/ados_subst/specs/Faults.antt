@@ -18,7 +18,7 @@ args_fault arg.TooMany = fault.Args arg.TooMany
 args_fault arg.Unmatched = fault.Args arg.Unmatched
 args_fault arg.NoMemory = fault.NoMemory
 
--- the number by which a command answers the fault; running out of memory has none
+-- the number that a command returns for the fault; running out of memory has none
 abbrev pub result2_of : SubstFault → Result Result2 NoMemory
 result2_of (fault.Args of_args) = result2_of_args of_args
 result2_of (fault.BadDirective line) = Ok (record { 0 = 114 })

@@ -6,7 +6,7 @@ use ados_text::NoMemory;
 use ados_world::{Kind, World};
 use std::alloc::Global;
 
-// How a fresh world ends that is driven by one line with these breaks. `NoMemory` for the world is handed on.
+// How a fresh world ends that is driven by one line with these breaks. `NoMemory` for the world is passed on.
 #[tactic(auto, using(ados_launch::proofs::NewPair::new_pair))]
 fn drive(
     alloc: Global,
@@ -28,7 +28,7 @@ fn drive(
     Ok(drive.run(&mut world, &mut launcher, &mut reader, &mut writer))
 }
 
-// How many events were taken, and how many bytes were written. `NoMemory` is handed on.
+// How many events were taken, and how many bytes were written. `NoMemory` is passed on.
 fn driven(
     alloc: Global,
     breaks: &[BreakAt],

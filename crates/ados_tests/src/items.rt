@@ -15,7 +15,7 @@ fn are_texts(texts: &Texts, want: &[&str]) -> bool {
     true
 }
 
-// The words of a line, none if a quote is open. `NoMemory` is handed on.
+// The words of a line, none if a quote is open. `NoMemory` is passed on.
 fn words_of(alloc: Global, line: &[u8]) -> Result<Option<Texts>, NoMemory> {
     match words(alloc, line) {
         Ok(texts) => Ok(Some(texts)),

@@ -23,7 +23,7 @@ const NONE_FAILS: Failing = Failing {
 };
 
 // A fresh world driven by these bytes, read three at a time and written one at a time. `NoMemory` for the world is
-// handed on.
+// passed on.
 #[tactic(auto, using(ados_launch::proofs::NewPair::new_pair))]
 fn drive(
     alloc: Global,
@@ -47,7 +47,7 @@ fn drive(
 }
 
 // How a fresh world that was driven in this way ended, none if it ended well, and how many bytes it wrote. `NoMemory` is
-// handed on.
+// passed on.
 fn driven(
     alloc: Global,
     input: &[u8],
@@ -61,7 +61,7 @@ fn driven(
     }
 }
 
-// What a fresh world driven by these bytes ends with, if nothing fails. `NoMemory` is handed on.
+// What a fresh world driven by these bytes ends with, if nothing fails. `NoMemory` is passed on.
 fn ended(alloc: Global, input: &[u8]) -> Result<Result<End, DriveFault>, NoMemory> {
     let mut text = Vec::with_capacity(alloc, 200)?;
     match drive(alloc, input, &mut text, NONE_FAILS, ENOUGH)? {

@@ -44,7 +44,7 @@ fn shown(alloc: Global, path: &Path) -> Result<Vec<u8>, NoMemory> {
     Ok(out)
 }
 
-// A path shows this, or `210` stands for one that is refused. `NoMemory` is handed on.
+// A path shows this, or `210` stands for one that is refused. `NoMemory` is passed on.
 fn shows(alloc: Global, found: Result<Path, Stop>, want: &str) -> Result<bool, NoMemory> {
     match found {
         Ok(path) => Ok(shown(alloc, &path)?.as_slice() == want.as_bytes()),
@@ -97,7 +97,7 @@ fn long_path(alloc: Global, length: usize, name: &str) -> Result<Path, Stop> {
     joined(alloc, &Path::parse(alloc, &long(alloc, length)?)?, name)
 }
 
-// How many steps a path has, none if it is refused. `NoMemory` is handed on.
+// How many steps a path has, none if it is refused. `NoMemory` is passed on.
 fn steps(found: Result<Path, Stop>) -> Result<usize, NoMemory> {
     match found {
         Ok(path) => Ok(path.steps().len()),

@@ -4,7 +4,7 @@ use ados_ram::{Busy, Ram};
 use ados_text::{NoMemory, Stop};
 use std::alloc::Global;
 
-// The number of the fault, 0 if there is none. `NoMemory` is handed on.
+// The number of the fault, 0 if there is none. `NoMemory` is passed on.
 fn fault(answer: Result<Ram, Stop>) -> Result<u16, NoMemory> {
     match answer {
         Ok(_) => Ok(0),

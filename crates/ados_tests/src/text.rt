@@ -2,7 +2,7 @@ use crate::wrong::{Wrong, expect};
 use ados_text::{NoMemory, Octets, Text, TextFault, Texts};
 use std::alloc::Global;
 
-// The place of the first byte above ASCII. `NoMemory` is handed on.
+// The place of the first byte above ASCII. `NoMemory` is passed on.
 fn past_ascii(alloc: Global, bytes: &[u8]) -> Result<Option<usize>, NoMemory> {
     match Text::of(alloc, bytes) {
         Ok(_) => Ok(None),

@@ -1,4 +1,4 @@
--- What was looked at on this machine.
+-- What was seen of an object of the shared folder on this machine. Its stamp is its size, inode number and times.
 use Rattle.std.specs.Prelude.{Bool, false, ◌&&◌, not, List, Option, Some, None}
 use Rattle.ados_text.specs.Text.{Bytes}
 use Rattle.ados_transfer.specs.declared.stamps.Stamp.{Stamp}
@@ -7,7 +7,7 @@ use Rattle.ados_transfer.specs.declared.here.Here.TheVariants.{Absent, Directory
 use Rattle.ados_transfer.specs.Account.{is_in_unwritten, is_within}
 use Rattle.ados_transfer.specs.Mirror.{is_same_stamp}
 
--- the marks that it had, if it was a file or a folder
+-- the stamp that it had, if it was a file or a folder
 abbrev pub marks_of : Here → Option Stamp
 marks_of Absent = None
 marks_of (Directory stamp) = Some stamp
@@ -16,7 +16,7 @@ marks_of (Large stamp) = Some stamp
 marks_of Foreign = None
 marks_of Unread = None
 
--- it was there with these marks
+-- it was there with this stamp
 abbrev pub is_marked : Option Stamp → Stamp → Bool
 is_marked None found = false
 is_marked (Some stamp) found = is_same_stamp stamp found
@@ -24,7 +24,8 @@ is_marked (Some stamp) found = is_same_stamp stamp found
 abbrev pub has_marks : Here → Stamp → Bool
 has_marks here found = is_marked (marks_of here) found
 
--- The bytes of a file that was looked at are in a file that is not written, and not in the ones that are to take its place: they were moved.
+-- The bytes of a file that was seen were moved: they occur in a file that could not be written, and not in `new`, the bytes that are
+-- to replace the file.
 abbrev pub is_moved_away : Here → Bytes → List Bytes → Bool
 is_moved_away (File bytes stamp mode) new unwritten = not (is_within bytes.items new) && is_in_unwritten unwritten bytes.items
 is_moved_away _ new unwritten = false

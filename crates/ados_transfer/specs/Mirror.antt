@@ -1,4 +1,5 @@
--- What becomes of an object of a share, which is in a folder of this machine and in the Shell's files.
+-- What is done with an object of a shared folder, which is on this machine and in the Shell's files. `last` is what both had at the last
+-- comparison, `here` is what this machine has, and `there` what the Shell has.
 use Rattle.std.specs.Prelude.{Bool, true, false, ◌&&◌, ◌==◌, if◌then◌else◌}
 use Rattle.std.specs.Str.{bytes_eq}
 use Rattle.ados_transfer.specs.declared.stamps.Time.{Time}
@@ -14,12 +15,12 @@ use Rattle.ados_transfer.specs.declared.decision.Removal.TheVariants.{Forget, De
 abbrev pub is_same_time : Time → Time → Bool
 is_same_time a b = a.seconds == b.seconds && a.nanoseconds == b.nanoseconds
 
--- two files have the same marks: size, number and times
+-- two files have the same stamp: size, inode number, and times of change and of status change
 abbrev pub is_same_stamp : Stamp → Stamp → Bool
 is_same_stamp a b = a.size == b.size && (a.number == b.number && (is_same_time a.modified b.modified && is_same_time a.changed b.changed))
 
--- the objects on two sides are alike: nothing, directories, files with the same bytes, or with the same marks if the Shell can't
--- hold them
+-- the objects on two sides are alike: nothing, directories, files with the same bytes, or with the same stamp if they are too large
+-- for the Shell
 abbrev pub is_same : State → State → Bool
 is_same Absent Absent = true
 is_same Directory Directory = true
@@ -33,13 +34,14 @@ abbrev pub is_absent : State → Bool
 is_absent Absent = true
 is_absent _ = false
 
--- it is a file that the Shell can't hold
+-- it is a file that is too large for the Shell
 abbrev pub is_large : State → Bool
 is_large (Large stamp) = true
 is_large _ = false
 
--- What this machine has, `here`, may be replaced by what the Shell has: it is nothing, or what it was at the last time. A file
--- that the Shell can't hold is only deleted, if that is allowed; what is neither a file nor a directory is not touched.
+-- What this machine has may be replaced by what the Shell has: it is nothing, or what it was at the last comparison. A file that is
+-- too large for the Shell is never written over, and deleted only if `may_delete` allows it; what is neither a file nor a directory is not
+-- touched.
 abbrev pub may_write : State → State → State → Bool → Bool
 may_write last Absent there may_delete = true
 may_write last Directory there may_delete = is_same Directory last
@@ -47,22 +49,22 @@ may_write last (File bytes) there may_delete = is_same (File bytes) last
 may_write last (Large stamp) there may_delete = is_same (Large stamp) last && (is_absent there && may_delete)
 may_write last Foreign there may_delete = false
 
--- what is done: nothing if both sides are alike; otherwise the changed one goes to the other side, and this machine's object
--- stays if both changed
+-- what is done: nothing if both sides are alike; otherwise the changed one is copied to the other side (`Bring` from this machine,
+-- `Write` to it), and if both changed the object of this machine stays (`Conflict`)
 abbrev pub decision : State → State → State → Bool → Decision
 decision last here there may_delete =
     if is_same here there then Keep else
     (if is_same there last then Bring else
     (if may_write last here there may_delete then Write else Conflict))
 
--- what becomes of this machine's object after what is done with it is known: it is deleted in place of being written over, unless
--- it is gone, or something that the Shell holds is not written
+-- how an object of this machine is removed, given what is done with it: one that would be written over is deleted, unless it is gone
+-- already, or the update is `has_unwritten`: something that the Shell has could not be written, and may have its bytes
 abbrev pub removal_of : Decision → Bool → Bool → Removal
 removal_of Keep gone has_unwritten = if gone then Forget else Leave
 removal_of Bring gone has_unwritten = Leave
 removal_of Write gone has_unwritten = if gone then Forget else (if has_unwritten then Hold else Delete)
 removal_of Conflict gone has_unwritten = Stays
 
--- what becomes of this machine's object if the Shell's is gone or of another kind
+-- the same, if the Shell's object is gone or of another kind
 abbrev pub removal : State → State → State → Bool → Bool → Removal
 removal last here there may_delete has_unwritten = removal_of (decision last here there may_delete) (is_absent here) has_unwritten

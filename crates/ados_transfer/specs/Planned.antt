@@ -1,4 +1,4 @@
--- Files and directories that are to be in the Shell's world when the script begins.
+-- Files and directories that were planned to be in the Shell's files when the script begins.
 use Rattle.std.specs.Prelude.{Bool, false, ◌&&◌, not, Option, Some, None}
 use Rattle.std.specs.Bool.{beq}
 use Rattle.std.specs.FinMap as map
@@ -22,6 +22,6 @@ holds_content None content = false
 holds_content (Some entry) Directory = is_directory entry
 holds_content (Some entry) (File bytes script) = holds_file entry bytes script
 
--- it is in the files as planned
+-- the files have what was planned for its place
 abbrev pub is_as_planned : Files → Planned → Bool
 is_as_planned files planned = holds_content (map.get files (key_of planned.place)) planned.content

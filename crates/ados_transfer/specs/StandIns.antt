@@ -1,4 +1,4 @@
--- Stand-ins: empty files of the Shell in place of files of this machine that it can't hold.
+-- Stand-ins: empty files of the Shell in place of files of this machine that are too large for it.
 use Rattle.std.specs.Prelude.{Bool, true, ◌&&◌, ◌||◌, ◌==◌, not, Option, Some, None, codes, length, if◌then◌else◌}
 use Rattle.std.specs.List.{ends_with}
 use Rattle.ados_ram.specs.declared.entries.Entry.{Entry}
@@ -13,12 +13,13 @@ is_empty entry = not (is_directory entry) && length (bytes_of entry) == 0
 abbrev pub is_stand_in : Entry → Bool
 is_stand_in entry = is_empty entry && ends_with ◌==◌ entry.comment (codes " bytes, on this machine alone")
 
--- what the Shell holds itself: a stand-in is nothing
+-- the entry, if it is the Shell's own and not a stand-in
 abbrev pub own_entry : Option Entry → Option Entry
 own_entry None = None
 own_entry (Some entry) = if is_stand_in entry then None else Some entry
 
--- what was seen of an empty file after one more look: whether it has bit d, whether it ever had bit r, and whether it was away
+-- what was seen of an empty file, which may be a stand-in, with one more look at its place: whether it has bit d, whether it ever had
+-- bit r, and whether something else, or nothing, was there at some time
 abbrev pub next_watch : Watch → Option Entry → Watch
 next_watch watch None = record watch { was_away = true }
 next_watch watch (Some entry) =

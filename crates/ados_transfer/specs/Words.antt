@@ -38,7 +38,7 @@ is_plain_sign c = list_any (λ sign. sign == c) (codes "_.,:/#?%~()|'@!^&+-=")
 abbrev pub is_plain : ℕ → Bool
 is_plain c = is_letter_or_digit c || is_plain_sign c
 
--- a word without quotes cannot begin with this byte: the sign that asks for a template, the one that continues a line, `=`
+-- a word without quotes cannot begin with this byte: `?` would print the template, `+` continue a line, and `=` is an item of its own
 abbrev pub is_first_sign : ℕ → Bool
 is_first_sign c = c == 63 || (c == 43 || c == 61)
 
@@ -58,7 +58,7 @@ needs_no_quotes text = has_plain_ends text && (list_all is_plain text && nat_lt 
 abbrev pub word_of : Bool → Text → Bytes
 word_of quotes text = if not quotes && needs_no_quotes text then text else quoted_word text
 
--- nothing, or a blank
+-- the rest of a line after a word: nothing, or it begins with a blank
 abbrev pub IsApart : Bytes → Type 0
 IsApart [] = Unit {0}
 IsApart (c ∷ cs) = is_blank c ≡ true

@@ -1,4 +1,4 @@
-//! What a time of writing to the folder of a share leaves open.
+//! What one update of the shared folder could not write, and what follows from that.
 ghost use Rattle.std.specs.Prelude.{◌≡◌, ◌++◌, ◌∷◌, [], OnOk, string_bytes};
 ghost use Rattle.std.specs.List.{list_any};
 ghost use Rattle.std.specs.Option.{option_map, is_some};
@@ -9,18 +9,18 @@ use crate::records::Record;
 use ados_ram::{Body, Entry, FileBytes};
 use std::alloc::Global;
 
-/// What the Shell holds and the folder does not, what is not deleted there because of it, and what was moved aside there.
+/// What the Shell has and could not be written to the folder, what is not deleted there because of it, and what was moved aside there.
 #[derive(Drop)]
 pub struct Account {
     /// Where memory comes from.
     pub alloc: Global,
-    /// The first object that the Shell holds and that is not written.
+    /// The path of the first object that could not be written.
     pub unwritten: Option<String>,
-    /// What the files hold that are not written.
+    /// The contents of the files that could not be written.
     pub bytes: Vec<FileBytes>,
-    /// The first object that is not deleted because of that.
+    /// The path of the first object that is not deleted because of that.
     pub held: Option<String>,
-    /// How many more there are.
+    /// How many more are not deleted.
     pub more: usize,
     /// What was moved out of the way.
     pub aside: Vec<Aside>,
@@ -31,9 +31,9 @@ pub struct Account {
 pub struct Aside {
     /// What it was.
     pub record: Record,
-    /// Where it is now; a folder is deleted at once.
+    /// The path where it is now; `None` for a folder, which is deleted at once.
     pub beside: Option<String>,
-    /// Its mode.
+    /// Its mode (permissions).
     pub mode: u32,
 }
 

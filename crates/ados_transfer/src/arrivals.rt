@@ -20,7 +20,7 @@ use std::time::Clock;
 pub struct Arrival {
     /// The lines for it, run in order.
     pub lines: Vec<Text>,
-    /// What `amishell-bring` puts out in those lines; it is not called if there is nothing.
+    /// What `amishell-bring` prints in those lines; it is not called if there is nothing.
     pub bytes: Option<Octets>,
     pub(crate) key: String,
     pub(crate) path: String,
@@ -38,7 +38,7 @@ pub enum Coming {
     Directory,
     /// A file of these bytes.
     File(Octets),
-    /// The stand-in of a file that the Shell can't hold.
+    /// The stand-in of a file that is too large for the Shell.
     StandIn,
 }
 
@@ -51,7 +51,7 @@ impl Coming {
         }
     }
 
-    // What `amishell-bring` puts out for it.
+    // What `amishell-bring` prints for it.
     fn output(&self, alloc: Global) -> Result<Option<Octets>, NoMemory> {
         match self {
             Coming::File(bytes) => Ok(Some(bytes.copy()?)),
@@ -206,7 +206,7 @@ impl Mirror {
         Ok(())
     }
 
-    // An object has the marks of the last time, and its stand-in exists if it has one.
+    // An object has the stamp of the last comparison, and its stand-in exists if it has one.
     fn is_unchanged(
         &self,
         record: Option<&Record>,

@@ -112,7 +112,7 @@ impl Mirror {
         }
     }
 
-    // Keeps the path and the marks of an object in whose place the Shell's is to be written.
+    // Keeps the path and the stamp of an object in whose place the Shell's is to be written.
     fn keep_marks(
         &mut self,
         plan: &ArrivalPlan<'_>,
@@ -156,7 +156,7 @@ impl Mirror {
     }
 }
 
-// The object on this machine is of the kind that it was at the last time.
+// The object on this machine is of the kind that it was at the last comparison.
 fn is_of_kind(record: &Record, kind: Kind) -> bool {
     match (&record.last, kind) {
         (Last::Directory, Kind::Directory) => true,

@@ -1,4 +1,4 @@
-//! What becomes of an object of a share.
+//! What is done with an object of a shared folder.
 ghost use Rattle.std.specs.Prelude.{◌≡◌, ◌⊎◌, true, false, if◌then◌else◌};
 ghost use Rattle.ados_transfer.specs.Mirror.{decision, is_absent, is_same, is_large, may_write, removal};
 
@@ -13,7 +13,7 @@ pub enum State<'a> {
     Directory,
     /// A file of these bytes.
     File(&'a [u8]),
-    /// A file of this machine that the Shell can't hold, by its marks; in the Shell its stand-in.
+    /// A file of this machine that is too large for the Shell, by its stamp; on the Shell's side its stand-in.
     Large(Stamp),
     /// What is none of these: a link, a device, a file that can't be read.
     Foreign,
@@ -24,18 +24,18 @@ pub enum State<'a> {
 pub enum Decision {
     /// Nothing: both sides are alike.
     Keep,
-    /// What this machine has is copied into the Shell's files, if nothing changed since.
+    /// Only this machine's side changed: what it has is copied into the Shell's files, or deleted there.
     Bring,
-    /// What the Shell has is written to this machine, or deleted there.
+    /// Only the Shell's side changed: what it has is written to this machine, or deleted there.
     Write,
-    /// Both sides changed, or this machine's object is not to be touched: the one on this machine stays.
+    /// Both sides changed, or this machine's object is not to be touched: it stays, and is copied into the Shell's files if it can be.
     Conflict,
 }
 
-/// What becomes of this machine's object if the Shell no longer has it, or has another kind of object in its place.
+/// How an object of this machine is removed if the Shell no longer has it, or has another kind of object in its place.
 #[derive(Clone, Copy, PartialEq, Eq)]
 pub enum Removal {
-    /// It is gone: it is no longer kept in mind.
+    /// It is gone already: only its record is dropped.
     Forget,
     /// It is deleted.
     Delete,
@@ -70,13 +70,13 @@ impl State<'_> {
     }
 }
 
-/// What is done with an object, given what it was at the last time and what this machine and the Shell have now; `may_delete`
-/// says that a file which the Shell can't hold may be deleted.
+/// What is done with an object, given what it was at the last comparison (`last`) and what this machine (`here`) and the Shell (`there`)
+/// have now; `may_delete` says that a file which is too large for the Shell may be deleted.
 pub fn decide(last: &State<'_>, here: &State<'_>, there: &State<'_>, may_delete: bool) -> Decision
     ensures decision { result ≡ decision last.now here.now there.now may_delete }
-    // Nothing is overwritten or deleted on this machine unless it is what was there at the last time.
+    // Nothing is overwritten or deleted on this machine unless it is what was there at the last comparison.
     ensures safe { result ≡ Decision.Write → (is_absent here.now ≡ true) ⊎ (is_same here.now last.now ≡ true) }
-    // A file that the Shell can't hold is never written, and is deleted only if that is allowed.
+    // A file that is too large for the Shell is never written, and is deleted only if that is allowed.
     ensures large { result ≡ Decision.Write → is_large here.now ≡ true → (is_absent there.now ≡ true) × (may_delete ≡ true) }
     // If neither changed nothing is done.
     ensures kept { is_same here.now last.now ≡ true → is_same there.now last.now ≡ true → result ≡ Decision.Keep }
@@ -99,8 +99,8 @@ pub fn decide(last: &State<'_>, here: &State<'_>, there: &State<'_>, may_delete:
     }
 }
 
-/// What becomes of this machine's object if the Shell's is gone or of another kind; `has_unwritten` says that something which the Shell
-/// holds is not written.
+/// How an object of this machine is removed if the Shell's is gone or of another kind; `has_unwritten` says that something which the Shell
+/// has could not be written.
 pub fn decide_removal(
     last: &State<'_>,
     here: &State<'_>,
@@ -108,11 +108,11 @@ pub fn decide_removal(
     may_delete: bool,
     has_unwritten: bool,
 ) -> Removal
-    // Nothing is deleted while anything that the Shell holds is unwritten.
+    // Nothing is deleted while anything that the Shell has is unwritten.
     ensures nothing_unwritten { result ≡ Removal.Delete → has_unwritten ≡ false }
-    // What is deleted is there, and is what was there at the last time.
+    // What is deleted is there, and is what was there at the last comparison.
     ensures safe { result ≡ Removal.Delete → (is_absent here.now ≡ false) × (is_same here.now last.now ≡ true) }
-    // A file that the Shell can't hold is deleted only if the Shell's is gone, and if that is allowed.
+    // A file that is too large for the Shell is deleted only if the Shell's is gone, and if that is allowed.
     ensures large { result ≡ Removal.Delete → is_large here.now ≡ true → (is_absent there.now ≡ true) × (may_delete ≡ true) }
     ensures removal { result ≡ removal last.now here.now there.now may_delete has_unwritten }
 {

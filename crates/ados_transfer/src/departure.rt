@@ -16,7 +16,7 @@ use std::os::unix::fs::PermissionsExt;
 use std::rt::Files;
 use std::{fs, io};
 
-/// An object of the Shell's files that is not what it was at the last time.
+/// An object of the Shell's files that is not what it was at the last comparison.
 #[derive(Drop)]
 pub struct Departure<'a> {
     /// Which one.
@@ -25,7 +25,7 @@ pub struct Departure<'a> {
     pub path: String,
     /// What is there; nothing if it is gone.
     pub entry: Option<&'a Entry>,
-    /// It was not there at the last time.
+    /// It was not there at the last comparison.
     pub is_new: bool,
     /// It is a file and was a directory, or the other way round.
     pub is_turned: bool,
@@ -34,7 +34,7 @@ pub struct Departure<'a> {
 }
 
 impl<'a> Departure<'a> {
-    /// The change of an object that was there at the last time.
+    /// The change of an object that was there at the last comparison.
     pub fn of(
         alloc: Global,
         record: &Record,
@@ -64,7 +64,7 @@ pub fn is_key_left_out(key: &str, all: bool) -> bool {
     key.split('/').any(|name| is_unshared(name, all))
 }
 
-/// Writes an object to this machine in place of what was looked at, and gives its new marks; nothing if something else came to be
+/// Writes an object to this machine in place of what was looked at, and gives its new stamp; nothing if something else came to be
 /// there since.
 pub fn write_entry<R: AllocGlobal + Files>(
     rt: &R,
@@ -144,7 +144,7 @@ pub fn own_path<R: AllocGlobal + Files>(rt: &R, root: &str, path: &str) -> io::R
     Ok(whole)
 }
 
-// What is at a path has the marks of what was looked at.
+// What is at a path has the stamp of what was looked at.
 fn is_still<R: Files>(rt: &R, path: &str, here: &Here) -> io::Result<bool> {
     Ok(here.has_marks(&Stamp::of(&fs::symlink_metadata(rt, path)?)))
 }

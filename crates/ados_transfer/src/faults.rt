@@ -35,7 +35,7 @@ pub enum TransferFault {
     /// The object of this name cannot be taken.
     #[error("cannot take {0}")]
     CannotTake(String),
-    /// What is to be taken is the stand-in of a file that the Shell can't hold, or such a stand-in is in it.
+    /// What is to be taken is the stand-in of a file that is too large for the Shell, or such a stand-in is in it.
     #[error("cannot take what the Shell can't hold: {0}")]
     StandIn(String),
     /// The directory of a share is a file, or files are in it at the beginning.

@@ -46,7 +46,7 @@ pub struct Seen {
     pub path: String,
     /// What it is.
     pub kind: Kind,
-    /// Its marks.
+    /// Its stamp.
     pub stamp: Stamp,
 }
 

@@ -25,7 +25,7 @@ pub enum Here {
     File {
         /// What it holds.
         bytes: Vec<u8>,
-        /// Its marks, from before it was read.
+        /// Its stamp, from before it was read.
         stamp: Stamp,
         /// Its mode.
         mode: u32,
@@ -129,14 +129,14 @@ impl Here {
         matches!(self, Here::Directory(_))
     }
 
-    /// It had these marks, so that nothing took its place since.
+    /// It had this stamp, so that nothing took its place since.
     pub fn has_marks(&self, found: &Stamp) -> bool
         ensures { result ≡ has_marks self.now found.now }
     {
         self.stamp().is_some_and(|stamp| stamp.is_same(found))
     }
 
-    /// Its marks.
+    /// Its stamp.
     pub fn stamp(&self) -> Option<Stamp>
         ensures { result ≡ marks_of self.now }
     {

@@ -25,7 +25,7 @@ pub struct MirrorOptions {
     pub dry: bool,
 }
 
-/// A folder of this machine and a directory of the Shell's files that are kept alike, and what they were at the last time.
+/// A folder of this machine and a directory of the Shell's files that are kept alike, and what they were at the last comparison.
 #[derive(Drop)]
 pub struct Mirror {
     pub(crate) alloc: Global,
@@ -125,7 +125,7 @@ impl Mirror {
         Ok(())
     }
 
-    // Keeps an object as it is on both sides now, with these marks.
+    // Keeps an object as it is on both sides now, with this stamp.
     pub(crate) fn keep_as(
         &mut self,
         key: &str,

@@ -1,4 +1,4 @@
-//! Files and directories that are to be in the Shell's world when the script begins.
+//! Files and directories that were planned to be in the Shell's files when the script begins.
 ghost use Rattle.std.specs.Prelude.{◌≡◌};
 ghost use Rattle.std.specs.List.{list_all};
 ghost use Rattle.std.specs.Option.{option_copied};
@@ -7,12 +7,12 @@ ghost use Rattle.ados_transfer.specs.Planned.{is_as_planned, holds_content, hold
 use ados_ram::{Entry, Place, Ram};
 use ados_text::Octets;
 
-/// What is to be at a place.
+/// What was planned for a place.
 #[derive(Drop)]
 pub struct Planned {
-    /// Where.
+    /// The place.
     pub place: Place,
-    /// What.
+    /// What is to be there.
     pub content: Content,
 }
 
@@ -25,14 +25,14 @@ pub enum Content {
     File { bytes: Octets, is_script: bool },
 }
 
-/// Each of them is in the files as planned.
+/// The files have what was planned, for each of the places.
 pub fn are_as_planned(files: &Ram, planned: &[Planned]) -> bool
     ensures { result ≡ list_all (is_as_planned files.now) planned.now }
 {
     planned.iter().all(|one| is_as_planned(files, one))
 }
 
-// It is in the files as planned.
+// The files have what was planned for its place.
 fn is_as_planned(files: &Ram, planned: &Planned) -> bool
     ensures { result ≡ is_as_planned files.now planned.now }
 {

@@ -1,4 +1,4 @@
-//! What was alike on both sides of a share at the last time.
+//! What was alike on both sides of a share at the last comparison.
 ghost use Rattle.std.specs.Prelude.{◌≡◌, ◌<◌, ◌≤◌, length, not, MatchResult};
 ghost use Rattle.std.specs.Option.{is_some, option_copied};
 ghost use Rattle.ados_transfer.specs.Mirror.{is_absent};
@@ -11,14 +11,14 @@ use ados_ram::{Body, Entry, FileBytes, Place, Ram};
 use ados_text::NoMemory;
 use std::alloc::Global;
 
-/// What an object was at the last time.
+/// What an object was at the last comparison.
 #[derive(Drop)]
 pub enum Last {
     /// A directory on both sides.
     Directory,
     /// A file of these bytes on both sides, which the Shell's files share.
     File(FileBytes),
-    /// A file that the Shell can't hold, and its stand-in.
+    /// A file that is too large for the Shell, and its stand-in.
     StandIn,
 }
 
@@ -32,7 +32,7 @@ impl Last {
     }
 }
 
-/// An object that was on both sides at the last time.
+/// An object that was on both sides at the last comparison.
 #[derive(Drop)]
 pub struct Record {
     /// Its path below the share in lower case: which object it is.
@@ -43,9 +43,9 @@ pub struct Record {
     pub place: Place,
     /// What it was.
     pub last: Last,
-    /// The marks that it had on this machine.
+    /// The stamp that it had on this machine.
     pub stamp: Stamp,
-    /// A later change might leave the same marks.
+    /// A later change might leave the same stamp.
     pub is_fresh: bool,
     /// What was seen of it in the Shell's files, if it is empty there.
     pub watch: Watch,
@@ -94,7 +94,7 @@ impl Record {
         }
     }
 
-    /// It is a file that the Shell can't hold.
+    /// It is a file that is too large for the Shell.
     pub fn is_stand_in(&self) -> bool {
         matches!(self.last, Last::StandIn)
     }
@@ -156,7 +156,7 @@ impl Records {
         }
     }
 
-    /// Notes the path and the marks that an object has now.
+    /// Notes the path and the stamp that an object has now.
     pub fn mark(&mut self, key: &str, path: String, stamp: Stamp, is_fresh: bool) {
         if let Ok(place) = self.place(key) {
             if let Some(record) = self.sorted.get_mut(place) {

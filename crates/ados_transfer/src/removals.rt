@@ -214,7 +214,7 @@ fn add_unwritten_at_turn(
     }
 }
 
-// Gives an object its place back, and gives its marks; nothing if something else is there. A folder that was made there is deleted
+// Gives an object its place back, and gives its stamp; nothing if something else is there. A folder that was made there is deleted
 // if it is empty.
 fn placed_back<R: AllocGlobal + Files>(
     rt: &R,

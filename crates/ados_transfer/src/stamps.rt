@@ -1,4 +1,4 @@
-//! Marks of a file of this machine, by which a change of it is noticed.
+//! Stamps of files of this machine, by which a change of one is noticed.
 ghost use Rattle.std.specs.Prelude.{◌≡◌};
 ghost use Rattle.ados_transfer.specs.Mirror.{is_same_time, is_same_stamp};
 
@@ -20,11 +20,11 @@ pub struct Time {
 pub struct Stamp {
     /// How many bytes it has.
     pub size: u64,
-    /// Its number.
+    /// Its inode number.
     pub number: u64,
-    /// When its bytes were changed; programs can set this time.
+    /// When its bytes were changed (mtime); programs can set this time.
     pub modified: Time,
-    /// When anything of it was changed, by the clock of the system.
+    /// When anything of it was changed (ctime), by the clock of the system.
     pub changed: Time,
 }
 
@@ -38,7 +38,7 @@ impl Time {
 }
 
 impl Stamp {
-    /// The marks of an object that does not exist.
+    /// The stamp of an object that does not exist.
     pub const NONE: Stamp = Stamp {
         size: 0,
         number: 0,
@@ -52,7 +52,7 @@ impl Stamp {
         },
     };
 
-    /// The marks of a file, or of whatever it is.
+    /// The stamp of a file, or of whatever it is.
     pub fn of(found: &Metadata) -> Stamp {
         Stamp {
             size: found.len(),
@@ -68,7 +68,7 @@ impl Stamp {
         }
     }
 
-    /// The two have the same marks.
+    /// The two have the same stamp.
     pub fn is_same(&self, other: &Stamp) -> bool
         ensures { result ≡ is_same_stamp self.now other.now }
     {
@@ -78,7 +78,7 @@ impl Stamp {
             && self.changed.is_same(&other.changed)
     }
 
-    /// A change right after this look might leave the same marks: the file was changed in the tick of the clock in which it was
+    /// A change right after this look might leave the same stamp: the file was changed in the tick of the clock in which it was
     /// looked at. If the time has no fraction of a second, the ticks are assumed to last up to two seconds.
     pub fn is_fresh(&self, now: &SystemTime) -> bool {
         let tick = if self.changed.nanoseconds == 0 {

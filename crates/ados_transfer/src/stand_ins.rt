@@ -1,4 +1,4 @@
-//! Stand-ins: empty files of the Shell in place of files of this machine that it can't hold.
+//! Stand-ins: empty files of the Shell in place of files of this machine that are too large for it.
 ghost use Rattle.std.specs.Prelude.{◌≡◌, ◌&&◌, true, not};
 ghost use Rattle.std.specs.Option.{option_copied};
 ghost use Rattle.ados_transfer.specs.StandIns.{is_empty, is_stand_in, own_entry, next_watch};
@@ -12,7 +12,7 @@ use std::alloc::Global;
 // How the comment of a stand-in ends, after the size of its file.
 const STANDS_IN: &[u8] = b" bytes, on this machine alone";
 
-/// The entry stands for a file of this machine that the Shell can't hold: it is empty, and its comment says so. Its bits may have
+/// The entry stands for a file of this machine that is too large for the Shell: it is empty, and its comment says so. Its bits may have
 /// been set since.
 pub fn is_stand_in(entry: &Entry) -> bool
     ensures { result ≡ is_stand_in entry.now }
@@ -20,7 +20,7 @@ pub fn is_stand_in(entry: &Entry) -> bool
     is_empty(entry) && entry.comment.as_bytes().ends_with(STANDS_IN)
 }
 
-/// What the Shell holds itself: a stand-in counts as nothing, and so is never written to this machine.
+/// The entry, if it is the Shell's own: a stand-in counts as nothing, and so is never written to this machine.
 pub fn own_entry(entry: Option<&Entry>) -> Option<&Entry>
     ensures { option_copied result ≡ own_entry (option_copied entry.entry) }
 {
@@ -40,8 +40,8 @@ pub fn comment_of(alloc: Global, size: u64) -> Result<String, NoMemory> {
 pub struct Watch {
     /// It had bit d when it was last seen.
     pub had_delete: bool,
-    /// Its file stays in any case: it had bit r at some time, so that it may have been copied as the empty file that it is, or it may
-    /// have been moved.
+    /// Its large file is never deleted: the stand-in had bit r at some time, so that it may have been copied as the empty file that it
+    /// is, or it may have been moved.
     pub is_spared: bool,
     /// It was not in its place at some time: what is there since may be another one.
     pub was_away: bool,

@@ -16,7 +16,7 @@ use std::{fs, io};
 /// Writes what words of `--take` name, as `NAME` or `NAME=PATH`.
 ///
 /// A file is written whole or not at all. Nothing is written outside the folder that is given. `StandIn` if an object is the
-/// stand-in of a file that the Shell can't hold, which is never written; `CannotTake` if one could not be written. All others
+/// stand-in of a file that is too large for the Shell, which is never written; `CannotTake` if one could not be written. All others
 /// are.
 pub fn take<R: AllocGlobal + Files>(
     rt: &R,

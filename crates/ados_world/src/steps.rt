@@ -31,13 +31,17 @@ use std::alloc::Global;
 impl World {
     /// Takes one event, or refuses it and stays unchanged.
     ///
-    /// Refusals come in the order of their enum; the first six, an accepted end of input, a break and the end of a shell take
-    /// no memory. A break is refused by `Over` and `NoSuchShell` alone. The answer that a start has failed changes the codes of
-    /// the shell that asked, and what depends on these: what all shells share, the other shells and the input stay. The request
-    /// given is what the event's shell waits for then, and none after a typed line, the end of input or a break. The end of
-    /// the event binds only assigns of Defer that it used. A report is about a break exactly when the event is a turn that finds
-    /// the flag of its shell, in which a script runs. A resident entry stays in use from the start of its program to the answer
-    /// that ends it, and the outputs that its shell holds stay open as long as the program runs.
+    /// If several refusals apply, the first of the enum `Refusal` is given. The first six of them, an accepted end of input, a
+    /// break and the end of a shell allocate nothing. A break is refused by `Over` and `NoSuchShell` alone.
+    ///
+    /// - A reply that a start has failed changes the codes of the shell that requested it, and what depends on these: what all
+    ///   shells share, the other shells and the input stay.
+    /// - `Out::request` is what the event's shell then waits for; there is none after a typed line, the end of input or a break.
+    /// - At its end an event binds only those Defers that it used.
+    /// - A report says that a script was broken exactly if the event is a turn that finds its shell flagged by a Break D while a
+    ///   script runs in it.
+    /// - A resident entry stays in use from the start of its program to the reply that ends it, and the outputs that its shell
+    ///   has open stay open as long as the program runs.
     pub fn step(&mut self, event: &Event) -> Result<Out, Refusal>
         ensures answer { IsAnswer event.now result (step_of self.old event.now) }
         ensures world { self.new ≡ resulting_world self.old result (step_of self.old event.now) }
@@ -53,8 +57,8 @@ impl World {
         Ok(draft.into_out())
     }
 
-    /// The same with a draft that is lent; it then holds what the event gives. What it held before is forgotten: one
-    /// draft serves for a whole run, and its buffers live on.
+    /// The same with a draft that is lent; it then holds what the event prints, requests and reports. What it held before is
+    /// dropped: one draft serves for a whole run, and its buffers are reused.
     pub fn step_into(&mut self, event: &Event, draft: &mut Draft) -> Result<(), Refusal>
         ensures answer { IsAnswer event.now (step_answer (out_of draft.new) result) (step_of self.old event.now) }
         ensures world { self.new ≡ resulting_world self.old (step_answer (out_of draft.new) result) (step_of self.old event.now) }

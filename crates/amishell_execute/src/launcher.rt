@@ -11,7 +11,7 @@ use std::alloc::Global;
 use std::marker::Model;
 use std::process::Processes;
 
-/// A launcher whose command `amishell-bring` puts out the files one by one, and which starts real programs for all others.
+/// A launcher whose command `amishell-bring` prints the files one by one, and which starts real programs for all others.
 #[derive(Drop)]
 pub struct Bringer<'a, R: Processes> {
     children: Children<'a, R>,
@@ -26,9 +26,9 @@ struct Children<'a, R: Processes> {
     left: &'a [Planned],
     // What is brought in before that.
     offered: Option<Octets>,
-    // What `amishell-bring` has left to put out of a planned file, and its shell.
+    // What `amishell-bring` has left to print of a planned file, and its shell.
     open: Option<(u8, &'a [u8])>,
-    // What it puts out of a file that was offered.
+    // What it prints of a file that was offered.
     delivery: Option<Delivery>,
     // How the program with this number ended, for the wait that follows.
     ended: Option<(u8, Answer)>,
@@ -48,13 +48,13 @@ pub enum Start {
     Nowhere,
 }
 
-// A file that was offered and is being put out.
+// A file that was offered and is being printed.
 #[derive(Drop)]
 struct Delivery {
-    // The shell of the command that puts it out.
+    // The shell of the command that prints it.
     shell: u8,
     bytes: Octets,
-    // How many of the bytes were put out.
+    // How many of the bytes were printed.
     from: usize,
 }
 
@@ -91,7 +91,7 @@ impl<'a, R: Processes> Bringer<'a, R> {
         })
     }
 
-    /// `amishell-bring` puts this out the next time; with `None` again what is left to be brought in.
+    /// `amishell-bring` prints this the next time; with `None` again what is left to be brought in.
     pub fn offer(&mut self, bytes: Option<Octets>)
         ensures { self.new ≡ self.old }
     {
@@ -190,7 +190,7 @@ impl<R: Processes> Children<'_, R> {
         }
     }
 
-    // How the command ended that put out a file that was offered, or a program.
+    // How the command ended that printed a file that was offered, or a program.
     fn other_end(&mut self, child: u8) -> Answer
         ensures { answers_wait result ≡ true }
     {
