@@ -18,7 +18,7 @@ use Rattle.ados_flow.specs.declared.tests.Test.{Test}
 use Rattle.ados_flow.specs.declared.tests.Test.TheVariants.{Warn, Error, Fail, Equal, Greater, GreaterOrEqual, Exists}
 use Rattle.ados_flow.specs.Actions.{codes_action}
 use Rattle.ados_flow.specs.Branches.{if_action, if_row}
-use Rattle.ados_flow.specs.Execute.{execute_file, script_at, script_by_word, script_place, script_read, script_row}
+use Rattle.ados_flow.specs.Execute.{execute_file, script_by_word, script_place, script_read, script_row}
 use Rattle.ados_flow.specs.Frames.{ScriptLine}
 use Rattle.ados_flow.specs.Rows.{row_of}
 use Rattle.ados_flow.specs.Tests.{exists, holds, test_of}
@@ -49,13 +49,13 @@ read-ignores : (shared : SharedState) (place : Place) (args : Text) (read : Resu
 read-ignores shared place args (Err fault) = λ view names uses. refl
 read-ignores shared place args (Ok bytes) = λ view names uses. refl
 
-pub script-ignores : (shared : SharedState) (place : Place) (args : Text) → IgnoresShells (λ view. script_row shared view place args)
+pub script-ignores : (shared : SharedState) (args : Text) (place : Place) → IgnoresShells (λ view. script_row shared view args place)
 unfolding script_row
-script-ignores shared place args = λ view names uses. read-ignores shared place args (read_result shared.files view.busy.outputs place) view names uses
+script-ignores shared args place = λ view names uses. read-ignores shared place args (read_result shared.files view.busy.outputs place) view names uses
 
-at-ignores : (shared : SharedState) (args : Text) (place : Result Place Codes) → IgnoresShells (λ view. if_found (codes_action shared) place (script_at shared view args))
+at-ignores : (shared : SharedState) (args : Text) (place : Result Place Codes) → IgnoresShells (λ view. if_found (codes_action shared) place (script_row shared view args))
 at-ignores shared args (Err codes) = λ view names uses. refl
-at-ignores shared args (Ok place) = script-ignores shared place args
+at-ignores shared args (Ok place) = script-ignores shared args place
 
 word-ignores : (shared : SharedState) (word args : Text) (place : Result Place Codes) → IgnoresShells (λ view. if_found (codes_action shared) place (script_by_word shared view word args))
 word-ignores shared word args (Err codes) = λ view names uses. refl

@@ -43,17 +43,14 @@ abbrev pub script_read : SharedState → View → Place → Text → Result Byte
 script_read shared view place args (Err fault) = codes_action shared (error_codes fault)
 script_read shared view place args (Ok bytes) = call_of_lines shared (full_path shared.files place) (script_of (lines_of bytes) args (decimal view.parts.number))
 
--- the call of the script at a place, with these arguments: it is read, and its arguments are put in
-unfoldable pub script_row : SharedState → View → Place → Text → Action
-script_row shared view place args = script_read shared view place args (read_result shared.files view.busy.outputs place)
+-- the call with these arguments of the script at a place: it is read, and its arguments are put in
+unfoldable pub script_row : SharedState → View → Text → Place → Action
+script_row shared view args place = script_read shared view place args (read_result shared.files view.busy.outputs place)
 
 -- the script of a word that leads to a place
-abbrev pub script_at : SharedState → View → Text → Place → Action
-script_at shared view args place = script_row shared view place args
-
 abbrev pub script_by_word : SharedState → View → Text → Text → Place → Action
 script_by_word shared view word args place =
-    if_found (codes_action shared) (script_place shared view.parts.directory word place) (script_at shared view args)
+    if_found (codes_action shared) (script_place shared view.parts.directory word place) (script_row shared view args)
 
 abbrev pub execute_file : SharedState → View → Text → Text → Action
 execute_file shared view args word = if_found (codes_action shared) (place_of shared view.parts.directory word) (script_by_word shared view word args)

@@ -112,7 +112,7 @@ pub fn call_script(
     place: &Place,
     args: &[u8],
 ) -> Result<Action, NoMemory>
-    ensures { IfOk result (λ action. action_effect shared.now action ≡ script_row shared.now view.now place.now args.now) }
+    ensures { IfOk result (λ action. action_effect shared.now action ≡ script_row shared.now view.now args.now place.now) }
 {
     match shared.ram.read(&view.busy, place) {
         Err(fault) => Ok(Action::answering(alloc, Codes::erred(fault))),

@@ -57,7 +57,7 @@ impl Draft {
     ) -> Result<Action, NoMemory>
         requires { IsUnset self.now }
         ensures { IfOk result (λ action. action_effect (course_of scene.now self.now).shared action
-            ≡ script_row (course_of scene.now self.now).shared (nameless_view (option_copied target.entry) (course_of scene.now self.now)) place.now line.now.args) }
+            ≡ script_row (course_of scene.now self.now).shared (nameless_view (option_copied target.entry) (course_of scene.now self.now)) line.now.args place.now) }
     {
         let others = Others {
             busy: self.in_use(scene, target)?,

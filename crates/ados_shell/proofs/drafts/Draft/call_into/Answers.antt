@@ -21,4 +21,4 @@ returns c =
     (line_output (course_of scene before) line.output) c.act.result
     (subst (λ o. HasOpened scene before opened o (Ok target) (line_output (course_of scene before) o)) c.as_ref.ensures.value c.in_ok-target.ensures)
     (subst (λ a. HasEnded scene opened c.act.new.self line.command c.act.result (action_completion line.command target None a here course))
-    (c.in_ok-action.ensures ∙ ap (λ o. script_row course.shared (nameless_view o course) c.args.place.now line.args) c.as_ref-2.ensures.value) c.act.ensures)
+    (c.in_ok-action.ensures ∙ ap (λ o. script_row course.shared (nameless_view o course) line.args c.args.place.now) c.as_ref-2.ensures.value) c.act.ensures)
