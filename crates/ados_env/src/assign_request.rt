@@ -1,6 +1,6 @@
 // What Assign is given besides NAME, and what is wrong with it.
 ghost use Rattle.std.specs.Prelude.{◌≡◌, IfOk};
-ghost use Rattle.ados_env.specs.AssignRequest.{are_two, changes_list, fault_if, has_target, keeps_text, request_fault, request_of, targets_fault};
+ghost use Rattle.ados_env.specs.AssignRequest.{are_two, changes_list, has_target, keeps_text, request_fault, request_of, targets_fault};
 
 use ados_find::Codes;
 use ados_readargs::Args;

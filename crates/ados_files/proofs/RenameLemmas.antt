@@ -4,7 +4,6 @@ use Rattle.ados_text.specs.declared.codes.Result2.{Result2}
 use Rattle.ados_find.specs.Codes.{went_well}
 use Rattle.ados_find.specs.Effects.{codes_effect, unless_refused}
 use Rattle.ados_find.specs.Shared.{SharedState, after_rename}
-use Rattle.ados_find.specs.Views.{View}
 use Rattle.ados_files.specs.Rename.{rename_effect}
 
 pub renamed-is : (shared : SharedState) (from to : List (List ℕ)) (fault : Option Result2) → fault ≡ None

@@ -1,10 +1,9 @@
 -- Dir: what is in a directory, with its directories first.
 use Rattle.std.specs.Prelude.{Bool, cond, List, [], ◌∷◌, ◌++◌, codes, Option, Some, None, Result, Ok, if◌then◌else◌}
-use Rattle.std.specs.FinMap as map
 use Rattle.ados_text.specs.Text.{Bytes, Text}
 use Rattle.ados_readargs.specs.declared.args.Arg.{Arg}
 use Rattle.ados_readargs.specs.Args.{option_text, has_switch}
-use Rattle.ados_ram.specs.Place.{Place, key_of}
+use Rattle.ados_ram.specs.Place.{Place}
 use Rattle.ados_ram.specs.Entry.{is_directory}
 use Rattle.ados_ram.specs.Files.{Files}
 use Rattle.ados_ram.specs.FileOperations.{list_fault}

@@ -2,7 +2,6 @@
 use Rattle.std.specs.Prelude.{List, [], ◌∷◌, ◌++◌, take, drop, Bool, true, false, cond, Option, Some, None, Result, Ok, Err}
 use Rattle.std.specs.FinMap as map
 use Rattle.ados_text.specs.Text.{Text}
-use Rattle.ados_text.specs.declared.codes.Result2.{Result2}
 use Rattle.ados_text.specs.declared.codes.TheConstants.Result2.{LINE_TOO_LONG, DIRECTORY_NOT_FOUND, OBJECT_NOT_FOUND, INVALID_NAME, WRONG_TYPE, NO_FREE_STORE}
 use Rattle.ados_pattern.specs.Form.{Form}
 use Rattle.ados_pattern.specs.Meaning.{Meaning, meaning_of}

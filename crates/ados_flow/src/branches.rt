@@ -8,7 +8,7 @@ ghost use Rattle.ados_find.specs.Shared.{SharedState};
 ghost use Rattle.ados_readargs.specs.Args.{has_switch, option_text};
 ghost use Rattle.ados_script.specs.Skips.{skip as skip_of};
 ghost use Rattle.ados_flow.specs.Actions.{Does, action_effect};
-ghost use Rattle.ados_flow.specs.Branches.{if_action, else_row, if_row, jump_action, skip_row};
+ghost use Rattle.ados_flow.specs.Branches.{else_row, if_row, jump_action, skip_row};
 ghost use Rattle.ados_flow.specs.Frames.{script_line_of};
 
 use crate::actions::Action;

@@ -1,10 +1,9 @@
 // The devices that the arguments of a command use.
-ghost use Rattle.std.specs.Prelude.{◌≡◌, ◌++◌, Ok, OnOk, IfOk};
+ghost use Rattle.std.specs.Prelude.{◌≡◌, ◌++◌, OnOk, IfOk};
 ghost use Rattle.std.specs.List.{flat_map};
 ghost use Rattle.ados_assign.specs.Uses.{reached_devices};
-ghost use Rattle.ados_readargs.specs.Args.{option_text, option_texts};
+ghost use Rattle.ados_readargs.specs.Args.{option_text};
 ghost use Rattle.ados_find.specs.Paths.{place_of};
-ghost use Rattle.ados_find.specs.Search.{device_named};
 ghost use Rattle.ados_flow.specs.Devices.{devices_of, is_absent, script_devices};
 
 use ados_find::{Refusal, Shared, ShellView, is_path, place_of};

@@ -1,5 +1,5 @@
 // A line that runs alone, in a shell that is opened for it.
-ghost use Rattle.std.specs.Prelude.{◌≡◌, ◌<◌, ◌≤◌, ◌++◌, List, length, Ok, None, true, is_some, IfErr, IfSome, OnOk, OnErr};
+ghost use Rattle.std.specs.Prelude.{◌≡◌, ◌<◌, ◌≤◌, ◌++◌, List, length, None, true, is_some, IfErr, IfSome, OnOk, OnErr};
 ghost use Rattle.ados_machine.specs.Numbers.{free_number};
 ghost use Rattle.ados_machine.specs.World.{numbered_shell};
 ghost use Rattle.ados_world.specs.Opened.{opening_fault};

@@ -12,7 +12,7 @@ use Rattle.ados_machine.specs.Children.{child_of_shell, child_in, is_launchers}
 use Rattle.ados_machine.specs.Laws.{TurnsKeepChildren}
 use Rattle.ados_machine.specs.Settle.{TurnResult}
 use Rattle.ados_machine.specs.Shells.{ShellState}
-use Rattle.ados_machine.specs.Step.{Response, Refused, Accepted, moved_at_turn, shell_ended, turn_taken, start, course_without_flag, turning_response, turn_response, break_response, typing_response, step_of}
+use Rattle.ados_machine.specs.Step.{Response, Refused, Accepted, moved_at_turn, shell_ended, turn_taken, start, course_without_flag, turning_response, turn_response, break_response, step_of}
 use Rattle.ados_machine.specs.Turning.{Turning, Refuses, Ends, Takes, flagged_turning}
 use Rattle.ados_machine.specs.World.{WorldState, numbered_shell, input_of}
 use Rattle.ados_machine.proofs.Shells.{broken_for, found-broken, found, found-set_same, found-set_other, found-left, runs_pos}

@@ -19,7 +19,7 @@ use Rattle.ados_machine.specs.Numbers.{free_number}
 use Rattle.ados_machine.specs.Runs.{resulting_world}
 use Rattle.ados_machine.specs.Settle.{TurnResult}
 use Rattle.ados_machine.specs.Shells.{ShellStart, begun_shell, ShellState}
-use Rattle.ados_machine.specs.Step.{Response, Refused, Accepted, with_begun, is_done, shell_after_turn, codes_of_ended, moved_at_turn, start, course_without_flag, turning_response, turn_response, answer_response, break_response, typing_response, step_of}
+use Rattle.ados_machine.specs.Step.{Response, Refused, Accepted, with_begun, is_done, shell_after_turn, codes_of_ended, moved_at_turn, start, course_without_flag, turning_response, turn_response, answer_response, break_response, step_of}
 use Rattle.ados_machine.specs.Trace.{items_after, trace, own}
 use Rattle.ados_machine.specs.Turning.{Turning, Refuses, Ends, Takes, flagged_turning, turning_of_answer}
 use Rattle.ados_machine.specs.World.{WorldState, input_of, codes_at}

@@ -23,7 +23,7 @@ use Rattle.ados_machine.specs.Numbers.{free_number}
 use Rattle.ados_machine.specs.Settle.{TurnResult, frames_at_line, said_of, turn_of_completion}
 use Rattle.ados_machine.specs.Shells.{ShellStart, begun_shell, ShellState}
 use Rattle.ados_machine.specs.Sinks.{Sink, newest_sink}
-use Rattle.ados_machine.specs.Step.{Response, Refused, Accepted, shell_of_turn, with_begun, is_done, shell_after_turn, moved_at_turn, turn_taken, shell_ended, start, course_without_flag, turning_response, turn_response, answer_response, break_response, typing_response, step_of}
+use Rattle.ados_machine.specs.Step.{Response, Refused, Accepted, shell_of_turn, with_begun, is_done, shell_after_turn, moved_at_turn, turn_taken, shell_ended, start, course_without_flag, turning_response, turn_response, answer_response, break_response, step_of}
 use Rattle.ados_machine.specs.Turning.{Turning, Refuses, Ends, Takes, flagged_turning, turning_of_completion}
 use Rattle.ados_machine.specs.World.{WorldState, numbered_shell, input_of}
 use Rattle.ados_machine.proofs.AskedTurns.{flagged-refused}

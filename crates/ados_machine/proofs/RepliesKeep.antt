@@ -1,5 +1,5 @@
 -- An answer of a launcher keeps the number of its shell, and its parts unless a command answers.
-use Rattle.std.proofs.Common.{ℕ, ◌-◌, List, Option, Some, None, Result, Ok, Err, refl, inl, inr}
+use Rattle.std.proofs.Common.{ℕ, List, Option, Some, None, Result, Ok, Err, refl, inl, inr}
 use Rattle.std.proofs.lemmas.Bool.{cases_Bool}
 use Rattle.ados_text.specs.declared.codes.Result2.{Result2}
 use Rattle.ados_line.specs.declared.lines.Expanded.TheVariants.{Ready}

@@ -10,7 +10,7 @@ use Rattle.ados_machine.specs.declared.refusals.Refusal.{Refusal}
 use Rattle.ados_machine.specs.declared.refusals.Refusal.TheVariants.{Over, NoSuchShell, NotReady, QueueFull, LineTooLong}
 use Rattle.ados_machine.specs.Shells.{ShellState}
 use Rattle.ados_machine.specs.World.{WorldState, numbered_shell, is_over}
-use Rattle.ados_machine.specs.Step.{Response, Refused, Accepted, event_out, queue_limit, turn_response, answer_response, break_response, typing_response, end_of_input, event_response, step_of}
+use Rattle.ados_machine.specs.Step.{Response, Refused, Accepted, event_out, queue_limit, turn_response, answer_response, break_response, event_response, step_of}
 
 -- what is to be shown of an event and its response: of a refusal, of what is typed, of the end of the input, and of an event of a
 -- shell that runs

@@ -13,7 +13,7 @@ use Rattle.ados_machine.specs.declared.refusals.Refusal.{Refusal}
 use Rattle.ados_machine.specs.Shells.{ShellState}
 use Rattle.ados_machine.specs.Turning.{Turning, Refuses, Ends, Takes, flagged_turning, turning_of_answer}
 use Rattle.ados_machine.specs.World.{WorldState, numbered_shell, input_of}
-use Rattle.ados_machine.specs.Step.{Response, Refused, Accepted, moved_at_turn, start, course_without_flag, turning_response, turn_response, answer_response, break_response, typing_response, step_of}
+use Rattle.ados_machine.specs.Step.{Response, Refused, Accepted, moved_at_turn, start, course_without_flag, turning_response, turn_response, answer_response, break_response, step_of}
 use Rattle.ados_machine.specs.Runs.{resulting_world}
 use Rattle.ados_machine.specs.Trace.{items_after, own}
 use Rattle.ados_machine.specs.Stacks.{stack_of, standing_of}

@@ -1,6 +1,6 @@
 -- If the children of all numbers are in the states that the world has for them, the world and the list agree: no shell has
 -- another number.
-use Rattle.std.proofs.Common.{◌≡◌, ◌≢◌, ◌≤◌, ◌+◌, ℕ, zero, suc, List, Bool, None, refl, sym, ap, subst, ◌∙◌, length, nat_lt, arith, inl, inr}
+use Rattle.std.proofs.Common.{◌≡◌, ◌≢◌, ◌≤◌, ◌+◌, ℕ, zero, suc, List, Bool, refl, sym, ap, subst, ◌∙◌, length, nat_lt, arith, inl, inr}
 use Rattle.std.specs.Prelude.{if◌then◌else◌}
 use Rattle.std.proofs.lemmas.Bool.{cases_Bool, cases_eq}
 use Rattle.std.proofs.lemmas.Grind.{common_steps}

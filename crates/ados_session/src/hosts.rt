@@ -3,7 +3,6 @@ ghost use Rattle.std.specs.Prelude.{◌≡◌, ◌++◌, ◌∷◌, ◌&&◌, []
 ghost use Rattle.ados_text.specs.Lines.{lines_of};
 ghost use Rattle.ados_session.specs.Faults.{IsFault};
 ghost use Rattle.ados_session.specs.Hosts.{are_hosts, are_free, host_line, parsed_hosts, is_comment, is_host_line};
-ghost use Rattle.ados_session.specs.declared.hosts.HostLine.TheVariants.{Host};
 
 use crate::faults::FileFault;
 use crate::parts::text_of;

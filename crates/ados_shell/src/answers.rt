@@ -1,6 +1,5 @@
 // Answers of a launcher, for a shell that waits for one.
 ghost use Rattle.std.specs.Prelude.{◌≡◌, IfOk, OnErr, OnOk, is_some, true};
-ghost use Rattle.std.specs.Option.{option_copied};
 ghost use Rattle.ados_machine.specs.Answers.{answered_completion, answered_in, code_of, ended_completion, output_fault, is_piece, piece_completion, started_completion};
 ghost use Rattle.std.specs.Prelude.{None};
 ghost use Rattle.ados_machine.specs.Opening.{line_output};

@@ -1,7 +1,7 @@
 // The code rule: when a frame ends, and what its end is to the command that made it.
 ghost use Rattle.std.specs.Prelude.{◌≡◌, IfOk, OnOk};
 ghost use Rattle.ados_shell.specs.Completions.{line_after};
-ghost use Rattle.ados_machine.specs.Settled.{finish, pass_line};
+ghost use Rattle.ados_machine.specs.Settled.{finish};
 ghost use Rattle.ados_machine.specs.Completions.{Answers, Calls, Jumps, Passes, refusal_completion};
 ghost use Rattle.ados_machine.specs.Settle.{enter_script, said_of};
 ghost use Rattle.ados_shell.specs.Reports.{report_of};

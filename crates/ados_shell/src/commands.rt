@@ -3,7 +3,6 @@ ghost use Rattle.std.specs.Prelude.{◌≡◌, ◌++◌, map, IfOk, OnOk};
 ghost use Rattle.std.specs.List.{flat_map};
 ghost use Rattle.ados_assign.specs.Uses.{reached_devices};
 ghost use Rattle.ados_machine.specs.Uses.{argument_devices, devices_of};
-ghost use Rattle.ados_find.specs.Shared.{SharedState};
 ghost use Rattle.ados_machine.specs.Commands.{action_of, row_of, template_of};
 ghost use Rattle.std.specs.Option.{option_copied};
 ghost use Rattle.ados_flow.specs.Actions.{action_effect};

@@ -1,5 +1,5 @@
 // How a line ends whose command was found, and what that does to the frames.
-ghost use Rattle.std.specs.Prelude.{◌≡◌, false, IfOk, OnOk};
+ghost use Rattle.std.specs.Prelude.{◌≡◌, IfOk, OnOk};
 
 use crate::drafts::Draft;
 use crate::scenes::Scene;

@@ -1,5 +1,5 @@
 // The frames of a shell, as a turn changes them.
-ghost use Rattle.std.specs.Prelude.{◌≡◌, ◌∷◌, ◌++◌, [], List, length, nat_le, reverse, IfOk, OnOk};
+ghost use Rattle.std.specs.Prelude.{◌≡◌, ◌∷◌, ◌++◌, List, length, nat_le, reverse, IfOk, OnOk};
 ghost use Rattle.std.specs.Option.{option_copied};
 ghost use Rattle.ados_flow.specs.Frames.{FrameState, frame_limit, limit_above_frames};
 ghost use Rattle.ados_machine.specs.Shells.{ShellState};

@@ -1,5 +1,5 @@
 //! Stand-ins: empty files of the Shell in place of files of this machine that are too large for it.
-ghost use Rattle.std.specs.Prelude.{◌≡◌, ◌&&◌, true, not};
+ghost use Rattle.std.specs.Prelude.{◌≡◌, ◌&&◌, not};
 ghost use Rattle.std.specs.Option.{option_copied};
 ghost use Rattle.ados_transfer.specs.StandIns.{is_empty, is_stand_in, own_entry, next_watch};
 

@@ -1,5 +1,5 @@
 -- What an answer or a break changes is the machine's world after it.
-use Rattle.std.proofs.Common.{◌≡◌, ◌∙◌, ◌-◌, ℕ, List, [], false, Option, Some, None, Ok, Err, ap, sym, refl, subst}
+use Rattle.std.proofs.Common.{◌≡◌, ◌∙◌, ℕ, List, [], false, Option, Some, None, Ok, Err, ap, sym, refl, subst}
 use Rattle.std.specs.Prelude.{true, is_some, if◌then◌else◌}
 use Rattle.std.specs.Borrow.{Bor}
 use Rattle.std.specs.Option.{option_copied}
@@ -24,7 +24,7 @@ use Rattle.ados_shell.specs.declared.scenes.Scene.{Scene}
 use Rattle.ados_shell.specs.declared.turnings.Turning.TheVariants as turn
 use Rattle.ados_shell.specs.Turnings.{IsTurning, MayWantMemory}
 use Rattle.ados_world.specs.Scenes.{Shows}
-use Rattle.ados_world.specs.Steps.{step_answer, draft_out, world_after_turn}
+use Rattle.ados_world.specs.Steps.{draft_out, world_after_turn}
 use Rattle.ados_world.proofs.StepLemmas.{start_in, Accepts, goes}
 
 -- the machine's answering of a shell, by what the scene shows

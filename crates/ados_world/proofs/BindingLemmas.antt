@@ -7,7 +7,7 @@ use Rattle.ados_machine.specs.declared.events.Event.TheVariants.{Turn, Answer}
 use Rattle.ados_machine.specs.declared.outs.Out.{Out}
 use Rattle.ados_machine.specs.Runs.{IsAnswer, resulting_world}
 use Rattle.ados_machine.specs.Shells.{ShellState}
-use Rattle.ados_machine.specs.Step.{Response, Refused, Accepted, answer_response, turning_response, break_response, start, step_of, turn_response, typing_response, course_without_flag}
+use Rattle.ados_machine.specs.Step.{Response, Refused, Accepted, answer_response, turning_response, start, step_of, turn_response, course_without_flag}
 use Rattle.ados_machine.specs.Turning.{Turning, Refuses, Ends, Takes, turning_of_answer, flagged_turning}
 use Rattle.ados_machine.specs.World.{WorldState, input_of, numbered_shell}
 use Rattle.ados_machine.proofs.BindingLemmas.{binds-only}

@@ -1,5 +1,5 @@
 -- Reports are about a break exactly when a turn finds a flag.
-use Rattle.std.proofs.Common.{◌≡◌, ◌∙◌, ◌++◌, ℕ, zero, suc, List, [], ◌∷◌, length, Bool, true, false, ◌&&◌, Option, Some, None, Result, Ok, Err, refl, sym, ap, inl, inr}
+use Rattle.std.proofs.Common.{◌≡◌, ◌∙◌, ℕ, zero, suc, List, [], ◌∷◌, length, true, false, Option, Some, None, Result, Ok, Err, refl, sym, ap, inl, inr}
 use Rattle.std.specs.Prelude.{IfOk, nat_lt}
 use Rattle.std.proofs.lemmas.Bool.{and_parts, cases_Bool}
 use Rattle.std.proofs.lemmas.List.{append-nil}
@@ -18,9 +18,9 @@ use Rattle.ados_machine.specs.Laws.{finds_flag, has_break, is_breakable}
 use Rattle.ados_machine.specs.Runs.{IsAnswer, Runs, resulting_world}
 use Rattle.ados_machine.specs.Settled.{RuleState, RuleResult, after_break, with_items_first, end_at_break}
 use Rattle.ados_machine.specs.Shells.{ShellState}
-use Rattle.ados_machine.specs.Step.{Response, Refused, Accepted, turning_response, event_response, start, step_of, turn_response, course_without_flag}
-use Rattle.ados_machine.specs.Trace.{ends_in, trace}
-use Rattle.ados_machine.specs.Turning.{Input, Turning, Refuses, Ends, Takes, flagged_turning, turning_at_break, turning_in_phase}
+use Rattle.ados_machine.specs.Step.{Response, Refused, Accepted, turning_response, start, step_of, turn_response, course_without_flag}
+use Rattle.ados_machine.specs.Trace.{ends_in}
+use Rattle.ados_machine.specs.Turning.{Input, Turning, Refuses, Ends, Takes, turning_at_break, turning_in_phase}
 use Rattle.ados_machine.specs.World.{WorldState, input_of, is_over, numbered_shell}
 use Rattle.ados_machine.proofs.BreakLemmas.{breaks-end}
 use Rattle.ados_machine.proofs.Ends.{reports-hold}

@@ -1,5 +1,5 @@
 -- What a turn changes, moved in, is the machine's world after the turn.
-use Rattle.std.proofs.Common.{◌≡◌, ◌∙◌, ◌-◌, ◌++◌, ℕ, List, [], false, Option, Some, None, Result, Ok, Err, IfErr, OnErr, OnOk, drop, ap, sym, refl, subst}
+use Rattle.std.proofs.Common.{◌≡◌, ◌∙◌, ◌++◌, ℕ, List, [], false, Option, Some, None, Result, Ok, Err, IfErr, OnErr, OnOk, drop, ap, sym, refl, subst}
 use Rattle.std.specs.Prelude.{◌==◌, if◌then◌else◌}
 use Rattle.std.proofs.Common.{inl, inr}
 use Rattle.std.proofs.lemmas.Bool.{cases_Bool}

@@ -1,5 +1,5 @@
 -- The shells that run from an entry are its uses.
-use Rattle.std.proofs.Common.{◌≡◌, ℕ, ◌+◌, List, [], ◌∷◌, Option, Some, None, refl, ap, inl, inr, length, suc}
+use Rattle.std.proofs.Common.{◌≡◌, List, [], ◌∷◌, Option, Some, None, refl, ap, inl, inr, length, suc}
 use Rattle.std.specs.List.{filter}
 use Rattle.std.proofs.lemmas.Bool.{cases_Bool}
 use Rattle.ados_text.specs.Text.{Text, is_same}
@@ -7,7 +7,7 @@ use Rattle.ados_resident.specs.Residents.{count_of}
 use Rattle.ados_machine.specs.Course.{uses_of, with_use}
 use Rattle.ados_machine.specs.Shells.{ShellState, entry_in}
 use Rattle.ados_machine.specs.World.{seen_shells}
-use Rattle.ados_world.specs.Shells.{is_entry, runs_from}
+use Rattle.ados_world.specs.Shells.{runs_from}
 
 counts-one : (entry : Option Text) (shell : ShellState) (shells : List (Option ShellState)) (name : Text) → entry_in shell.phase ≡ entry →
     length (filter (λ place. runs_from place name) shells) ≡ count_of (uses_of (seen_shells shells)) name →

@@ -1,5 +1,5 @@
 -- Binding at the calls: what the end of an event does to assigns.
-use Rattle.std.specs.Prelude.{◌≡◌, ℕ, IfSome}
+use Rattle.std.specs.Prelude.{◌≡◌, IfSome}
 use Rattle.ados_find.specs.Shared.{SharedState}
 use Rattle.ados_machine.specs.declared.events.Event.{Event}
 use Rattle.ados_machine.specs.declared.events.Event.TheVariants.{Turn, Answer}

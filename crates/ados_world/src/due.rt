@@ -1,5 +1,5 @@
 // Which shells are due, as two words with a bit for each number.
-ghost use Rattle.std.specs.Prelude.{◌≡◌, ◌≢◌, ◌<◌, ◌≤◌, ℕ, false, IfSome};
+ghost use Rattle.std.specs.Prelude.{◌≡◌, ◌≢◌, ◌≤◌, ℕ, false, IfSome};
 ghost use Rattle.std.specs.Option.{option_copied};
 ghost use Rattle.ados_machine.specs.World.{at_number, flatten};
 ghost use Rattle.ados_world.specs.Due.{asks_now, first_number, is_set, takes_turns};

@@ -1,5 +1,5 @@
 // The typed lines that wait for shell 1.
-ghost use Rattle.std.specs.Prelude.{◌≡◌, [], ◌∷◌, ◌++◌, IfErr, OnErr, OnOk};
+ghost use Rattle.std.specs.Prelude.{◌≡◌, [], IfErr, OnErr, OnOk};
 ghost use Rattle.std.specs.Option.{option_copied};
 ghost use Rattle.ados_machine.specs.World.{has_input, input_of};
 ghost use Rattle.ados_machine.specs.Step.{Accepted, Refused, typing_response, end_of_input, event_out};

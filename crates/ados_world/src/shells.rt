@@ -1,5 +1,5 @@
 // The shells of a world, by their numbers.
-ghost use Rattle.std.specs.Prelude.{◌≡◌, None, map, length, replicate, is_some, IfOk, OnErr, OnOk, OnSome, true};
+ghost use Rattle.std.specs.Prelude.{◌≡◌, None, map, length, replicate, is_some, OnErr, OnOk, OnSome, true};
 ghost use Rattle.std.specs.List.{filter, list_any};
 ghost use Rattle.std.specs.Option.{option_copied};
 ghost use Rattle.ados_machine.specs.World.{flatten, at_number};

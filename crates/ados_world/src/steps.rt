@@ -1,5 +1,5 @@
 // The step: what an event makes of a world.
-ghost use Rattle.std.specs.Prelude.{◌≡◌, ℕ, [], drop, false, Err, IfErr, IfOk, OnErr, OnOk, is_some, true};
+ghost use Rattle.std.specs.Prelude.{◌≡◌, ℕ, [], drop, false, IfErr, IfOk, OnErr, OnOk, is_some, true};
 ghost use Rattle.ados_machine.specs.Given.{request_after_event};
 ghost use Rattle.ados_machine.specs.InUse.{asks, entry_of, outputs_held, runs_program};
 ghost use Rattle.ados_machine.specs.Laws.{finds_flag};

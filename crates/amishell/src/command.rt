@@ -1,5 +1,5 @@
 //! The program's command line, in `clap`'s words.
-ghost use Rattle.std.specs.Prelude.{◌≡◌, map, false, true, IfOk};
+ghost use Rattle.std.specs.Prelude.{◌≡◌, map, false, IfOk};
 ghost use Rattle.clap.specs.Simple.{app_of, subcommand_of, subcommand_rows_of};
 ghost use Rattle.clap.specs.Kinds.{FailsBy};
 ghost use Rattle.clap.specs.Faults.{fault_of};

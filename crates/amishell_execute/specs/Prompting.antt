@@ -1,5 +1,5 @@
 -- What is visible of the reader that gives the prepared lines.
-use Rattle.std.specs.Prelude.{◌≡◌, ℕ, Bool, true, false, List}
+use Rattle.std.specs.Prelude.{◌≡◌, ℕ, Bool, true, List}
 use Rattle.std.specs.List.{list_all}
 use Rattle.ados_machine.specs.World.{WorldState}
 use Rattle.ados_transfer.specs.declared.planned.Planned.{Planned}

@@ -1,6 +1,6 @@
 //! The run of a script.
 
-ghost use Rattle.std.specs.Prelude.{◌≡◌, ◌<◌, ◌^◌, ◌-◌, []};
+ghost use Rattle.std.specs.Prelude.{◌<◌, ◌^◌, ◌-◌, []};
 ghost use Rattle.ados_launch.specs.Agreement.{Agrees};
 ghost use Rattle.ados_launch.specs.Leads.{Reaches};
 

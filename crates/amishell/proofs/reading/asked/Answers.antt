@@ -1,4 +1,4 @@
-use Rattle.std.proofs.Common.{◌≡◌, subst, ap, inr, map}
+use Rattle.std.proofs.Common.{subst, ap, inr, map}
 use Rattle.clap.specs.Values.{kind_of}
 use Rattle.amishell.specs.Asked.{AsksNothing}
 use Rattle.amishell.proofs.RefusalLemmas.{refused, no_words_refused}
