@@ -1,14 +1,13 @@
 -- where a comment begins, one item after another
-use Rattle.std.proofs.Common.{ℕ, zero, suc, ◌+◌, ◌<◌, ◌≤◌, ◌==◌, ◌≡◌, ◌∙◌, ◌&&◌, List, [], ◌∷◌, Bool, Option, Some, None, true, false, length, drop, refl, subst, ap, sym, arith}
+use Rattle.std.proofs.Common.{ℕ, zero, suc, ◌+◌, ◌<◌, ◌≤◌, ◌==◌, ◌≡◌, List, [], ◌∷◌, Option, Some, None, true, false, length, drop, refl, subst, ap, sym, arith}
 use Rattle.std.specs.List.{list_any}
 use Rattle.std.specs.List.{prefix_len}
 use Rattle.std.proofs.lemmas.Bool.{cond_both, eqb-true}
 use Rattle.std.proofs.lemmas.List.{drop_all, take_all}
-use Rattle.ados_items.specs.Items.{is_blank, is_word_byte, closing_place, quoted_item, item_by_first, item_at}
+use Rattle.ados_items.specs.Items.{is_blank, closing_place, quoted_item, item_by_first, item_at}
 use Rattle.ados_items.specs.declared.items.Item.{Item}
 use Rattle.ados_items.specs.declared.items.Item.TheVariants.{Word, Quoted, Equal, End, Unmatched}
 use Rattle.ados_items.proofs.ItemLemmas.{IsAtEnd, StandsAfter, item-at-end, item-after}
-use Rattle.ados_line.specs.Pieces.{EndsAt}
 use Rattle.ados_line.specs.Comment.{comment_after_item, comment_search, comment_start, without_comment, StopsAt, StandUpTo, IsDropped, IsUpToComment}
 
 pub comment_from-item : (n : ℕ) (line : List ℕ) (place : ℕ) (item : Item) → item ≡ item_at true line place

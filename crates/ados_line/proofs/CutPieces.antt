@@ -1,5 +1,5 @@
 -- the cut of a line is its pieces, or the first fault
-use Rattle.std.proofs.Common.{ℕ, zero, suc, ◌+◌, ◌-◌, ◌<◌, ◌≤◌, ◌≡◌, ◌∙◌, List, ◌++◌, true, false, ◌||◌, Option, Some, None, Result, Ok, Err, IfOk, length, drop, refl, ap, sym, subst, arith, append_assoc, append-nil, inl, inr}
+use Rattle.std.proofs.Common.{ℕ, zero, suc, ◌+◌, ◌<◌, ◌≤◌, ◌≡◌, ◌∙◌, List, ◌++◌, true, false, ◌||◌, Option, Some, None, Result, Ok, Err, IfOk, length, drop, refl, ap, sym, subst, arith, append_assoc, append-nil, inl, inr}
 use Rattle.std.specs.List.{flat_map}
 use Rattle.std.proofs.lemmas.Bool.{both_ways, cond_both}
 use Rattle.std.proofs.lemmas.List.{length-append, length-drop, drop_all}

@@ -1,4 +1,4 @@
-ghost use Rattle.std.specs.Prelude.{◌≡◌, ◌≤◌, true, false, length, drop, Ok, IfOk, OnOk};
+ghost use Rattle.std.specs.Prelude.{◌≡◌, ◌≤◌, true, length, drop, IfOk, OnOk};
 ghost use Rattle.ados_text.specs.Text.{IsText};
 ghost use Rattle.ados_items.specs.Items.{item_at, value_of, bytes_between, IsWithin};
 ghost use Rattle.ados_line.specs.Cut.{Next, with_piece, with_blanks, with_name, read_name, is_taken, read_redirection, cut_word, cut_item, run_item, cut_item_by_command, is_run, with_rest, nothing_read};

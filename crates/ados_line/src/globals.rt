@@ -2,8 +2,6 @@
 ghost use Rattle.std.specs.Prelude.{◌≡◌, IfOk};
 ghost use Rattle.ados_text.specs.Text.{IsText};
 ghost use Rattle.ados_vars.specs.Locals.{shown_pairs};
-ghost use Rattle.ados_line.specs.Alias.{with_alias};
-ghost use Rattle.ados_line.specs.Comment.{without_comment};
 ghost use Rattle.ados_line.specs.Globals.{asks_beyond, asks_global, is_beyond};
 ghost use Rattle.ados_line.specs.Letters.{letters_of};
 ghost use Rattle.ados_line.specs.Values.{reference};

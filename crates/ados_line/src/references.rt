@@ -1,6 +1,6 @@
 ghost use Rattle.std.specs.Prelude.{◌≡◌, ◌≤◌, length, slice_get, IfSome, IsTrue, ◌<◌};
 ghost use Rattle.std.specs.List.{prefix_len};
-ghost use Rattle.ados_line.specs.Values.{is_name_byte, is_of_name, is_plain, is_this, reference};
+ghost use Rattle.ados_line.specs.Values.{is_of_name, is_plain, is_this, reference};
 
 use crate::letters::Letter;
 
