@@ -8,7 +8,7 @@ use Rattle.ados_line.specs.declared.letters.Letter.{Letter}
 use Rattle.ados_line.specs.declared.letters.Letter.TheVariants.{Plain, Starred}
 use Rattle.ados_line.specs.declared.references.Reference.{Reference}
 use Rattle.ados_line.specs.Letters.{plain_letters, letter_text, letters_of}
-use Rattle.ados_line.specs.Values.{Variables, Segment, Literal, segment_letters, later_letter_count, is_name_byte, is_of_name, is_plain, is_this, braced_reference, bare_reference, reference, name_of, by_value, by_reference, first_segment, segments, values, IsReference, IsSegment, AreSegments, IsInSegments}
+use Rattle.ados_line.specs.Values.{Variables, Segment, Literal, segment_letters, later_letter_count, is_name_byte, is_of_name, is_plain, is_this, braced_reference, bare_reference, reference, name_of, by_value, by_reference, first_segment, letter_segments, values, IsReference, IsSegment, AreSegments, IsInSegments}
 
 -- the segments of a list of characters are those characters
 take-on : (n : ℕ) (ls : List Letter) → take n ls ++ drop (length (take n ls)) ls ≡ ls
@@ -36,7 +36,7 @@ segment-begins v (Plain c) ls =
     (λ _. refl)
 segment-begins v (Starred c) ls = refl
 
-segments-cover : (v : Variables) (taken : ℕ) (ls : List Letter) → flat_map segment_letters (segments v taken ls) ≡ drop taken ls
+segments-cover : (v : Variables) (taken : ℕ) (ls : List Letter) → flat_map segment_letters (letter_segments v taken ls) ≡ drop taken ls
 segments-cover v zero [] = refl
 segments-cover v (suc taken) [] = refl
 segments-cover v (suc taken) (l ∷ ls) = segments-cover v taken ls
@@ -136,7 +136,7 @@ first-known v l ls =
     let P : Segment → Type 0 = λ segment. IsSegment v segment in
     cond_both (is_plain 36 l) (by_reference v l ls (reference ls)) (Literal l) P (λ _. reference-known v l ls (reference ls) refl) (λ _. tt)
 
-segments-known : (v : Variables) (taken : ℕ) (ls : List Letter) → AreSegments v (segments v taken ls)
+segments-known : (v : Variables) (taken : ℕ) (ls : List Letter) → AreSegments v (letter_segments v taken ls)
 segments-known v zero [] = tt
 segments-known v (suc taken) [] = tt
 segments-known v (suc taken) (l ∷ ls) = segments-known v taken ls
@@ -145,6 +145,6 @@ segments-known v zero (l ∷ ls) = (first-known v l ls, segments-known v (later_
 -- a line with its variables expanded is its segments
 pub in_segments : (v : Variables) (line : List ℕ) → IsInSegments v line (values v 0 (letters_of line))
 in_segments v line = (
-  segments v 0 (letters_of line),
+  letter_segments v 0 (letters_of line),
   record { covers = segments-cover v 0 (letters_of line); known = segments-known v 0 (letters_of line); means = refl },
 )

@@ -1,9 +1,10 @@
 -- The variables of a line: it is a list of segments, and each is a character that stands for itself, or a reference that
 -- stands for a value. Values are not expanded again.
-use Rattle.std.specs.Prelude.{◌≡◌, ◌⊎◌, ℕ, zero, suc, ◌+◌, ◌-◌, List, [], ◌∷◌, ◌++◌, length, take, drop, slice_get, Bool, false, ◌==◌, ◌&&◌, ◌||◌, nat_lt, nat_le, Option, Some, None, if◌then◌else◌}
+use Rattle.std.specs.Prelude.{◌≡◌, ◌⊎◌, ℕ, ◌+◌, ◌-◌, List, [], ◌∷◌, ◌++◌, length, take, drop, slice_get, Bool, false, ◌==◌, ◌&&◌, ◌||◌, nat_lt, nat_le, Option, Some, None, if◌then◌else◌}
 use Rattle.std.specs.List.{flat_map, prefix_len}
 use Rattle.std.specs.Option.{option_or}
 use Rattle.ados_text.specs.Text.{Text}
+use Rattle.ados_items.specs.Segments.{joined, segments}
 use Rattle.ados_ram.specs.Files.{Files}
 use Rattle.ados_assign.specs.Assigns.{AssignMap}
 use Rattle.ados_vars.specs.Vars.{Pairs, value_in}
@@ -93,15 +94,12 @@ abbrev pub first_segment : Variables → Letter → List Letter → Segment
 first_segment variables letter rest = if is_plain 36 letter then by_reference variables letter rest (reference rest) else Literal letter
 
 -- the segments of a list of characters, after the `taken` ones that belong to the segment before
-abbrev pub segments : Variables → ℕ → List Letter → List Segment
-segments variables taken [] = []
-segments variables (suc taken) (l ∷ ls) = segments variables taken ls
-segments variables zero (l ∷ ls) =
-    (let segment = first_segment variables l ls in segment ∷ segments variables (later_letter_count segment) ls)
+abbrev pub letter_segments : Variables → ℕ → List Letter → List Segment
+letter_segments variables taken letters = segments (first_segment variables) later_letter_count taken letters
 
 -- what the characters stand for, after the `taken` ones of the segment before
 abbrev pub values : Variables → ℕ → List Letter → Text
-values variables taken letters = flat_map text_of_segment (segments variables taken letters)
+values variables taken letters = joined (first_segment variables) later_letter_count text_of_segment taken letters
 
 -- the characters after the `$` of a reference to a name: the name, or the name in braces
 abbrev pub IsReference : List Letter → Text → Type 0

@@ -1,8 +1,9 @@
 -- A line with its references: it is a sequence of segments, and each is a byte that stands for itself, or a reference that
 -- stands for a value. Values are not read again.
-use Rattle.std.specs.Prelude.{◌≡◌, ◌≢◌, ℕ, zero, suc, ◌+◌, List, [], ◌∷◌, ◌++◌, length, take, ◌==◌, Option, Some, None, position, if◌then◌else◌}
-use Rattle.std.specs.List.{All, flat_map}
+use Rattle.std.specs.Prelude.{◌≡◌, ◌≢◌, ℕ, ◌+◌, [], ◌∷◌, ◌++◌, length, take, ◌==◌, Option, Some, None, position, if◌then◌else◌}
+use Rattle.std.specs.List.{All}
 use Rattle.ados_text.specs.Text.{Text}
+use Rattle.ados_items.specs.Segments.{joined}
 use Rattle.ados_subst.specs.declared.marks.Marks.{Marks}
 use Rattle.ados_subst.specs.References.{References, is_byte}
 
@@ -36,16 +37,9 @@ abbrev pub first_segment : Marks → References → ℕ → Text → Segment
 first_segment marks references c rest =
     if c == marks.bra then segment_by_ket references c rest (position (is_byte marks.ket) rest) else Literal c
 
--- the segments of a line, after the bytes that belong to the segment before, of which `taken` are left
-abbrev pub segments : Marks → References → ℕ → Text → List Segment
-segments marks references taken [] = []
-segments marks references (suc taken) (c ∷ cs) = segments marks references taken cs
-segments marks references zero (c ∷ cs) =
-    (let segment = first_segment marks references c cs in segment ∷ segments marks references (segment_tail_len segment) cs)
-
 -- a line with its references replaced, after the bytes left of the segment before
 abbrev pub segments_text : Marks → References → ℕ → Text → Text
-segments_text marks references taken line = flat_map segment_text (segments marks references taken line)
+segments_text marks references taken line = joined (first_segment marks references) segment_tail_len segment_text taken line
 
 -- A line with its references replaced by what they stand for.
 abbrev pub substituted_line : Marks → References → Text → Text

@@ -1,7 +1,9 @@
 use Rattle.std.proofs.Common.{arith, ◌+◌}
 use Rattle.std.proofs.lemmas.List.{take_rest}
 use Rattle.ados_subst.specs.References.{reference_value}
-use Rattle.ados_subst.proofs.LineLemmas.{taken-one, segment-put, all-put}
+use Rattle.ados_subst.specs.Lines.{first_segment, segment_tail_len, segment_text}
+use Rattle.ados_items.proofs.SegmentLemmas.{taken-one, segment-put}
+use Rattle.ados_subst.proofs.LineLemmas.{all-put}
 use Rattle.ados_subst.proofs.lines.substituted.Goals as goal
 use Rattle.ados_subst.proofs.lines.substituted.Goals.{then-taken-gt0, else-taken-gt0+in_ok-taken}
 
@@ -12,13 +14,13 @@ loop-place-preserved c =
     elim c.if-taken-gt0.branch [
       | then-taken-gt0 w ↦
           rw (w.text-is, w.taken-is) (
-            taken-one m r _ _ _ _ c.args.line.now w.if-taken-gt0.true c.loop-place-test.true c.loop-place.invariant.0,
+            taken-one (first_segment m r) segment_tail_len segment_text _ _ _ _ c.args.line.now 0 w.if-taken-gt0.true c.loop-place-test.true c.loop-place.invariant.0,
             c.next_place-ket.ensures.value,
             c.next_place-dollar.ensures.value,
           )
       | else-taken-gt0+in_ok-taken w ↦
           rw (w.text-is, w.taken-is) (
-            segment-put m r _ _ _ _ _ _ c.args.line.now _ c.loop-place-test.true
+            segment-put (first_segment m r) segment_tail_len segment_text _ _ _ _ _ _ c.args.line.now _ 0 c.loop-place-test.true
                 (take_rest c.args.line.now (c.loop-place.place + 1))
                 (omega (arith, w.if-taken-gt0.false)) c.loop-place.invariant.0 w.in_ok-taken.ensures.0 w.in_ok-taken.ensures.1,
             c.next_place-ket.ensures.value,
