@@ -24,8 +24,7 @@ use Rattle.ados_machine.specs.Step.{break_response, step_of, turn_response, turn
 use Rattle.ados_machine.specs.Runs.{resulting_world}
 use Rattle.ados_machine.specs.declared.answers.Answer.{Answer as Reply}
 use Rattle.ados_machine.specs.declared.outs.Out.{Out}
-use Rattle.ados_machine.specs.declared.phases.Phase.{Phase}
-use Rattle.ados_machine.specs.declared.phases.Phase.TheVariants.{Ready, GoingOn, Waiting}
+use Rattle.ados_machine.specs.Phases.{Phase, Ready, GoingOn, Waiting}
 use Rattle.ados_machine.specs.declared.phases.Wait.TheVariants.{ForAnswer, ForLines, ForStart, ForPiece, ForEnd}
 use Rattle.ados_machine.specs.declared.events.Event.TheVariants.{Typed, Turn, Answer, Break}
 use Rattle.ados_machine.specs.declared.events.Kind.{Kind}

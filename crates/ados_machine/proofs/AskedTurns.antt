@@ -5,8 +5,8 @@ use Rattle.ados_line.specs.declared.lines.Expanded.TheVariants.{Ready}
 use Rattle.ados_line.specs.Expansion.{expand_raw_line, resume_line}
 use Rattle.ados_flow.specs.Gathering.{before_plus}
 use Rattle.ados_flow.specs.Frames.{FrameState, advanced_frame}
-use Rattle.ados_machine.specs.declared.phases.Phase.{Phase}
-use Rattle.ados_machine.specs.declared.phases.Phase.TheVariants as phase
+use Rattle.ados_machine.specs.Phases.{Phase}
+use Rattle.ados_machine.specs.Phases as phase
 use Rattle.ados_machine.specs.declared.phases.Wait.{Wait}
 use Rattle.ados_machine.specs.declared.phases.Wait.TheVariants.{ForAnswer, ForLines, ForStart, ForPiece, ForEnd}
 use Rattle.ados_machine.specs.Course.{Course, with_no_device_used, with_bytes_printed}

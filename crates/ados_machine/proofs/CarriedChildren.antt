@@ -5,8 +5,8 @@ use Rattle.ados_find.specs.declared.outcomes.Breaks.{Breaks}
 use Rattle.ados_find.specs.declared.outcomes.Renamed.{Renamed}
 use Rattle.ados_machine.specs.Breaks.{marked_if, shells_after_break}
 use Rattle.ados_machine.specs.declared.children.ChildState.TheVariants.{Closed}
-use Rattle.ados_machine.specs.declared.phases.Phase.{Phase}
-use Rattle.ados_machine.specs.declared.phases.Phase.TheVariants as phase
+use Rattle.ados_machine.specs.Phases.{Phase}
+use Rattle.ados_machine.specs.Phases as phase
 use Rattle.ados_machine.specs.declared.phases.Wait.TheVariants.{ForAnswer, ForLines, ForStart, ForPiece, ForEnd}
 use Rattle.ados_machine.specs.declared.requests.Request.{Request}
 use Rattle.ados_machine.specs.Carrying.{carried_shells, carried_or_same}

@@ -14,7 +14,7 @@ use Rattle.ados_flow.specs.CodeRule.{is_reached}
 use Rattle.ados_flow.specs.Frames.{FrameState, new_frame, frame_limit, is_over, is_script, frame_at_line, advanced_frame, script_count, limit_above_frames, last_codes, answered_frame}
 use Rattle.ados_machine.specs.declared.answers.Answer.{Answer as Reply}
 use Rattle.ados_machine.specs.declared.phases.Parted.{Parted}
-use Rattle.ados_machine.specs.declared.phases.Phase.TheVariants.{GoingOn, Waiting}
+use Rattle.ados_machine.specs.Phases.{GoingOn, Waiting}
 use Rattle.ados_machine.specs.declared.phases.Wait.{Wait}
 use Rattle.ados_machine.specs.declared.phases.Wait.TheVariants.{ForAnswer, ForLines, ForStart, ForPiece, ForEnd}
 use Rattle.ados_machine.specs.Sinks.{newest_sink}

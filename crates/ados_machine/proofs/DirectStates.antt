@@ -9,8 +9,7 @@ use Rattle.ados_flow.specs.declared.kinds.Kind.TheVariants.{Script, Lines, Tick}
 use Rattle.ados_flow.specs.Frames.{FrameState, is_over, is_script, script_count, kind_script_line, limit_above_frames, last_line, last_codes, is_early, caller_word}
 use Rattle.ados_machine.specs.declared.answers.Answer.{Answer as Reply}
 use Rattle.ados_machine.specs.declared.phases.Parted.{Parted}
-use Rattle.ados_machine.specs.declared.phases.Phase.{Phase}
-use Rattle.ados_machine.specs.declared.phases.Phase.TheVariants.{Ready, GoingOn}
+use Rattle.ados_machine.specs.Phases.{Phase, Ready, GoingOn}
 use Rattle.ados_machine.specs.Sinks.{newest_sink, frame_outputs}
 use Rattle.ados_machine.specs.Names.{name_in}
 use Rattle.ados_machine.specs.Settled.{end_at_break, with_limit, after_end, finish}

@@ -5,8 +5,8 @@ use Rattle.ados_machine.specs.Breaks.{kind_breaks}
 use Rattle.ados_machine.specs.declared.events.Kind.{Kind}
 use Rattle.ados_machine.specs.declared.children.ChildState.TheVariants.{Closed}
 use Rattle.ados_machine.specs.declared.events.Event.{Event}
-use Rattle.ados_machine.specs.declared.phases.Phase.{Phase}
-use Rattle.ados_machine.specs.declared.phases.Phase.TheVariants as phase
+use Rattle.ados_machine.specs.Phases.{Phase}
+use Rattle.ados_machine.specs.Phases as phase
 use Rattle.ados_machine.specs.declared.phases.Wait.TheVariants.{ForAnswer, ForLines, ForStart, ForPiece, ForEnd}
 use Rattle.ados_machine.specs.Children.{child_of_shell, child_in, is_launchers}
 use Rattle.ados_machine.specs.Laws.{TurnsKeepChildren}

@@ -10,8 +10,8 @@ use Rattle.ados_machine.specs.declared.events.Event.{Event}
 use Rattle.ados_machine.specs.declared.events.Kind.{Kind}
 use Rattle.ados_machine.specs.declared.phases.Asking.{Asking}
 use Rattle.ados_machine.specs.declared.phases.Gathering.{Gathering}
-use Rattle.ados_machine.specs.declared.phases.Phase.{Phase}
-use Rattle.ados_machine.specs.declared.phases.Phase.TheVariants as phase
+use Rattle.ados_machine.specs.Phases.{Phase}
+use Rattle.ados_machine.specs.Phases as phase
 use Rattle.ados_machine.specs.declared.phases.Wait.{Wait}
 use Rattle.ados_machine.specs.declared.phases.Wait.TheVariants.{ForAnswer, ForLines, ForStart, ForPiece, ForEnd}
 use Rattle.ados_machine.specs.Answers.{answered_in}

@@ -9,8 +9,7 @@ use Rattle.ados_machine.specs.Breaks.{break_text, shells_after_break, has_script
 use Rattle.ados_flow.specs.Frames.{FrameState, advanced_frame}
 use Rattle.ados_machine.specs.declared.answers.Answer.{Answer as Reply}
 use Rattle.ados_machine.specs.declared.events.Event.TheVariants.{Turn, Answer}
-use Rattle.ados_machine.specs.declared.phases.Phase.{Phase}
-use Rattle.ados_machine.specs.declared.phases.Phase.TheVariants.{Ready, GoingOn, Waiting}
+use Rattle.ados_machine.specs.Phases.{Phase, Ready, GoingOn, Waiting}
 use Rattle.ados_machine.specs.declared.phases.Wait.TheVariants.{ForAnswer, ForEnd, ForLines, ForPiece, ForStart}
 use Rattle.ados_machine.specs.Items.{Item}
 use Rattle.ados_machine.specs.Numbers.{free_number}

@@ -14,8 +14,8 @@ use Rattle.ados_machine.specs.declared.children.ChildState.{ChildState}
 use Rattle.ados_machine.specs.declared.children.ChildState.TheVariants.{Closed}
 use Rattle.ados_machine.specs.declared.events.Event.TheVariants.{Answer}
 use Rattle.ados_machine.specs.declared.phases.Child.{Child}
-use Rattle.ados_machine.specs.declared.phases.Phase.{Phase}
-use Rattle.ados_machine.specs.declared.phases.Phase.TheVariants as phase
+use Rattle.ados_machine.specs.Phases.{Phase}
+use Rattle.ados_machine.specs.Phases as phase
 use Rattle.ados_machine.specs.declared.phases.Starting.{Starting}
 use Rattle.ados_machine.specs.declared.phases.Wait.{Wait}
 use Rattle.ados_machine.specs.declared.phases.Wait.TheVariants.{ForStart, ForPiece, ForEnd}

@@ -8,8 +8,7 @@ use Rattle.ados_find.specs.Shared.{SharedState}
 use Rattle.ados_find.specs.declared.outcomes.Breaking.{Breaking}
 use Rattle.ados_find.specs.declared.outcomes.Breaks.{Breaks}
 use Rattle.ados_find.specs.declared.outcomes.Renamed.{Renamed}
-use Rattle.ados_machine.specs.declared.phases.Phase.{Phase}
-use Rattle.ados_machine.specs.declared.phases.Phase.TheVariants.{Ready, GoingOn, Waiting}
+use Rattle.ados_machine.specs.Phases.{Phase, Ready, GoingOn, Waiting}
 use Rattle.ados_machine.specs.declared.phases.Wait.TheVariants.{ForAnswer, ForLines, ForStart, ForPiece, ForEnd}
 use Rattle.ados_machine.specs.Breaks.{mark_in, marked_if, broken_shell, broken_place, broken_at, broken_number, shells_after_break}
 use Rattle.ados_machine.specs.Shells.{ShellStart, begun_shell, ShellState, seen_of}

@@ -4,8 +4,7 @@ use Rattle.std.specs.List.{slice_get}
 use Rattle.ados_text.specs.Text.{Bytes, Text}
 use Rattle.ados_flow.specs.Frames.{FrameState, advanced_frame}
 use Rattle.ados_machine.specs.declared.answers.Answer.{Answer as Reply}
-use Rattle.ados_machine.specs.declared.phases.Phase.{Phase}
-use Rattle.ados_machine.specs.declared.phases.Phase.TheVariants.{Ready, GoingOn, Waiting}
+use Rattle.ados_machine.specs.Phases.{Phase, Ready, GoingOn, Waiting}
 use Rattle.ados_machine.specs.declared.phases.Wait.TheVariants.{ForAnswer, ForEnd, ForLines, ForPiece, ForStart}
 use Rattle.ados_machine.specs.Items.{Item}
 use Rattle.ados_machine.specs.Shells.{ShellState}

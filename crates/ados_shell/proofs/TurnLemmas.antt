@@ -9,7 +9,7 @@ use Rattle.ados_flow.specs.declared.kinds.Kind.{Kind}
 use Rattle.ados_flow.specs.declared.kinds.Kind.TheVariants.{Script, Lines, Tick}
 use Rattle.ados_flow.specs.Frames.{FrameState, is_over, is_ended, limit_above_frames, last_codes, last_line, is_early, caller_word, answered_frame}
 use Rattle.ados_machine.specs.declared.outs.EndReport.{EndReport}
-use Rattle.ados_machine.specs.declared.phases.Phase.TheVariants.{Ready, GoingOn}
+use Rattle.ados_machine.specs.Phases.{Ready, GoingOn}
 use Rattle.ados_machine.specs.CodeRule.{failed_line}
 use Rattle.ados_machine.specs.Items.{Item, Ended, answered_item, end_of, reports_of}
 use Rattle.ados_machine.specs.Course.{Course}

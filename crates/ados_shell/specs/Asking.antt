@@ -1,7 +1,6 @@
 -- A shell that waits for a line of its input.
 use Rattle.std.specs.Prelude.{Bool, false}
-use Rattle.ados_machine.specs.declared.phases.Phase.{Phase}
-use Rattle.ados_machine.specs.declared.phases.Phase.TheVariants.{Ready, GoingOn, Waiting}
+use Rattle.ados_machine.specs.Phases.{Phase, Ready, GoingOn, Waiting}
 use Rattle.ados_machine.specs.World.{is_for_input}
 
 -- it waits for an answer to a prompt, or for another line of a Run

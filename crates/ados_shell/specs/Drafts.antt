@@ -13,8 +13,7 @@ use Rattle.ados_find.specs.declared.outcomes.Breaking.{Breaking}
 use Rattle.ados_find.specs.declared.outcomes.Renamed.{Renamed}
 use Rattle.ados_find.specs.Shared.{SharedState, version}
 use Rattle.ados_machine.specs.declared.outs.Out.{Out}
-use Rattle.ados_machine.specs.declared.phases.Phase.{Phase}
-use Rattle.ados_machine.specs.declared.phases.Phase.TheVariants.{GoingOn}
+use Rattle.ados_machine.specs.Phases.{Phase, GoingOn}
 use Rattle.ados_flow.specs.Frames.{FrameState, limit_above_frames}
 use Rattle.ados_machine.specs.Breaks.{flags_own}
 use Rattle.ados_machine.specs.Items.{reports_of}
@@ -32,7 +31,7 @@ use Rattle.ados_shell.specs.declared.scenes.Scene.{Scene}
 use Rattle.ados_shell.specs.declared.drafts.Draft.{Draft}
 use Rattle.ados_shell.specs.declared.drafts.ShellDraft.{ShellDraft}
 use Rattle.ados_shell.specs.Reports.{report_of}
-use Rattle.ados_shell.specs.Shells.{phase_of}
+use Rattle.ados_shell.specs.Suspensions.{phase_of}
 use Rattle.ados_shell.specs.Stacks.{drafted_frames}
 
 abbrev pub drafted_phase : ShellDraft → Phase

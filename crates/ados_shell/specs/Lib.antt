@@ -1,4 +1,4 @@
-pub mod Shells
+pub mod Suspensions
 pub mod Reports
 pub mod Stacks
 pub mod Drafts

@@ -8,8 +8,9 @@ ghost use Rattle.ados_machine.specs.declared.phases.Wait.TheVariants.{ForEnd as 
 
 use crate::drafts::Draft;
 use crate::scenes::Scene;
+use crate::suspensions::Suspension;
 use ados_find::Codes;
-use ados_machine::{Answer, Child, Phase, Starting, Wait};
+use ados_machine::{Answer, Child, Starting, Wait};
 use ados_text::{Code, NoMemory, Octets, PIECE_BYTES, Result2, Stop, Text};
 
 /// What an answer for a shell results in.
@@ -55,9 +56,9 @@ impl Draft {
         let shell = scene.shell;
         match &shell.phase {
             None => Ok(Answering::WrongAnswer),
-            Some(phase) => match &**phase {
-                Phase::Waiting(wait) => self.reply_while(scene, wait, answer),
-                Phase::Ready | Phase::GoingOn(_) => Ok(Answering::WrongAnswer),
+            Some(suspension) => match &**suspension {
+                Suspension::Waiting(wait) => self.reply_while(scene, wait, answer),
+                Suspension::GoingOn(_) => Ok(Answering::WrongAnswer),
             },
         }
     }

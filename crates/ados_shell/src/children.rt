@@ -3,7 +3,8 @@ ghost use Rattle.std.specs.Prelude.{◌≡◌};
 ghost use Rattle.ados_machine.specs.Children.{child_during, child_while};
 
 use crate::shells::Shell;
-use ados_machine::{ChildState, Phase, Wait};
+use crate::suspensions::Suspension;
+use ados_machine::{ChildState, Wait};
 
 impl Shell {
     /// The state of the program of the host that the shell started.
@@ -11,7 +12,7 @@ impl Shell {
         ensures { result ≡ child_during self.now.phase }
     {
         match self.phase.as_deref() {
-            Some(Phase::Waiting(wait)) => child_while(wait),
+            Some(Suspension::Waiting(wait)) => child_while(wait),
             _ => ChildState::Closed,
         }
     }

@@ -8,9 +8,10 @@ use crate::breaks::flags_own;
 use crate::scenes::Scene;
 use crate::shells::Shell;
 use crate::stacks::Stack;
+use crate::suspensions::Suspension;
 use ados_find::{Breaking, Change, Codes, Question, Renamed, Setting, Shared};
 use ados_flow::FIRST_LIMIT;
-use ados_machine::{EndReport, Out, Phase, Request};
+use ados_machine::{EndReport, Out, Request};
 use ados_ram::Place;
 use ados_readargs::Args;
 use ados_text::{Code, Name, NoMemory, Octets};
@@ -49,7 +50,7 @@ pub struct ShellDraft {
     /// The frames.
     pub frames: Stack,
     /// What the shell does next; `None` if it is ready.
-    pub phase: Option<Box<Phase>>,
+    pub phase: Option<Box<Suspension>>,
     /// The fail limit.
     pub limit: Code,
     /// What the last command returned.

@@ -27,6 +27,7 @@ mod seen;
 mod shell_drafts;
 mod shells;
 mod stacks;
+mod suspensions;
 mod ticks;
 mod turnings;
 mod uses;

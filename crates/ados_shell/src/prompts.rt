@@ -11,8 +11,9 @@ use crate::drafts::Draft;
 use crate::inputs::{asks, input_lines};
 use crate::scenes::Scene;
 use crate::seen::open_outputs;
+use crate::suspensions::Suspension;
 use ados_line::Line;
-use ados_machine::{Asking, Builtin, Phase, Wait, template};
+use ados_machine::{Asking, Builtin, Wait, template};
 use ados_text::{NoMemory, Stop, Text, Texts};
 use std::alloc::Global;
 
@@ -100,7 +101,7 @@ impl Draft {
     pub(crate) fn wait(&mut self, scene: &Scene, wait: Wait) -> Result<(), NoMemory>
         ensures { OnOk result (Settles scene.now self.old self.new (Waits wait (course_of scene.now self.old))) }
     {
-        self.shell.phase = Some(Box::new(scene.alloc, Phase::Waiting(wait))?);
+        self.shell.phase = Some(Box::new(scene.alloc, Suspension::Waiting(wait))?);
         Ok(())
     }
 

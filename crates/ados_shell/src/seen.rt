@@ -13,10 +13,11 @@ ghost use Rattle.ados_find.specs.Targets.{open_places};
 ghost use Rattle.ados_machine.specs.World.{seen_shells};
 
 use crate::shells::Shell;
+use crate::suspensions::Suspension;
 use ados_assign::Assigns;
 use ados_find::{ShellNames, Target};
 use ados_flow::{Frame, Kind};
-use ados_machine::{Asking, Phase, Wait};
+use ados_machine::{Asking, Wait};
 use ados_ram::{Busy, Place};
 use ados_text::{NoMemory, Text, Texts};
 use std::alloc::Global;
@@ -94,7 +95,7 @@ fn push_open(places: &mut Vec<Place>, shell: &Shell) -> Result<(), NoMemory>
 {
     push_outputs(places, shell.frames.as_slice())?;
     match shell.phase.as_deref() {
-        Some(Phase::Waiting(wait)) => push_held(places, wait),
+        Some(Suspension::Waiting(wait)) => push_held(places, wait),
         _ => Ok(()),
     }
 }
@@ -196,7 +197,7 @@ fn name(alloc: Global, shell: &Shell) -> Result<Text, NoMemory>
     ensures { IfOk result (λ name. name ≡ (seen_of shell.now).name) }
 {
     match shell.phase.as_deref() {
-        Some(Phase::Waiting(wait)) => word(wait).copy(),
+        Some(Suspension::Waiting(wait)) => word(wait).copy(),
         _ => script_name(alloc, shell.frames.as_slice()),
     }
 }

@@ -6,9 +6,10 @@ ghost use Rattle.ados_flow.specs.Frames.{new_frame, first_limit};
 ghost use Rattle.ados_flow.specs.declared.kinds.Kind.TheVariants.{Lines};
 
 use crate::begun::Begun;
+use crate::suspensions::Suspension;
 use ados_find::{Codes, Settings, Target};
 use ados_flow::{FIRST_LIMIT, Frame, Kind};
-use ados_machine::{Phase, Request};
+use ados_machine::Request;
 use ados_ram::Place;
 use ados_script::Script;
 use ados_text::{Code, NoMemory, Octets, Text};
@@ -20,7 +21,7 @@ pub struct Shell {
     // The newest is the last.
     pub(crate) frames: Vec<Frame>,
     // `None` if it is ready.
-    pub(crate) phase: Option<Box<Phase>>,
+    pub(crate) phase: Option<Box<Suspension>>,
     // What it asked a launcher for, and waits for.
     pub(crate) request: Option<Request>,
     pub(crate) number: u8,
@@ -55,7 +56,7 @@ impl Drop for Shell {
 impl Model for Shell {
     ghost use Rattle.std.specs.Prelude.{option_map, reverse};
     ghost use Rattle.ados_machine.specs.Shells.{ShellState};
-    ghost use Rattle.ados_shell.specs.Shells.{phase_of};
+    ghost use Rattle.ados_shell.specs.Suspensions.{phase_of};
     ghost use Rattle.ados_machine.specs.Requests.{request_of};
     ghost use Rattle.std.specs.Prelude.{◌≡◌};
 
@@ -176,9 +177,9 @@ impl Shell {
         ensures { (input : Input) → has_input input ≡ has_lines → result ≡ can_take input self.now.frames self.now.phase }
     {
         match self.phase.as_deref() {
-            None | Some(Phase::Ready) => has_lines || !self.frames.is_empty(),
-            Some(Phase::GoingOn(_)) => true,
-            Some(Phase::Waiting(wait)) => wait.is_for_input() && has_lines,
+            None => has_lines || !self.frames.is_empty(),
+            Some(Suspension::GoingOn(_)) => true,
+            Some(Suspension::Waiting(wait)) => wait.is_for_input() && has_lines,
         }
     }
 
@@ -187,9 +188,9 @@ impl Shell {
         ensures { result ≡ takes_input self.now.frames self.now.phase }
     {
         match self.phase.as_deref() {
-            None | Some(Phase::Ready) => self.frames.is_empty(),
-            Some(Phase::GoingOn(_)) => false,
-            Some(Phase::Waiting(wait)) => wait.is_for_input(),
+            None => self.frames.is_empty(),
+            Some(Suspension::GoingOn(_)) => false,
+            Some(Suspension::Waiting(wait)) => wait.is_for_input(),
         }
     }
 
@@ -198,7 +199,7 @@ impl Shell {
         ensures { result ≡ asks_for_line self.now.phase }
     {
         match self.phase.as_deref() {
-            Some(Phase::Waiting(wait)) => wait.is_for_input(),
+            Some(Suspension::Waiting(wait)) => wait.is_for_input(),
             _ => false,
         }
     }
@@ -209,7 +210,7 @@ impl Shell {
         ensures { option_copied result ≡ entry_in self.now.phase }
     {
         match self.phase.as_deref() {
-            Some(Phase::Waiting(wait)) => wait.entry(),
+            Some(Suspension::Waiting(wait)) => wait.entry(),
             _ => None,
         }
     }

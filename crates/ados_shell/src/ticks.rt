@@ -10,10 +10,11 @@ ghost use Rattle.ados_machine.specs.Sinks.{Kept};
 
 use crate::drafts::{Draft, ShellDraft};
 use crate::scenes::Scene;
+use crate::suspensions::Suspension;
 use ados_find::Codes;
 use ados_flow::{Frame, Kind};
 use ados_line::{Tick, resume};
-use ados_machine::{Parted, Phase};
+use ados_machine::Parted;
 use ados_script::Script;
 use ados_text::{NoMemory, Octets, Result2, Text};
 use std::alloc::Global;
@@ -77,7 +78,7 @@ impl Draft {
             output,
             after: after.copy()?,
         };
-        self.shell.phase = Some(Box::new(scene.alloc, Phase::GoingOn(parted))?);
+        self.shell.phase = Some(Box::new(scene.alloc, Suspension::GoingOn(parted))?);
         self.shell.kept = Some(kept);
         Ok(())
     }

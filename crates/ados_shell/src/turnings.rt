@@ -10,7 +10,8 @@ ghost use Rattle.ados_shell.specs.Turnings.{next_of};
 use crate::drafts::Draft;
 use crate::scenes::{Input, Scene};
 use crate::shells::Shell;
-use ados_machine::{Asking, Gathering, Parted, Phase, Wait};
+use crate::suspensions::Suspension;
+use ados_machine::{Asking, Gathering, Parted, Wait};
 use ados_text::{NoMemory, Text};
 
 /// What a turn of a shell results in.
@@ -28,7 +29,7 @@ pub enum Turning {
 
 impl Draft {
     ghost use Rattle.ados_shell.specs.Drafts.{IsDrafted, turn_start};
-    ghost use Rattle.ados_machine.specs.declared.phases.Phase.TheVariants.{Ready, Waiting};
+    ghost use Rattle.ados_machine.specs.Phases.{Ready, Waiting};
     ghost use Rattle.ados_machine.specs.declared.phases.Wait.TheVariants.{ForAnswer, ForLines};
     ghost use Rattle.ados_shell.specs.Turnings.{console_turning, Gives, IsScriptDrafted, LacksMemory, plain_turning, scene_turning};
 
@@ -63,17 +64,18 @@ impl Draft {
         let shell = scene.shell;
         match &shell.phase {
             None => self.ready_turn(scene, input),
-            Some(phase) => match &**phase {
-                Phase::Ready => self.ready_turn(scene, input),
-                Phase::GoingOn(parted) => {
+            Some(suspension) => match &**suspension {
+                Suspension::GoingOn(parted) => {
                     self.take_parted(scene, parted)?;
                     Ok(Turning::Goes)
                 }
-                Phase::Waiting(Wait::ForAnswer(asking)) => self.answer_turn(scene, asking, input),
-                Phase::Waiting(Wait::ForLines(gathering)) => {
+                Suspension::Waiting(Wait::ForAnswer(asking)) => {
+                    self.answer_turn(scene, asking, input)
+                }
+                Suspension::Waiting(Wait::ForLines(gathering)) => {
                     self.gathering_turn(scene, gathering, input)
                 }
-                Phase::Waiting(Wait::ForStart(_) | Wait::ForPiece(_) | Wait::ForEnd(_)) => {
+                Suspension::Waiting(Wait::ForStart(_) | Wait::ForPiece(_) | Wait::ForEnd(_)) => {
                     Ok(Turning::NotReady)
                 }
             },

@@ -4,8 +4,7 @@ use Rattle.std.specs.Prelude.{slice_get, slice_set}
 use Rattle.std.proofs.lemmas.Bool.{cases_eq}
 use Rattle.ados_ram.specs.Place.{Place}
 use Rattle.ados_flow.specs.Frames.{FrameState}
-use Rattle.ados_machine.specs.declared.phases.Phase.{Phase}
-use Rattle.ados_machine.specs.declared.phases.Phase.TheVariants.{Ready, GoingOn, Waiting}
+use Rattle.ados_machine.specs.Phases.{Phase, Ready, GoingOn, Waiting}
 use Rattle.ados_machine.specs.Shells.{ShellState}
 use Rattle.ados_machine.specs.Turning.{Input}
 use Rattle.ados_machine.specs.World.{at_number, can_take, can_turn, flatten, has_frame, has_input, is_for_input}
