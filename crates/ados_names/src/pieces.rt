@@ -1,4 +1,4 @@
-ghost use Rattle.std.specs.Prelude.{◌≡◌, ◌≤◌, ◌<◌, ◌+◌, ◌-◌, IfOk, IfSome, length, take, drop, position};
+ghost use Rattle.std.specs.Prelude.{◌≡◌, ◌≤◌, ◌<◌, ◌-◌, IfOk, IfSome, length, take, drop, position};
 ghost use Rattle.std.specs.List.{list_all, slice_split, suffix_len};
 ghost use Rattle.ados_names.specs.Names.{is_colon, is_slash};
 ghost use Rattle.ados_names.specs.Path.{step_of, steps_of, is_piece, is_piece_byte, last_piece_of};

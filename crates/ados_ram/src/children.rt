@@ -1,11 +1,11 @@
 // The objects of a directory, in the order of their names. They are kept in blocks, which versions share.
-ghost use Rattle.std.specs.Prelude.{◌≡◌, ◌+◌, ◌≤◌, ◌++◌, ◌==◌, [], take, drop, length, IfOk, IfSome, OnOk, IsTrue};
+ghost use Rattle.std.specs.Prelude.{◌≡◌, ◌+◌, ◌≤◌, ◌++◌, ◌==◌, [], length, IfOk, IfSome, OnOk, IsTrue};
 ghost use Rattle.std.specs.Option.{option_copied};
 ghost use Rattle.std.specs.FinMap as map;
 ghost use Rattle.ados_text.specs.Text.{folded_text};
 ghost use Rattle.ados_text.specs.Name.{name_cmp};
 ghost use Rattle.ados_ram.specs.Tree.{replace_kid, branch_rows, rows_found};
-ghost use Rattle.ados_ram.specs.Blocks.{all_kids, first_is_at_most, AllFull, AreBlocks, IsBlockOf};
+ghost use Rattle.ados_ram.specs.Blocks.{all_kids, AllFull, AreBlocks, IsBlockOf};
 
 use crate::branches::Branch;
 use crate::kids::{begins_by, changed, kid_at, share_kids};

@@ -3,7 +3,7 @@ ghost use Rattle.std.specs.Prelude.{◌≡◌, ◌++◌, false, IfOk};
 ghost use Rattle.std.specs.Option.{option_copied};
 ghost use Rattle.std.specs.FinMap as map;
 ghost use Rattle.ados_ram.specs.Place.{key_of, is_root, last_name};
-ghost use Rattle.ados_ram.specs.Files.{AreFiles, entry_bytes};
+ghost use Rattle.ados_ram.specs.Files.{AreFiles};
 ghost use Rattle.ados_ram.specs.InUse.{is_output};
 ghost use Rattle.ados_ram.specs.FileOperations.{write_fault, write_as_of, put_open_of};
 ghost use Rattle.ados_text.specs.Stop.{Answers};

@@ -4,7 +4,7 @@ ghost use Rattle.std.specs.Option.{option_copied};
 ghost use Rattle.std.specs.FinMap as map;
 ghost use Rattle.ados_text.specs.Text.{to_ascii};
 ghost use Rattle.ados_ram.specs.declared.entries.Entry.{Entry};
-ghost use Rattle.ados_ram.specs.Place.{key_of, place_cmp, is_root, last_name};
+ghost use Rattle.ados_ram.specs.Place.{key_of, is_root, last_name};
 ghost use Rattle.ados_ram.specs.Entry.{size_of};
 ghost use Rattle.ados_ram.specs.Files.{IsTree, entry_bytes, total_of, bytes_limit, first_files};
 ghost use Rattle.ados_ram.specs.FileOperations.{has_descendants, rename_of, way_fault};

@@ -2,15 +2,11 @@
 use Rattle.std.proofs.Common.{ℕ, ◌≡◌, ◌∙◌, List, [], ◌∷◌, ◌++◌, Bool, true, false, ◌&&◌, ◌||◌, not, Result, Ok, Err, refl, ap, sym, subst, append_assoc, append-nil}
 use Rattle.std.specs.List.{flat_map}
 use Rattle.ados_items.specs.declared.items.Item.{Item}
-use Rattle.ados_items.specs.declared.items.Item.TheVariants as item
 use Rattle.ados_readargs.specs.declared.errors.ArgFault.{ArgFault}
-use Rattle.ados_readargs.specs.declared.errors.ArgFault.TheVariants as fault
 use Rattle.ados_readargs.specs.declared.options.Qualifiers.{Qualifiers}
 use Rattle.ados_readargs.specs.declared.options.TemplateOption.{TemplateOption}
 use Rattle.ados_readargs.specs.declared.words.LineWord.{LineWord}
-use Rattle.ados_readargs.specs.declared.words.LineWord.TheVariants as word
 use Rattle.ados_readargs.specs.declared.readings.Reading.{Reading}
-use Rattle.ados_readargs.specs.declared.meanings.Meaning.TheVariants as says
 use Rattle.ados_readargs.specs.Options.{takes_value, option_qualifiers}
 use Rattle.ados_readargs.specs.Readings.{Readings, is_filled}
 use Rattle.ados_readargs.specs.Meanings.{is_full}

@@ -2,15 +2,12 @@
 use Rattle.std.proofs.Common.{ℕ, ◌≡◌, ◌∙◌, List, [], Bool, Result, Ok, Err, IfOk, OnOk, refl, ap, sym, subst, append-nil}
 use Rattle.std.specs.List.{flat_map}
 use Rattle.std.proofs.lemmas.Bool.{cond_both}
-use Rattle.ados_items.specs.declared.items.Item.TheVariants as item
 use Rattle.ados_readargs.specs.declared.errors.ArgFault.{ArgFault}
 use Rattle.ados_readargs.specs.declared.errors.ArgFault.TheVariants as fault
 use Rattle.ados_readargs.specs.declared.args.Arg.{Arg}
 use Rattle.ados_readargs.specs.declared.options.TemplateOption.{TemplateOption}
 use Rattle.ados_readargs.specs.declared.words.LineWord.{LineWord}
-use Rattle.ados_readargs.specs.declared.words.LineWord.TheVariants as word
 use Rattle.ados_readargs.specs.declared.meanings.Pending.TheVariants.{Free}
-use Rattle.ados_readargs.specs.declared.meanings.Meaning.TheVariants as says
 use Rattle.ados_readargs.specs.Readings.{Readings, no_readings}
 use Rattle.ados_readargs.specs.Words.{line_words_of}
 use Rattle.ados_readargs.specs.Meanings.{read_from, read_of, with_quotes, quotes_first}

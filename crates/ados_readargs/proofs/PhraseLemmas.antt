@@ -9,12 +9,9 @@ use Rattle.std.proofs.lemmas.List.Sums.{fails_before_first}
 use Rattle.std.proofs.lemmas.List.Quantifiers.{position-Some}
 use Rattle.std.proofs.lemmas.Option.{slice_get-get_or, slice_get_within, get_or_from_slice_get}
 use Rattle.ados_items.specs.Items.{is_blank, bytes_between}
-use Rattle.ados_items.specs.declared.items.Item.TheVariants as item
-use Rattle.ados_readargs.specs.declared.errors.ArgFault.TheVariants as fault
 use Rattle.ados_readargs.specs.declared.options.TemplateOption.{TemplateOption}
 use Rattle.ados_readargs.specs.declared.words.LineWord.{LineWord}
 use Rattle.ados_readargs.specs.declared.words.LineWord.TheVariants as word
-use Rattle.ados_readargs.specs.declared.meanings.Meaning.TheVariants as says
 use Rattle.ados_readargs.specs.Options.{no_qualifiers}
 use Rattle.ados_readargs.specs.Readings.{Readings}
 use Rattle.ados_readargs.specs.Meanings.{is_keyword, keyword_of, trimmed_end}

@@ -1,5 +1,5 @@
 // Keywords: which option a word names.
-ghost use Rattle.std.specs.Prelude.{◌≡◌, None, position};
+ghost use Rattle.std.specs.Prelude.{◌≡◌, position};
 ghost use Rattle.ados_readargs.specs.Meanings.{is_keyword, keyword_of, trimmed_end};
 
 use crate::options::TemplateOption;

@@ -1,6 +1,5 @@
-ghost use Rattle.std.specs.Prelude.{◌≡◌, None};
-ghost use Rattle.ados_readargs.specs.Meanings.{keyword_of, is_full, given_meaning, keyword_value_meaning, switch_meaning, keyword_meaning, plain_meaning, word_meaning, value_meaning, next_meaning, rest_of, free_meaning, meaning_of};
-ghost use Rattle.ados_readargs.specs.declared.meanings.Pending.TheVariants.{Free};
+ghost use Rattle.std.specs.Prelude.{◌≡◌};
+ghost use Rattle.ados_readargs.specs.Meanings.{is_full, given_meaning, keyword_value_meaning, switch_meaning, keyword_meaning, plain_meaning, word_meaning, value_meaning, next_meaning, rest_of, free_meaning, meaning_of};
 
 use crate::errors::ArgFault;
 use crate::keywords::{keyword_of, trimmed_len};

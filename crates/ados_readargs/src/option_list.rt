@@ -1,4 +1,4 @@
-ghost use Rattle.std.specs.Prelude.{◌≡◌, ◌<◌, ℕ, true, false, length, position, get_or, IfSome};
+ghost use Rattle.std.specs.Prelude.{◌≡◌, ◌<◌, ℕ, true, false, length, get_or, IfSome};
 ghost use Rattle.std.specs.List.{list_any};
 ghost use Rattle.ados_readargs.specs.NameLengths.{has_as_long, one_is_as_long};
 ghost use Rattle.ados_readargs.specs.Options.{is_required, is_rest, takes_number};

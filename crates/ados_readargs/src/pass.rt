@@ -3,7 +3,7 @@ ghost use Rattle.std.specs.Prelude.{◌≡◌, true, None, Ok, IfSome, IfOk, IfE
 ghost use Rattle.ados_readargs.specs.Faults.{IsFaultOf};
 ghost use Rattle.ados_readargs.specs.Words.{line_words_of};
 ghost use Rattle.ados_readargs.specs.Steps.{IsPlainAt, ReadsOn, StopsReading};
-ghost use Rattle.ados_readargs.specs.Meanings.{is_keyword, meaning_of, read_end, read_from, read_of, quotes_first};
+ghost use Rattle.ados_readargs.specs.Meanings.{is_keyword, read_end, read_from, read_of, quotes_first};
 ghost use Rattle.ados_readargs.specs.Readings.{Readings, no_readings};
 ghost use Rattle.ados_readargs.specs.declared.meanings.Pending.TheVariants.{Free};
 

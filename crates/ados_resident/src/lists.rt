@@ -1,5 +1,5 @@
 // The two parts of the resident list: internal commands, and the entries that programs were loaded into.
-ghost use Rattle.std.specs.Prelude.{◌≡◌, ◌++◌, IfOk, OnOk, map, false};
+ghost use Rattle.std.specs.Prelude.{◌≡◌, ◌++◌, IfOk, OnOk, map};
 ghost use Rattle.std.specs.Option.{option_copied};
 ghost use Rattle.ados_text.specs.Text.{is_same};
 ghost use Rattle.ados_resident.specs.Commands.{internal_name};

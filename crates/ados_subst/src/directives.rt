@@ -1,4 +1,4 @@
-ghost use Rattle.std.specs.Prelude.{◌≡◌, Ok, IfOk};
+ghost use Rattle.std.specs.Prelude.{◌≡◌, IfOk};
 ghost use Rattle.ados_text.specs.Text.{IsText, is_same};
 ghost use Rattle.ados_subst.specs.Faults.{Gives};
 ghost use Rattle.ados_subst.specs.Directives.{default_of, default_result, directive_result, directive_named, is_remark, key_result, mark_named, mark_result, slots_of_template};

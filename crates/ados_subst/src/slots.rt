@@ -1,7 +1,7 @@
-ghost use Rattle.std.specs.Prelude.{◌≡◌, slice_get, position, IfOk};
-ghost use Rattle.std.specs.List.{find, join_with_byte, list_any};
+ghost use Rattle.std.specs.Prelude.{◌≡◌, position, IfOk};
+ghost use Rattle.std.specs.List.{join_with_byte};
 ghost use Rattle.std.specs.Option.{option_copied};
-ghost use Rattle.ados_text.specs.Text.{IsText, is_same};
+ghost use Rattle.ados_text.specs.Text.{IsText};
 ghost use Rattle.ados_readargs.specs.Template.{options_of};
 ghost use Rattle.ados_subst.specs.Slots.{with_default, given_text, is_named, new_slot, slots_of};
 

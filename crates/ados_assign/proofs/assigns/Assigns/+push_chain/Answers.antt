@@ -1,4 +1,4 @@
-use Rattle.std.proofs.Common.{◌≡◌, ◌∙◌, ◌-◌, ◌++◌, ◌∷◌, [], sym, ap, subst, append_assoc, arith, List, ℕ, Option, Some, OnOk}
+use Rattle.std.proofs.Common.{◌≡◌, ◌∙◌, ◌-◌, ◌++◌, ◌∷◌, [], sym, ap, subst, append_assoc, arith, List, Option, Some, OnOk}
 use Rattle.std.specs.FinMap as map
 use Rattle.ados_text.specs.Text.{Text, folded_text}
 use Rattle.ados_assign.specs.Uses.{chain, chain_rest, assign_device}

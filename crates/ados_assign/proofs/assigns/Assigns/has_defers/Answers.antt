@@ -1,6 +1,5 @@
-use Rattle.std.proofs.Common.{◌≡◌, ◌∙◌, ap, sym, List, Bool, false}
+use Rattle.std.proofs.Common.{◌∙◌, ap, sym}
 use Rattle.std.specs.FinMap as map
-use Rattle.ados_assign.specs.declared.assigns.Assign.{Assign}
 use Rattle.ados_assign.specs.Uses.{has_defers}
 use Rattle.ados_assign.proofs.RowsLemmas.{AreRowsOf, values_rows}
 use Rattle.ados_assign.proofs.UsesLemmas.{none_bound}
