@@ -2,3 +2,4 @@ mod WordLemmas
 mod StrikeLemmas
 mod WithinLemmas
 mod PathLemmas
+mod KeyLemmas

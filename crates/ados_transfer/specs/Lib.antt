@@ -6,3 +6,5 @@ pub mod Paths
 pub mod StandIns
 pub mod Account
 pub mod Here
+pub mod Records
+pub mod Changes

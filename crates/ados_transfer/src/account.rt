@@ -29,6 +29,8 @@ pub struct Account {
 /// An object of the folder that was moved out of the way of another one.
 #[derive(Drop)]
 pub struct Aside {
+    /// Its key.
+    pub key: String,
     /// What it was.
     pub record: Record,
     /// The path where it is now; `None` for a folder, which is deleted at once.

@@ -4,7 +4,6 @@ use crate::arrivals::{Arrival, Coming};
 use crate::faults::TransferFault;
 use crate::folders::{Kind, Seen};
 use crate::here::Here;
-use crate::keys::Keys;
 use crate::mirror::Mirror;
 use crate::room::Room;
 use crate::script::is_shell_script;
@@ -13,6 +12,7 @@ use ados_names::PATH_LIMIT;
 use ados_ram::{Entry, Place, Ram};
 use ados_text::Octets;
 use std::alloc::Global;
+use std::collections::BTreeSet;
 use std::time::SystemTime;
 
 /// Arrivals for some files: first of what is gone, the deepest first, then of what is there.
@@ -23,9 +23,9 @@ pub struct ArrivalPlan<'a> {
     room: Room,
     now: SystemTime,
     // The keys of what is deleted in the Shell's files.
-    deleted: Vec<String>,
+    deleted: BTreeSet<String>,
     // The keys of the directories that are made in them.
-    made: Keys,
+    made: BTreeSet<String>,
     arrivals: Vec<Arrival>,
 }
 
@@ -41,8 +41,8 @@ impl<'a> ArrivalPlan<'a> {
             files,
             room: Room::new(alloc, files)?,
             now,
-            deleted: Vec::new(alloc),
-            made: Keys::new(alloc),
+            deleted: BTreeSet::new(alloc),
+            made: BTreeSet::new(alloc),
             arrivals: Vec::new(alloc),
         })
     }
@@ -68,7 +68,7 @@ impl<'a> ArrivalPlan<'a> {
 
     /// An object is deleted in the Shell's files.
     pub fn deletes(&self, key: &str) -> bool {
-        self.deleted.iter().any(|deleted| deleted.as_str() == key)
+        self.deleted.contains(key)
     }
 
     /// There can be no more objects in the Shell's files.
@@ -92,8 +92,7 @@ impl<'a> ArrivalPlan<'a> {
         }
         let mut lines = ShareLines::new(self.alloc);
         lines.add_deletion(place, entry)?;
-        self.deleted
-            .push(String::from_str(self.alloc, arrival.key.as_str())?)?;
+        self.deleted.insert(arrival.key.clone()?)?;
         self.room.free(Some(entry));
         self.add(mirror, arrival, lines)
     }
@@ -110,11 +109,12 @@ impl<'a> ArrivalPlan<'a> {
     pub fn add_object(
         &mut self,
         mirror: &mut Mirror,
+        key: &str,
         seen: &Seen,
         here: Here,
         place: &Place,
     ) -> Result<(), TransferFault> {
-        let entry = self.look(seen.key.as_str(), place);
+        let entry = self.look(key, place);
         if place.path(self.alloc)?.as_bytes().len() > PATH_LIMIT {
             return mirror.report_once("bad name for the Shell, left alone", seen.path.as_str());
         }
@@ -126,7 +126,7 @@ impl<'a> ArrivalPlan<'a> {
         let entry = self.cleared(&here, place, entry, &mut lines)?;
         let coming = if here.is_directory() {
             lines.add_directory(place)?;
-            self.made.add(seen.key.as_str())?;
+            self.made.insert(String::from_str(self.alloc, key)?)?;
             Coming::Directory
         } else if let Some(bytes) = self.fitting(here, entry) {
             let is_script = seen.kind == Kind::PROGRAM && is_shell_script(bytes.as_slice());
@@ -137,12 +137,7 @@ impl<'a> ArrivalPlan<'a> {
             Coming::StandIn
         };
         self.room.put(coming.size(), entry);
-        let arrival = Arrival::new(
-            self.alloc,
-            (seen.key.as_str(), seen.path.as_str()),
-            coming,
-            stamp,
-        )?;
+        let arrival = Arrival::new(self.alloc, (key, seen.path.as_str()), coming, stamp)?;
         self.add(mirror, arrival, lines)
     }
 
@@ -186,7 +181,7 @@ impl<'a> ArrivalPlan<'a> {
             let Some(key) = mirror.key_of(&directory)? else {
                 continue;
             };
-            if self.files.look(&directory).is_none() && self.made.add(key.as_str())? {
+            if self.files.look(&directory).is_none() && self.made.insert(key)? {
                 lines.add_directory(&directory)?;
                 self.room.put(0, None);
             }

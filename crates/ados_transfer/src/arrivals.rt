@@ -1,5 +1,11 @@
 //! What changed in the folder of a share, on its way into the Shell's files.
-ghost use Rattle.std.specs.Prelude.{◌≤◌, length};
+ghost use Rattle.std.specs.Prelude.{◌≡◌, ◌||◌, IfOk, OnOk, string_bytes};
+ghost use Rattle.std.specs.BTreeMap.{keys};
+ghost use Rattle.std.specs.List.{list_any};
+ghost use Rattle.std.specs.Option.{option_copied};
+ghost use Rattle.ados_text.specs.Text.{Bytes};
+ghost use Rattle.ados_transfer.specs.Changes.{has_changed, has_last_stamp, has_stand_in, is_gone, is_unchanged};
+ghost use Rattle.ados_transfer.specs.Records.{OthersStay, has_key};
 
 use crate::arrival_plan::ArrivalPlan;
 use crate::faults::TransferFault;
@@ -12,6 +18,7 @@ use crate::stand_ins::{Watch, is_stand_in};
 use ados_ram::{Body, Entry, Ram};
 use ados_text::{NoMemory, Octets, Text};
 use std::alloc::Global;
+use std::collections::BTreeMap;
 use std::rt::Files;
 use std::time::Clock;
 
@@ -82,15 +89,6 @@ impl Arrival {
     }
 }
 
-/// An object of the folder that may have changed.
-#[derive(Drop)]
-pub struct Change<'a> {
-    /// Which one.
-    pub key: String,
-    /// What is there; nothing if it is gone.
-    pub seen: Option<&'a Seen>,
-}
-
 impl Mirror {
     /// The lines that are run before all others: those of the commands of the share, and those that make its directory.
     pub fn first_lines(&self, alloc: Global, files: &Ram) -> Result<Vec<Text>, TransferFault> {
@@ -100,7 +98,7 @@ impl Mirror {
         lines.into_lines()
     }
 
-    /// What changed in the folder since the last time, in an order in which it can come in; the first time everything. If both
+    /// What changed in the folder since the last comparison, in an order in which it can come in; the first time everything. If both
     /// sides changed, this machine's version comes in, and a line reports it. If both are alike there is no arrival.
     pub fn arrivals<R: AllocGlobal + Files + Clock + Clone + Drop>(
         &mut self,
@@ -117,132 +115,125 @@ impl Mirror {
             self.report_unread(unread.key.as_str(), unread.path.as_str())?;
         }
         for line in &look.lines {
-            self.report_line(String::from_str(self.alloc, line.as_str())?)?;
+            self.report_line(line.clone()?)?;
         }
         let changes = self.changes(&look, files)?;
         if changes.is_empty() {
             return Ok(Vec::new(self.alloc));
         }
         let mut plan = ArrivalPlan::new(self.alloc, files, self.now(rt))?;
-        for change in changes.iter().rev() {
-            self.plan_gone(rt, &mut plan, change)?;
+        for (key, seen) in changes.iter().rev() {
+            self.plan_gone(rt, &mut plan, key.as_str(), *seen)?;
         }
-        for change in &changes {
-            self.plan_come(rt, &mut plan, change)?;
+        for (key, seen) in &changes {
+            if let Some(seen) = seen {
+                self.plan_come(rt, &mut plan, key.as_str(), seen)?;
+            }
         }
         self.hold_deletions(files)?;
         Ok(plan.into_arrivals())
     }
 
     /// Checks whether the files have what an arrival, whose lines were run, was to bring in, and keeps that as the last state.
-    /// Otherwise a line reports it, and it is tried again later.
-    pub fn settle(&mut self, arrival: Arrival, files: &Ram) -> Result<(), TransferFault> {
+    /// Otherwise a line reports it, and it is tried again later. What is known of other objects stays.
+    pub fn settle(&mut self, arrival: Arrival, files: &Ram) -> Result<(), TransferFault>
+        ensures { OnOk result (OthersStay self.old.records self.new.records (string_bytes arrival.key)) }
+    {
         let place = self.place_of(arrival.key.as_str())?;
         let entry = files.look(&place);
         if matches!(arrival.coming, Coming::Nothing) && entry.is_none() {
             self.forget(arrival.key.as_str());
             return Ok(());
         }
-        match last_of(&arrival, entry)? {
-            Some(last) => self.keep(Record {
-                key: arrival.key,
-                path: arrival.path,
-                place,
-                last,
-                stamp: arrival.stamp,
-                is_fresh: arrival.is_fresh,
-                watch: Watch::NEW,
-            }),
-            None => self.fail(
+        let Some(last) = last_of(&arrival, entry)? else {
+            return self.fail(
                 arrival.key.as_str(),
                 "cannot bring in",
                 arrival.path.as_str(),
-            ),
-        }
+            );
+        };
+        let record = Record {
+            path: arrival.path,
+            place,
+            last,
+            stamp: arrival.stamp,
+            is_fresh: arrival.is_fresh,
+            watch: Watch::NEW,
+        };
+        self.keep(arrival.key, record)
     }
 
-    // The objects that may have changed on this machine, in the order of their keys: records and what was seen are walked side by
-    // side.
-    fn changes<'a>(&self, look: &'a Look, files: &Ram) -> Result<Vec<Change<'a>>, TransferFault> {
-        let mut changes = Vec::new(self.alloc);
-        let mut rest = self.records.all();
-        for seen in &look.seen {
-            let (gone, from) = rest.split_at(before(rest, seen.key.as_str()));
-            self.add_gone_records(look, gone, &mut changes)?;
-            rest = from;
-            let record = match rest.split_first() {
-                Some((record, after)) if record.key.as_str() == seen.key.as_str() => {
-                    rest = after;
-                    Some(record)
-                }
-                _ => None,
-            };
-            if !self.is_unchanged(record, seen, files)? {
-                changes.push(Change {
-                    key: String::from_str(self.alloc, seen.key.as_str())?,
-                    seen: Some(seen),
-                })?;
+    // The objects that may have changed on this machine, each by its key, with what is there; nothing if it is gone.
+    fn changes<'a>(
+        &self,
+        look: &'a Look,
+        files: &Ram,
+    ) -> Result<BTreeMap<String, Option<&'a Seen>>, TransferFault>
+        ensures { IfOk result (λ changes. (q : Bytes) → has_key changes q ≡ (list_any (has_changed files.now self.now.records q) look.now.seen.entries || list_any (is_gone look.now q) (keys self.now.records))) }
+    {
+        let mut changes = BTreeMap::new(self.alloc);
+        for (key, seen) in &look.seen {
+            if !is_unchanged(self.records.get(key.as_str()), seen, files) {
+                changes.insert(key.clone()?, Some(seen))?;
             }
         }
-        self.add_gone_records(look, rest, &mut changes)?;
+        self.add_gone(look, &mut changes)?;
         Ok(changes)
     }
 
-    // Adds the objects of records that were not seen, except for those that could not be looked at.
-    fn add_gone_records(
+    // Adds the objects of records that are gone.
+    fn add_gone<'a>(
         &self,
-        look: &Look,
-        gone: &[Record],
-        changes: &mut Vec<Change<'_>>,
-    ) -> Result<(), TransferFault> {
-        for record in gone {
-            if !look.is_hidden(record.key.as_str()) {
-                changes.push(Change {
-                    key: String::from_str(self.alloc, record.key.as_str())?,
-                    seen: None,
-                })?;
+        look: &'a Look,
+        changes: &mut BTreeMap<String, Option<&'a Seen>>,
+    ) -> Result<(), TransferFault>
+        ensures { OnOk result ((q : Bytes) → has_key changes.new q ≡ (has_key changes.old q || list_any (is_gone look.now q) (keys self.now.records))) }
+    {
+        for key in self.records.keys() {
+            if !look.seen.contains_key(key.as_str()) && !look.is_hidden(key.as_str()) {
+                changes.insert(key.clone()?, None)?;
             }
         }
         Ok(())
     }
+}
 
-    // An object has the stamp of the last comparison, and its stand-in exists if it has one.
-    fn is_unchanged(
-        &self,
-        record: Option<&Record>,
-        seen: &Seen,
-        files: &Ram,
-    ) -> Result<bool, TransferFault> {
-        let Some(record) = record else {
-            return Ok(seen.kind == Kind::Foreign);
-        };
-        if record.path.as_str() != seen.path.as_str() {
-            return Ok(false);
-        }
-        match (&record.last, seen.kind) {
-            (Last::Directory, Kind::Directory) => Ok(true),
-            (Last::File(_), Kind::File { .. }) => {
-                Ok(!record.is_fresh && record.stamp.is_same(&seen.stamp))
-            }
-            (Last::StandIn, Kind::File { .. }) => {
-                let there = files.look(&record.place);
-                Ok(record.stamp.is_same(&seen.stamp) && there.is_some_and(is_stand_in))
-            }
-            _ => Ok(false),
+// What is there is what was there at the last comparison, or is not shared.
+fn is_unchanged(record: Option<&Record>, seen: &Seen, files: &Ram) -> bool
+    ensures { result ≡ is_unchanged files.now (option_copied «record».entry) seen.now }
+{
+    match record {
+        None => matches!(seen.kind, Kind::Foreign),
+        Some(record) => {
+            record.path.as_str() == seen.path.as_str() && has_last_stamp(record, seen, files)
         }
     }
 }
 
-// How many records come before a key.
-fn before(records: &[Record], key: &str) -> usize
-    ensures { result ≤ length records.now }
+// What is there has the stamp of the last comparison, and its stand-in exists if it has one.
+fn has_last_stamp(record: &Record, seen: &Seen, files: &Ram) -> bool
+    ensures { result ≡ has_last_stamp files.now «record».now seen.now «record».now.last seen.now.kind }
 {
-    for place in 0..records.len() {
-        if records[place].key.as_str() >= key {
-            return place;
+    match (&record.last, seen.kind) {
+        (Last::Directory, Kind::Directory) => true,
+        (Last::File(_), Kind::File { .. }) => {
+            !record.is_fresh && record.stamp.is_same(&seen.stamp)
         }
+        (Last::StandIn, Kind::File { .. }) => {
+            record.stamp.is_same(&seen.stamp) && has_stand_in(files.look(&record.place))
+        }
+        _ => false,
     }
-    records.len()
+}
+
+// A stand-in is there.
+fn has_stand_in(entry: Option<&Entry>) -> bool
+    ensures { result ≡ has_stand_in (option_copied entry.entry) }
+{
+    match entry {
+        Some(entry) => is_stand_in(entry),
+        None => false,
+    }
 }
 
 // What both sides have if an arrival came in as planned.

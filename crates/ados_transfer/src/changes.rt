@@ -1,7 +1,7 @@
 //! What is planned for one object of the folder of a share.
 
 use crate::arrival_plan::ArrivalPlan;
-use crate::arrivals::{Arrival, Change, Coming};
+use crate::arrivals::{Arrival, Coming};
 use crate::decision::{Decision, State, decide};
 use crate::faults::TransferFault;
 use crate::folders::{Kind, Seen};
@@ -19,19 +19,16 @@ impl Mirror {
         &mut self,
         rt: &R,
         plan: &mut ArrivalPlan<'_>,
-        change: &Change<'_>,
+        key: &str,
+        seen: Option<&Seen>,
     ) -> Result<(), TransferFault> {
-        let key = change.key.as_str();
-        let Some(record) = self.records.find(key) else {
+        let Some(record) = self.records.get(key) else {
             return Ok(());
         };
-        if change
-            .seen
-            .is_some_and(|seen| is_of_kind(record, seen.kind))
-        {
+        if seen.is_some_and(|seen| is_of_kind(record, seen.kind)) {
             return Ok(());
         }
-        let here = self.look_at(rt, change)?;
+        let here = self.look_at(rt, seen)?;
         let place = record.place.copy()?;
         let entry = plan.look(key, &place);
         let state = here.state(Some(record));
@@ -64,9 +61,9 @@ impl Mirror {
     fn look_at<R: AllocGlobal + Files>(
         &self,
         rt: &R,
-        change: &Change<'_>,
+        seen: Option<&Seen>,
     ) -> Result<Here, TransferFault> {
-        match change.seen {
+        match seen {
             Some(seen) => Here::look(rt, self.folder.as_str(), seen.path.as_str()),
             None => Ok(Here::Absent),
         }
@@ -77,38 +74,32 @@ impl Mirror {
         &mut self,
         rt: &R,
         plan: &mut ArrivalPlan<'_>,
-        change: &Change<'_>,
+        key: &str,
+        seen: &Seen,
     ) -> Result<(), TransferFault> {
-        let Some(seen) = change.seen else {
-            return Ok(());
-        };
-        let key = seen.key.as_str();
         let place = self.place_of(seen.path.as_str())?;
         let entry = plan.look(key, &place);
-        if entry.is_none() && plan.is_full() && self.records.find(key).is_none() {
+        if entry.is_none() && plan.is_full() && !self.records.contains_key(key) {
             return self.report_full(seen.path.as_str());
         }
         let here = Here::look(rt, self.folder.as_str(), seen.path.as_str())?;
         if here.is_unread() {
             return self.report_unread(key, seen.path.as_str());
         }
-        let record = match self.records.find(key) {
-            Some(record) if !plan.deletes(key) => Some(record),
-            _ => None,
-        };
+        let record = self.records.get(key).filter(|_| !plan.deletes(key));
         if entry.is_some() && record.is_some_and(|record| !is_of_kind(record, seen.kind)) {
             return Ok(());
         }
         let is_stand_in = record.is_some_and(Record::is_stand_in);
         match here.decision(record, entry) {
-            Decision::Keep => self.keep_alike(plan, seen, &here, entry),
-            Decision::Write => self.keep_marks(plan, seen, &here),
+            Decision::Keep => self.keep_alike(plan, key, seen, &here, entry),
+            Decision::Write => self.keep_marks(plan, key, seen, &here),
             Decision::Conflict => {
                 self.report_kept(key, seen.path.as_str(), is_stand_in)?;
                 self.overrule(seen.path.as_str(), entry.is_some())?;
-                plan.add_object(self, seen, here, &place)
+                plan.add_object(self, key, seen, here, &place)
             }
-            Decision::Bring => plan.add_object(self, seen, here, &place),
+            Decision::Bring => plan.add_object(self, key, seen, here, &place),
         }
     }
 
@@ -116,13 +107,18 @@ impl Mirror {
     fn keep_marks(
         &mut self,
         plan: &ArrivalPlan<'_>,
+        key: &str,
         seen: &Seen,
         here: &Here,
     ) -> Result<(), TransferFault> {
-        if let Some(stamp) = here.stamp() {
-            let path = String::from_str(self.alloc, seen.path.as_str())?;
-            self.records
-                .mark(seen.key.as_str(), path, stamp, stamp.is_fresh(plan.now()));
+        let Some(stamp) = here.stamp() else {
+            return Ok(());
+        };
+        let path = seen.path.clone()?;
+        if let Some(record) = self.records.get_mut(key) {
+            record.path = path;
+            record.stamp = stamp;
+            record.is_fresh = stamp.is_fresh(plan.now());
         }
         Ok(())
     }
@@ -131,6 +127,7 @@ impl Mirror {
     fn keep_alike(
         &mut self,
         plan: &ArrivalPlan<'_>,
+        key: &str,
         seen: &Seen,
         here: &Here,
         entry: Option<&Entry>,
@@ -146,13 +143,7 @@ impl Mirror {
             (_, Body::File(_)) if is_stand_in(entry) => Last::StandIn,
             _ => return Ok(()),
         };
-        self.keep_as(
-            seen.key.as_str(),
-            seen.path.as_str(),
-            last,
-            stamp,
-            plan.now(),
-        )
+        self.keep_as(key, seen.path.as_str(), last, stamp, plan.now())
     }
 }
 

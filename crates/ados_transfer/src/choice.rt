@@ -35,7 +35,7 @@ pub fn is_chosen(below: &[Named], place: usize, records: &Records) -> bool {
     if is_first && is_only {
         return true;
     }
-    match records.find(named.key.as_str()) {
+    match records.get(named.key.as_str()) {
         Some(record)
             if below
                 .iter()

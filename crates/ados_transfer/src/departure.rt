@@ -1,6 +1,10 @@
 //! One object of the Shell's files on its way to the folder of a share.
-ghost use Rattle.std.specs.Prelude.{IfOk, string_bytes};
+ghost use Rattle.std.specs.Prelude.{◌≡◌, ◌||◌, IfOk, OnOk, string_bytes};
+ghost use Rattle.std.specs.BTreeMap.{IsEmpty};
+ghost use Rattle.std.specs.Str.{bytes_eq};
+ghost use Rattle.ados_text.specs.Text.{Bytes};
 ghost use Rattle.ados_transfer.specs.Paths.{IsBelow};
+ghost use Rattle.ados_transfer.specs.Records.{has_key};
 
 use crate::faults::TransferFault;
 use crate::folders::{is_below, is_unshared};
@@ -12,6 +16,7 @@ use crate::stamps::Stamp;
 use crate::writing::{enter, open_beside, path_of};
 use ados_ram::Entry;
 use std::alloc::Global;
+use std::collections::BTreeMap;
 use std::os::unix::fs::PermissionsExt;
 use std::rt::Files;
 use std::{fs, io};
@@ -19,8 +24,6 @@ use std::{fs, io};
 /// An object of the Shell's files that is not what it was at the last comparison.
 #[derive(Drop)]
 pub struct Departure<'a> {
-    /// Which one.
-    pub key: String,
     /// Its path below the folder.
     pub path: String,
     /// What is there; nothing if it is gone.
@@ -35,16 +38,11 @@ pub struct Departure<'a> {
 
 impl<'a> Departure<'a> {
     /// The change of an object that was there at the last comparison.
-    pub fn of(
-        alloc: Global,
-        record: &Record,
-        entry: Option<&'a Entry>,
-    ) -> Result<Departure<'a>, TransferFault> {
+    pub fn of(record: &Record, entry: Option<&'a Entry>) -> Result<Departure<'a>, TransferFault> {
         let was_directory = matches!(record.last, Last::Directory);
         let is_turned = entry.is_some_and(|entry| entry.is_directory() != was_directory);
         Ok(Departure {
-            key: String::from_str(alloc, record.key.as_str())?,
-            path: String::from_str(alloc, record.path.as_str())?,
+            path: record.path.clone()?,
             entry,
             is_new: false,
             is_turned,
@@ -52,10 +50,62 @@ impl<'a> Departure<'a> {
         })
     }
 
-    /// It is below an object that is turned.
-    pub fn is_below_turn(&self, departures: &[Departure<'_>]) -> bool {
-        departures.iter().any(|other| other.is_turned
-            && is_below(other.key.as_str(), self.key.as_str()))
+    /// One that was not there at the last comparison.
+    pub fn new(path: String, entry: &'a Entry) -> Departure<'a> {
+        Departure {
+            path,
+            entry: Some(entry),
+            is_new: true,
+            is_turned: false,
+            is_at_turn: false,
+        }
+    }
+}
+
+/// Departures, each by its path below the folder in lower case.
+#[derive(Drop)]
+pub struct Departures<'a> {
+    /// In the order of these keys a directory comes before what is in it.
+    pub by_key: BTreeMap<String, Departure<'a>>,
+    // The keys of those that are turned.
+    turned: Vec<String>,
+}
+
+impl<'a> Departures<'a> {
+    /// No departures.
+    pub fn new(alloc: Global) -> Departures<'a>
+        ensures { IsEmpty result.by_key }
+    {
+        Departures {
+            by_key: BTreeMap::new(alloc),
+            turned: Vec::new(alloc),
+        }
+    }
+
+    /// Adds one; what is in a directory is added after it.
+    pub fn add(&mut self, key: String, departure: Departure<'a>) -> Result<(), TransferFault>
+        ensures { OnOk result ((q : Bytes) → has_key self.new.by_key q ≡ (bytes_eq (string_bytes key) q || has_key self.old.by_key q)) }
+    {
+        let mut departure = departure;
+        departure.is_at_turn = self.note_turn(key.as_str(), departure.is_turned)?;
+        self.by_key.insert(key, departure)?;
+        Ok(())
+    }
+
+    // An object is turned, which is noted, or is below one that is.
+    fn note_turn(&mut self, key: &str, is_turned: bool) -> Result<bool, TransferFault>
+        ensures { self.new.by_key ≡ self.old.by_key }
+    {
+        if !is_turned {
+            return Ok(
+                self.turned
+                    .iter()
+                    .any(|turned| is_below(turned.as_str(), key)),
+            );
+        }
+        self.turned
+            .push(String::from_str(*self.turned.allocator(), key)?)?;
+        Ok(true)
     }
 }
 

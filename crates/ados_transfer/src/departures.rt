@@ -1,7 +1,11 @@
 //! What changed in the Shell's files below the directory of a share, on its way to the folder.
+ghost use Rattle.std.specs.Prelude.{◌≡◌, IfOk};
+ghost use Rattle.std.specs.List.{list_any};
+ghost use Rattle.ados_text.specs.Text.{Bytes};
+ghost use Rattle.ados_transfer.specs.Records.{has_key, has_left};
 
 use crate::account::Account;
-use crate::departure::{Departure, is_key_left_out};
+use crate::departure::{Departure, Departures, is_key_left_out};
 use crate::faults::TransferFault;
 use crate::mirror::Mirror;
 use crate::stand_ins::own_entry;
@@ -10,7 +14,7 @@ use std::rt::Files;
 use std::time::Clock;
 
 impl Mirror {
-    /// Writes to the folder what changed below the directory since the last time: first what is new, then what changed, then what is of another kind
+    /// Writes to the folder what changed below the directory since the last comparison: first what is new, then what changed, then what is of another kind
     /// now, and what needs its place, and at last what is gone is deleted, the deepest first. While anything that the Shell holds
     /// below the directory is not written, nothing is deleted: it may have been moved there, and one line reports it. With `dry`
     /// the changes are only reported.
@@ -31,7 +35,7 @@ impl Mirror {
             );
         }
         if self.is_elsewhere(rt) {
-            let folder = String::from_str(self.alloc, self.folder.as_str())?;
+            let folder = self.folder.clone()?;
             return self.fail("", "cannot write", folder.as_str());
         }
         self.forget("");
@@ -39,16 +43,16 @@ impl Mirror {
         let mut account = Account::new(self.alloc);
         let departures = self.departures(files, &mut account)?;
         for is_new in [true, false] {
-            for departure in &departures {
+            for (key, departure) in &departures.by_key {
                 if departure.is_new == is_new && !departure.is_at_turn {
-                    self.write_here(rt, files, departure, &mut account)?;
+                    self.write_here(rt, files, key.as_str(), departure, &mut account)?;
                 }
             }
         }
         self.turn(rt, files, &departures, &mut account)?;
-        for departure in departures.iter().rev() {
+        for (key, departure) in departures.by_key.iter().rev() {
             if departure.entry.is_none() && !departure.is_at_turn {
-                self.delete_here(rt, departure, &mut account)?;
+                self.delete_here(rt, key.as_str(), departure, &mut account)?;
             }
         }
         self.report_account(&account)
@@ -60,67 +64,54 @@ impl Mirror {
         &mut self,
         rt: &R,
         files: &Ram,
-        departures: &[Departure<'_>],
+        departures: &Departures<'_>,
         account: &mut Account,
     ) -> Result<(), TransferFault> {
-        for departure in departures.iter().rev() {
+        for (key, departure) in departures.by_key.iter().rev() {
             if departure.is_at_turn && (departure.is_turned || departure.entry.is_none()) {
-                self.delete_here(rt, departure, account)?;
+                self.delete_here(rt, key.as_str(), departure, account)?;
             }
         }
-        for departure in departures {
+        for (key, departure) in &departures.by_key {
             if departure.is_at_turn {
-                self.write_here(rt, files, departure, account)?;
+                self.write_here(rt, files, key.as_str(), departure, account)?;
             }
         }
         self.end_turn(rt, account)
     }
 
-    // The objects whose state in the Shell's files differs from the last time, in the order of the keys. A file whose name is left
-    // out is never written: that is noted.
+    // The objects whose state in the Shell's files differs from the last comparison. A file whose name is left out is never written: that
+    // is noted.
     fn departures<'a>(
         &self,
         files: &'a Ram,
         account: &mut Account,
-    ) -> Result<Vec<Departure<'a>>, TransferFault> {
-        let mut departures = Vec::new(self.alloc);
-        let mut known = 0usize;
-        for record in self.records.all() {
-            let entry = files.look(&record.place);
-            if entry.is_some() {
-                known = known.saturating_add(1);
-            }
-            if !record.is_kept(entry) {
-                departures.push(Departure::of(self.alloc, record, own_entry(entry))?)?;
-            }
-        }
+    ) -> Result<Departures<'a>, TransferFault> {
+        let mut departures = self.known_departures(files)?;
+        let gone = departures
+            .by_key
+            .values()
+            .filter(|departure| departure.entry.is_none())
+            .count();
         let places = files.contents(&self.place)?;
-        if known < places.len() {
+        if self.records.len().saturating_sub(gone) < places.len() {
             self.add_new(files, &places, &mut departures, account)?;
-            departures.sort_by(|a, b| a.key.as_str().cmp(b.key.as_str()))?;
         }
-        self.mark_turns(departures)
+        Ok(departures)
     }
 
-    // Marks what is below an object of another kind.
-    fn mark_turns<'a>(
-        &self,
-        departures: Vec<Departure<'a>>,
-    ) -> Result<Vec<Departure<'a>>, TransferFault> {
-        if !departures.iter().any(|departure| departure.is_turned) {
-            return Ok(departures);
+    // Those that were there at the last comparison.
+    fn known_departures<'a>(&self, files: &'a Ram) -> Result<Departures<'a>, TransferFault>
+        ensures { IfOk result (λ departures. (q : Bytes) → has_key departures.by_key q ≡ list_any (has_left files.now q) self.now.records.entries) }
+    {
+        let mut departures = Departures::new(self.alloc);
+        for (key, record) in &self.records {
+            let entry = files.look(&record.place);
+            if !record.is_kept(entry) {
+                departures.add(key.clone()?, Departure::of(record, own_entry(entry))?)?;
+            }
         }
-        let mut below = Vec::new(self.alloc);
-        for departure in &departures {
-            below.push(departure.is_below_turn(&departures))?;
-        }
-        let mut marked = Vec::new(self.alloc);
-        for (departure, is_below) in departures.into_iter().zip(below) {
-            let mut departure = departure;
-            departure.is_at_turn = departure.is_turned || is_below;
-            marked.push(departure)?;
-        }
-        Ok(marked)
+        Ok(departures)
     }
 
     // Adds what is new.
@@ -128,7 +119,7 @@ impl Mirror {
         &self,
         files: &'a Ram,
         places: &[Place],
-        departures: &mut Vec<Departure<'a>>,
+        departures: &mut Departures<'a>,
         account: &mut Account,
     ) -> Result<(), TransferFault> {
         for place in places {
@@ -136,20 +127,13 @@ impl Mirror {
             else {
                 continue;
             };
-            if self.records.find(key.as_str()).is_some() {
+            if self.records.contains_key(key.as_str()) {
                 continue;
             }
             let written = files.written(place)?;
             let path = self.path_of(written.relative_names(&self.place))?;
             if !is_key_left_out(key.as_str(), self.options.all) {
-                departures.push(Departure {
-                    path,
-                    key,
-                    entry: Some(entry),
-                    is_new: true,
-                    is_turned: false,
-                    is_at_turn: false,
-                })?;
+                departures.add(key, Departure::new(path, entry))?;
             } else if !entry.is_directory() {
                 account.add_unwritten_entry(path.as_str(), entry)?;
             }

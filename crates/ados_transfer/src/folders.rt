@@ -1,5 +1,8 @@
 //! What is in the folder of a share.
 ghost use Rattle.std.specs.Prelude.{◌≡◌};
+ghost use Rattle.std.specs.List.{list_any};
+ghost use Rattle.std.specs.Option.{option_copied};
+ghost use Rattle.ados_transfer.specs.Changes.{hides, is_below, is_slash};
 ghost use Rattle.ados_transfer.specs.Paths.{is_unshared};
 
 use crate::choice::{Named, is_chosen, order};
@@ -10,6 +13,7 @@ use crate::records::Records;
 use crate::stamps::Stamp;
 use crate::writing::BESIDE;
 use std::alloc::{AllocError, Global};
+use std::collections::BTreeMap;
 use std::fs::Metadata;
 use std::io::ErrorKind;
 use std::os::unix::fs::PermissionsExt;
@@ -40,8 +44,6 @@ impl Kind {
 /// An object of the folder.
 #[derive(Drop)]
 pub struct Seen {
-    /// Its path below the folder in lower case.
-    pub key: String,
     /// Its path below the folder.
     pub path: String,
     /// What it is.
@@ -59,11 +61,11 @@ pub struct Unread {
     pub path: String,
 }
 
-/// A look at the folder: what is in it, in the order of the keys.
+/// A look at the folder.
 #[derive(Drop)]
 pub struct Look {
-    /// What is there.
-    pub seen: Vec<Seen>,
+    /// What is there, each object by its path below the folder in lower case.
+    pub seen: BTreeMap<String, Seen>,
     /// The folders that could not be read, and the objects that could not be looked at.
     pub unread: Vec<Unread>,
     /// The lines that report what is left alone.
@@ -81,7 +83,7 @@ impl Look {
     ) -> Result<Look, TransferFault> {
         let alloc = rt.alloc();
         let mut look = Look {
-            seen: Vec::new(alloc),
+            seen: BTreeMap::new(alloc),
             unread: Vec::new(alloc),
             lines: Vec::new(alloc),
         };
@@ -89,8 +91,6 @@ impl Look {
         left.push(String::new(alloc))?;
         for _ in 0..FOLDERS {
             let Some(path) = left.pop() else {
-                look.seen
-                    .sort_by(|a, b| a.key.as_str().cmp(b.key.as_str()))?;
                 return Ok(look);
             };
             let mut folders = look.add_folder(rt, folder, path.as_str(), all, records)?;
@@ -100,9 +100,10 @@ impl Look {
     }
 
     /// The object with this key could not be looked at, or is in a folder that could not be read.
-    pub fn is_hidden(&self, key: &str) -> bool {
-        self.unread.iter().any(|unread| unread.key.as_str() == key
-            || is_below(unread.key.as_str(), key))
+    pub fn is_hidden(&self, key: &str) -> bool
+        ensures { result ≡ list_any (hides key.now) self.now.unread.items }
+    {
+        self.unread.iter().any(|unread| hides(key, unread))
     }
 
     // Notes that an object could not be read.
@@ -222,7 +223,7 @@ impl Look {
         };
         let kind = kind_of(&found);
         match kind {
-            Kind::Directory => folders.push(String::from_str(alloc, named.path.as_str())?)?,
+            Kind::Directory => folders.push(named.path.clone()?)?,
             Kind::Foreign => self.report(
                 alloc,
                 "no file or folder, left alone",
@@ -230,12 +231,12 @@ impl Look {
             )?,
             Kind::File { .. } => {}
         }
-        self.seen.push(Seen {
-            key: named.key,
+        let seen = Seen {
             path: named.path,
             kind,
             stamp: Stamp::of(&found),
-        })?;
+        };
+        self.seen.insert(named.key, seen)?;
         Ok(())
     }
 
@@ -274,10 +275,24 @@ pub fn lower(alloc: Global, path: &str) -> Result<String, AllocError> {
     path.to_ascii_lowercase(alloc)
 }
 
+// What could not be read is the object of this key, or a folder above it.
+fn hides(key: &str, unread: &Unread) -> bool
+    ensures { result ≡ hides key.now unread.now }
+{
+    unread.key.as_str() == key || is_below(unread.key.as_str(), key)
+}
+
 /// A key is that of an object below a folder.
-pub fn is_below(folder: &str, key: &str) -> bool {
-    match key.strip_prefix(folder) {
-        Some(rest) => folder.is_empty() || rest.starts_with('/'),
-        None => false,
-    }
+pub fn is_below(folder: &str, key: &str) -> bool
+    ensures { result ≡ is_below folder.now key.now }
+{
+    key.as_bytes().starts_with(folder.as_bytes())
+        && (folder.is_empty() || is_slash(key.as_bytes().get(folder.len())))
+}
+
+// A byte is a slash.
+fn is_slash(byte: Option<&u8>) -> bool
+    ensures { result ≡ is_slash (option_copied byte.entry) }
+{
+    matches!(byte, Some(b'/'))
 }

@@ -15,7 +15,6 @@ mod departures;
 mod faults;
 mod folders;
 mod here;
-mod keys;
 mod left_out;
 mod lines;
 mod mirror;

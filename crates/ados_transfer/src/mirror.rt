@@ -1,14 +1,18 @@
 //! A share: a folder of this machine and a directory of the Shell's files that are kept alike.
+ghost use Rattle.std.specs.Prelude.{◌≡◌, None, Some, OnOk, string_bytes};
+ghost use Rattle.std.specs.BTreeMap.{IsOrdered};
+ghost use Rattle.std.specs.String.{string_cmp};
+ghost use Rattle.ados_transfer.specs.Records.{Sets};
 
 use crate::bringing::parted;
 use crate::faults::{TransferFault, named};
-use crate::keys::Keys;
 use crate::paths::{is_free, place_in};
 use crate::records::{Last, Record, Records};
 use crate::stamps::Stamp;
 use crate::stand_ins::Watch;
 use ados_ram::{Place, Ram};
 use std::alloc::Global;
+use std::collections::{BTreeMap, BTreeSet};
 use std::fs;
 use std::rt::Files;
 use std::time::{Clock, SystemTime};
@@ -38,16 +42,16 @@ pub struct Mirror {
     pub(crate) has_stand_ins: bool,
     // The lines that are to be reported, and those that are reported only once in a run.
     lines: Vec<String>,
-    reported: Keys,
+    reported: BTreeSet<String>,
     // The keys of those for which this machine's object stays, and of those that could not be written or brought in.
-    standing: Keys,
-    failing: Keys,
+    standing: BTreeSet<String>,
+    failing: BTreeSet<String>,
     // The keys of those that could not be read at the last look, and at the one before.
-    unread: Keys,
-    unread_before: Keys,
+    unread: BTreeSet<String>,
+    unread_before: BTreeSet<String>,
     // The Shell's files had no place for an object.
     is_full: bool,
-    // At the last time something was not deleted, since not everything was written.
+    // At the last comparison something was not deleted, since not everything was written.
     pub(crate) is_holding: bool,
     // The first object of the Shell that gave way to this machine's at this look.
     pub(crate) overruled: Option<String>,
@@ -85,14 +89,14 @@ impl Mirror {
             folder,
             place,
             options,
-            records: Records::new(alloc),
+            records: BTreeMap::new(alloc),
             has_stand_ins: false,
             lines: Vec::new(alloc),
-            reported: Keys::new(alloc),
-            standing: Keys::new(alloc),
-            failing: Keys::new(alloc),
-            unread: Keys::new(alloc),
-            unread_before: Keys::new(alloc),
+            reported: BTreeSet::new(alloc),
+            standing: BTreeSet::new(alloc),
+            failing: BTreeSet::new(alloc),
+            unread: BTreeSet::new(alloc),
+            unread_before: BTreeSet::new(alloc),
             is_full: false,
             is_holding: false,
             overruled: None,
@@ -116,12 +120,13 @@ impl Mirror {
     }
 
     // Keeps an object as it is on both sides now.
-    pub(crate) fn keep(&mut self, record: Record) -> Result<(), TransferFault> {
-        if matches!(record.last, Last::StandIn) {
-            self.has_stand_ins = true;
-        }
-        self.settled(record.key.as_str());
-        self.records.put(record)?;
+    pub(crate) fn keep(&mut self, key: String, record: Record) -> Result<(), TransferFault>
+        ensures kept { OnOk result (Sets self.old.records self.new.records (string_bytes key) (Some «record»)) }
+        ensures once { IsOrdered string_cmp self.new.records }
+    {
+        self.has_stand_ins = self.has_stand_ins || record.is_stand_in();
+        self.settled(key.as_str());
+        self.records.insert(key, record)?;
         Ok(())
     }
 
@@ -134,44 +139,50 @@ impl Mirror {
         stamp: Stamp,
         now: &SystemTime,
     ) -> Result<(), TransferFault> {
-        self.keep(Record {
-            key: String::from_str(self.alloc, key)?,
+        let record = Record {
             path: String::from_str(self.alloc, path)?,
             place: self.place_of(key)?,
             last,
             stamp,
             is_fresh: stamp.is_fresh(now),
             watch: Watch::NEW,
-        })
+        };
+        self.keep(String::from_str(self.alloc, key)?, record)
     }
 
     // Neither side has an object with this key any longer.
-    pub(crate) fn forget(&mut self, key: &str) {
+    pub(crate) fn forget(&mut self, key: &str)
+        ensures forgotten { Sets self.old.records self.new.records key.now None }
+        ensures once { IsOrdered string_cmp self.new.records }
+    {
         self.settled(key);
-        let _ = self.records.take(key);
+        self.records.remove(key);
     }
 
     // The two sides no longer differ at this key.
-    fn settled(&mut self, key: &str) {
+    fn settled(&mut self, key: &str)
+        ensures { self.new.records ≡ self.old.records }
+    {
         self.standing.remove(key);
         self.failing.remove(key);
     }
 
     // Reports a line about an object.
-    pub(crate) fn report(&mut self, text: &str, path: &str) -> Result<(), TransferFault> {
+    pub(crate) fn report(&mut self, text: &str, path: &str) -> Result<(), TransferFault>
+        ensures { self.new.records ≡ self.old.records }
+    {
         self.lines.push(format!(in self.alloc; "{text}: {path}")?)?;
         Ok(())
     }
 
     // Reports a line about an object once in a run.
     pub(crate) fn report_once(&mut self, text: &str, path: &str) -> Result<(), TransferFault> {
-        let line = format!(in self.alloc; "{text}: {path}")?;
-        self.report_line(line)
+        self.report_line(format!(in self.alloc; "{text}: {path}")?)
     }
 
     // Reports a line once in a run.
     pub(crate) fn report_line(&mut self, line: String) -> Result<(), TransferFault> {
-        if self.reported.add(line.as_str())? {
+        if self.reported.insert(line.clone()?)? {
             self.lines.push(line)?;
         }
         Ok(())
@@ -184,14 +195,12 @@ impl Mirror {
         path: &str,
         is_stand_in: bool,
     ) -> Result<(), TransferFault> {
-        if !self.standing.add(key)? {
-            return Ok(());
-        }
-        if is_stand_in {
-            self.report("kept, since the Shell can't hold it", path)
+        let text = if is_stand_in {
+            "kept, since the Shell can't hold it"
         } else {
-            self.report("both changed, kept this machine's", path)
-        }
+            "both changed, kept this machine's"
+        };
+        self.tell_stays(key, text, path)
     }
 
     // Notes that an object gives way to this machine's, if the Shell has one.
@@ -204,8 +213,13 @@ impl Mirror {
 
     // Reports that a folder stays, since more is in it than the Shell knows, once until that is settled.
     pub(crate) fn report_not_empty(&mut self, key: &str, path: &str) -> Result<(), TransferFault> {
-        if self.standing.add(key)? {
-            self.report("kept, since it is not empty", path)?;
+        self.tell_stays(key, "kept, since it is not empty", path)
+    }
+
+    // Reports that this machine's object stays by this line, once until that is settled.
+    fn tell_stays(&mut self, key: &str, text: &str, path: &str) -> Result<(), TransferFault> {
+        if self.standing.insert(String::from_str(self.alloc, key)?)? {
+            self.report(text, path)?;
         }
         Ok(())
     }
@@ -221,26 +235,28 @@ impl Mirror {
 
     // An object could not be written or brought in, and has not been since.
     pub(crate) fn is_failing(&self, key: &str) -> bool {
-        self.failing.has(key)
+        self.failing.contains(key)
     }
 
     // Reports that something failed, once until that is settled.
-    pub(crate) fn fail(&mut self, key: &str, text: &str, path: &str) -> Result<(), TransferFault> {
-        if !self.failing.add(key)? {
-            return Ok(());
+    pub(crate) fn fail(&mut self, key: &str, text: &str, path: &str) -> Result<(), TransferFault>
+        ensures { self.new.records ≡ self.old.records }
+    {
+        if self.failing.insert(String::from_str(self.alloc, key)?)? {
+            self.report(text, path)?;
         }
-        self.report(text, path)
+        Ok(())
     }
 
     // Begins a look: nothing is known yet of what cannot be read.
     pub(crate) fn begin_look(&mut self) {
-        let unread = std::mem::replace(&mut self.unread, Keys::new(self.alloc));
-        self.unread_before = unread;
+        self.unread_before = std::mem::replace(&mut self.unread, BTreeSet::new(self.alloc));
     }
 
     // Reports that an object cannot be read, unless that was so at the look before.
     pub(crate) fn report_unread(&mut self, key: &str, path: &str) -> Result<(), TransferFault> {
-        if !self.unread.add(key)? || self.unread_before.has(key) {
+        let is_new = self.unread.insert(String::from_str(self.alloc, key)?)?;
+        if !is_new || self.unread_before.contains(key) {
             return Ok(());
         }
         if path.is_empty() {

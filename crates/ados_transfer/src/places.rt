@@ -46,8 +46,8 @@ impl Mirror {
         for name in self.spelled(names)?.split('/') {
             let below = step_into(self.alloc, path.as_str(), name)?;
             let key = lower(self.alloc, below.as_str())?;
-            path = match self.records.find(key.as_str()) {
-                Some(record) => String::from_str(self.alloc, record.path.as_str())?,
+            path = match self.records.get(key.as_str()) {
+                Some(record) => record.path.clone()?,
                 None => below,
             };
         }

@@ -1,15 +1,16 @@
 //! What was alike on both sides of a share at the last comparison.
-ghost use Rattle.std.specs.Prelude.{◌≡◌, ◌<◌, ◌≤◌, length, not, MatchResult};
+ghost use Rattle.std.specs.Prelude.{◌≡◌, not};
 ghost use Rattle.std.specs.Option.{is_some, option_copied};
 ghost use Rattle.ados_transfer.specs.Mirror.{is_absent};
+ghost use Rattle.ados_transfer.specs.Records.{is_kept};
 ghost use Rattle.ados_transfer.specs.StandIns.{own_entry};
 
 use crate::decision::State;
 use crate::stamps::Stamp;
 use crate::stand_ins::{Watch, is_stand_in, own_entry};
-use ados_ram::{Body, Entry, FileBytes, Place, Ram};
+use ados_ram::{Body, Entry, FileBytes, Place};
 use ados_text::NoMemory;
-use std::alloc::Global;
+use std::collections::BTreeMap;
 
 /// What an object was at the last comparison.
 #[derive(Drop)]
@@ -35,8 +36,6 @@ impl Last {
 /// An object that was on both sides at the last comparison.
 #[derive(Drop)]
 pub struct Record {
-    /// Its path below the share in lower case: which object it is.
-    pub key: String,
     /// Its path below the folder, in the spelling of this machine.
     pub path: String,
     /// Its place in the Shell's files.
@@ -70,11 +69,16 @@ impl Record {
     }
 
     /// What the Shell has in its place is what it was.
-    pub fn is_kept(&self, entry: Option<&Entry>) -> bool {
-        match (&self.last, entry.map(|entry| &entry.body)) {
-            (Last::File(last), Some(Body::File(bytes))) => last.as_bytes() == bytes.as_bytes(),
-            (Last::Directory, Some(Body::Directory)) => true,
-            _ => self.state().is_same(&self.state_there(entry)),
+    pub fn is_kept(&self, entry: Option<&Entry>) -> bool
+        ensures { result ≡ is_kept self.now.last (option_copied entry.entry) }
+    {
+        let Some(entry) = entry else {
+            return false;
+        };
+        match &self.last {
+            Last::Directory => entry.is_directory(),
+            Last::File(bytes) => !entry.is_directory() && entry.bytes() == bytes.as_bytes(),
+            Last::StandIn => is_stand_in(entry),
         }
     }
 
@@ -111,88 +115,6 @@ pub fn state_there(entry: Option<&Entry>) -> State<'_>
     }
 }
 
-/// The records of a share, in the order of their keys: a directory comes before what is in it.
-#[derive(Drop)]
-pub struct Records {
-    sorted: Vec<Record>,
-}
-
-impl Records {
-    /// No records.
-    pub fn new(alloc: Global) -> Records {
-        Records {
-            sorted: Vec::new(alloc),
-        }
-    }
-
-    /// All of them.
-    pub fn all(&self) -> &[Record] {
-        self.sorted.as_slice()
-    }
-
-    /// The record of a key.
-    pub fn find(&self, key: &str) -> Option<&Record> {
-        match self.place(key) {
-            Ok(place) => self.sorted.get(place),
-            Err(_) => None,
-        }
-    }
-
-    /// Looks at those that are empty in the Shell's files.
-    pub fn watch(&mut self, files: &Ram) {
-        for record in &mut self.sorted {
-            if record.is_stand_in() || record.is_file_of(&[]) {
-                record.watch = record.watch.after(files.look(&record.place));
-            }
-        }
-    }
-
-    /// Spares the files of the stand-ins that are not in their places.
-    pub fn spare_gone(&mut self, files: &Ram) {
-        for record in &mut self.sorted {
-            if record.is_stand_in() && !files.look(&record.place).is_some_and(is_stand_in) {
-                record.watch.is_spared = true;
-            }
-        }
-    }
-
-    /// Notes the path and the stamp that an object has now.
-    pub fn mark(&mut self, key: &str, path: String, stamp: Stamp, is_fresh: bool) {
-        if let Ok(place) = self.place(key) {
-            if let Some(record) = self.sorted.get_mut(place) {
-                record.path = path;
-                record.stamp = stamp;
-                record.is_fresh = is_fresh;
-            }
-        }
-    }
-
-    /// Keeps a record instead of the one with the same key.
-    pub fn put(&mut self, record: Record) -> Result<(), NoMemory> {
-        match self.place(record.key.as_str()) {
-            Ok(place) => {
-                if let Some(old) = self.sorted.get_mut(place) {
-                    *old = record;
-                }
-            }
-            Err(place) => self.sorted.insert(place, record)?,
-        }
-        Ok(())
-    }
-
-    /// Removes the record of a key, and gives it.
-    pub fn take(&mut self, key: &str) -> Option<Record> {
-        match self.place(key) {
-            Ok(place) => Some(self.sorted.remove(place)),
-            Err(_) => None,
-        }
-    }
-
-    // Where the record of a key is, or is to be.
-    fn place(&self, key: &str) -> Result<usize, usize>
-        ensures { MatchResult result (λ at. at < length self.now.sorted.items) (λ at. at ≤ length self.now.sorted.items) }
-    {
-        self.sorted
-            .binary_search_by(|record| record.key.as_str().cmp(key))
-    }
-}
+/// The records of a share, each by its path below the share in lower case, which is its key. In their order a directory comes before
+/// what is in it.
+pub type Records = BTreeMap<String, Record>;

@@ -22,11 +22,12 @@ impl Mirror {
     pub(crate) fn delete_here<R: AllocGlobal + Files>(
         &mut self,
         rt: &R,
+        key: &str,
         departure: &Departure<'_>,
         account: &mut Account,
     ) -> Result<(), TransferFault> {
-        let (key, path) = (departure.key.as_str(), departure.path.as_str());
-        let Some(record) = self.records.find(key) else {
+        let path = departure.path.as_str();
+        let Some(record) = self.records.get(key) else {
             return Ok(());
         };
         let here = Here::look(rt, self.folder.as_str(), path)?;
@@ -43,7 +44,7 @@ impl Mirror {
                 self.forget(key);
                 Ok(())
             }
-            Removal::Delete => self.delete(rt, departure, &here, account),
+            Removal::Delete => self.delete(rt, key, departure, &here, account),
             Removal::Hold => {
                 // It comes in again: later its bytes may be nowhere else.
                 self.forget(key);
@@ -51,7 +52,7 @@ impl Mirror {
             }
             Removal::Conflict => {
                 add_unwritten_at_turn(departure, account)?;
-                self.not_touched(departure, &here, "cannot delete", is_large)
+                self.not_touched(key, path, &here, "cannot delete", is_large)
             }
             Removal::Leave => Ok(()),
         }
@@ -61,16 +62,17 @@ impl Mirror {
     fn delete<R: AllocGlobal + Files>(
         &mut self,
         rt: &R,
+        key: &str,
         departure: &Departure<'_>,
         here: &Here,
         account: &mut Account,
     ) -> Result<(), TransferFault> {
-        let (key, path) = (departure.key.as_str(), departure.path.as_str());
+        let path = departure.path.as_str();
         if self.options.dry {
             return self.report_once("would delete", path);
         }
         let is_done = if departure.is_at_turn {
-            self.set_aside(rt, departure, here, account)
+            self.set_aside(rt, key, path, here, account)
         } else {
             remove(rt, self.folder.as_str(), path, here)
         };
@@ -87,7 +89,7 @@ impl Mirror {
                 self.forget(key);
                 self.report_not_empty(key, path)
             }
-            Err(error) => self.not_done(&error, "cannot delete", departure),
+            Err(error) => self.not_done(&error, "cannot delete", key, path),
         }
     }
 
@@ -100,10 +102,10 @@ impl Mirror {
         let mut account = Account::new(self.alloc);
         account.add_unwritten(path.as_str())?;
         let mut keys = Vec::new(self.alloc);
-        for record in self.records.all() {
+        for (key, record) in &self.records {
             if record.is_gone(files.look(&record.place)) {
                 account.hold(record.path.as_str())?;
-                keys.push(String::from_str(self.alloc, record.key.as_str())?)?;
+                keys.push(key.clone()?)?;
             }
         }
         for key in &keys {
@@ -116,18 +118,19 @@ impl Mirror {
     fn set_aside<R: AllocGlobal + Files>(
         &mut self,
         rt: &R,
-        departure: &Departure<'_>,
+        key: &str,
+        path: &str,
         here: &Here,
         account: &mut Account,
     ) -> io::Result<bool> {
-        let path = departure.path.as_str();
         let Some((beside, mode)) = move_aside(rt, self.folder.as_str(), path, here)? else {
             return Ok(false);
         };
-        let Some(record) = self.records.take(departure.key.as_str()) else {
+        let Some((key, record)) = self.records.remove_entry(key) else {
             return Ok(true);
         };
         let aside = Aside {
+            key,
             record,
             beside,
             mode,
@@ -138,36 +141,18 @@ impl Mirror {
         }
     }
 
-    // Deletes what was moved aside; if anything is not written it gets its place back.
+    // Deletes what was moved aside; if anything is not written each object gets its place back, the last one first.
     pub(crate) fn end_turn<R: AllocGlobal + Files>(
         &mut self,
         rt: &R,
         account: &mut Account,
     ) -> Result<(), TransferFault> {
-        let aside = account.take_aside();
-        if account.has_unwritten() {
-            return self.put_all_back(rt, aside);
-        }
-        for one in &aside {
-            if let Some(beside) = &one.beside {
+        for one in account.take_aside().into_iter().rev() {
+            if account.has_unwritten() {
+                self.put_back(rt, one)?;
+            } else if let Some(beside) = &one.beside {
                 let _ = fs::remove_file(rt, beside.as_str());
             }
-        }
-        Ok(())
-    }
-
-    // Gives each object that was moved aside its place back, the last one first.
-    fn put_all_back<R: AllocGlobal + Files>(
-        &mut self,
-        rt: &R,
-        aside: Vec<Aside>,
-    ) -> Result<(), TransferFault> {
-        let mut left = aside;
-        for _ in 0..left.len() {
-            let Some(one) = left.pop() else {
-                return Ok(());
-            };
-            self.put_back(rt, one)?;
         }
         Ok(())
     }
@@ -179,6 +164,7 @@ impl Mirror {
         aside: Aside,
     ) -> Result<(), TransferFault> {
         let Aside {
+            key,
             record,
             beside,
             mode,
@@ -188,7 +174,7 @@ impl Mirror {
                 let mut record = record;
                 record.stamp = stamp;
                 record.is_fresh = true;
-                self.records.put(record)?;
+                self.records.insert(key, record)?;
                 Ok(())
             }
             _ => match beside {

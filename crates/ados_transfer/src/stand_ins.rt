@@ -90,15 +90,25 @@ fn is_empty(entry: &Entry) -> bool
 impl Mirror {
     /// Looks at the stand-ins: the file of one that had bit d and never bit r is deleted on this machine too if it is deleted.
     pub fn watch(&mut self, files: &Ram) {
-        if self.has_stand_ins {
-            self.records.watch(files);
+        if !self.has_stand_ins {
+            return;
+        }
+        for record in self.records.values_mut() {
+            if record.is_stand_in() || record.is_file_of(&[]) {
+                record.watch = record.watch.after(files.look(&record.place));
+            }
         }
     }
 
     // Spares the files of the stand-ins that are gone, if they may have been moved.
     pub(crate) fn spare_moved(&mut self, files: &Ram) -> Result<(), TransferFault> {
-        if self.has_stand_ins && self.has_stray(files)? {
-            self.records.spare_gone(files);
+        if !self.has_stand_ins || !self.has_stray(files)? {
+            return Ok(());
+        }
+        for record in self.records.values_mut() {
+            if record.is_stand_in() && !files.look(&record.place).is_some_and(is_stand_in) {
+                record.watch.is_spared = true;
+            }
         }
         Ok(())
     }
@@ -119,7 +129,7 @@ impl Mirror {
         let Some(key) = self.key_of(place)? else {
             return Ok(false);
         };
-        match self.records.find(key.as_str()) {
+        match self.records.get(key.as_str()) {
             Some(record) => Ok(record.is_kept(entry) && !record.watch.was_away),
             None => Ok(false),
         }

@@ -26,6 +26,7 @@ impl Mirror {
         &mut self,
         rt: &R,
         files: &Ram,
+        key: &str,
         departure: &Departure<'_>,
         account: &mut Account,
     ) -> Result<(), TransferFault> {
@@ -40,22 +41,23 @@ impl Mirror {
             return self.report_once("would write", path);
         }
         let here = Here::look(rt, self.folder.as_str(), path)?;
-        let record = self.records.find(departure.key.as_str());
+        let record = self.records.get(key);
         let is_large = record.is_some_and(Record::is_stand_in);
         match here.decision(record, Some(entry)) {
             Decision::Keep => match here.stamp() {
-                Some(stamp) => self.keep_written(rt, departure, entry, stamp),
+                Some(stamp) => self.keep_written(rt, (key, path), entry, stamp),
                 None => Ok(()),
             },
             Decision::Bring => Ok(()),
             Decision::Conflict => {
                 account.add_unwritten_entry(path, entry)?;
-                self.not_touched(departure, &here, "cannot write", is_large)
+                self.not_touched(key, path, &here, "cannot write", is_large)
             }
             Decision::Write if self.options.dry => self.report_once("would write", path),
             Decision::Write => {
                 let mode = self.mode_of(rt, files, entry, account)?;
-                self.write(rt, departure, &Draft::new(entry, &here, mode), account)
+                let draft = Draft::new(entry, &here, mode);
+                self.write(rt, (key, path), &draft, account)
             }
         }
     }
@@ -64,26 +66,26 @@ impl Mirror {
     fn write<R: AllocGlobal + Files + Clock>(
         &mut self,
         rt: &R,
-        departure: &Departure<'_>,
+        object: (&str, &str),
         draft: &Draft<'_>,
         account: &mut Account,
     ) -> Result<(), TransferFault> {
-        let path = departure.path.as_str();
+        let (key, path) = object;
         if is_moved_away(draft, account) {
             // It comes in again.
-            self.forget(departure.key.as_str());
+            self.forget(key);
             account.add_unwritten_entry(path, draft.entry)?;
             return account.hold(path);
         }
         match write_entry(rt, self.folder.as_str(), path, draft) {
-            Ok(Some(stamp)) => self.keep_written(rt, departure, draft.entry, stamp),
+            Ok(Some(stamp)) => self.keep_written(rt, object, draft.entry, stamp),
             Ok(None) => {
                 account.add_unwritten_entry(path, draft.entry)?;
-                self.report_kept(departure.key.as_str(), path, false)
+                self.report_kept(key, path, false)
             }
             Err(error) => {
                 account.add_unwritten_entry(path, draft.entry)?;
-                self.not_done(&error, "cannot write", departure)
+                self.not_done(&error, "cannot write", key, path)
             }
         }
     }
@@ -101,7 +103,7 @@ impl Mirror {
             return Ok(None);
         }
         let mut original = None;
-        for record in self.records.all() {
+        for record in self.records.values() {
             if record.is_file_of(entry.bytes()) {
                 if !record.is_kept(files.look(&record.place)) {
                     return self.mode_here(rt, record);
@@ -135,12 +137,12 @@ impl Mirror {
     // Reports that this machine's object stays, or with this text that it can't be looked at.
     pub(crate) fn not_touched(
         &mut self,
-        departure: &Departure<'_>,
+        key: &str,
+        path: &str,
         here: &Here,
         text: &str,
         is_large: bool,
     ) -> Result<(), TransferFault> {
-        let (key, path) = (departure.key.as_str(), departure.path.as_str());
         if here.is_unread() {
             self.fail(key, text, path)
         } else {
@@ -153,31 +155,25 @@ impl Mirror {
         &mut self,
         error: &io::Error,
         text: &str,
-        departure: &Departure<'_>,
+        key: &str,
+        path: &str,
     ) -> Result<(), TransferFault> {
         if error.kind() == io::ErrorKind::OutOfMemory {
             return Err(TransferFault::NoMemory);
         }
-        self.fail(departure.key.as_str(), text, departure.path.as_str())
+        self.fail(key, text, path)
     }
 
     // Keeps an object as it is on both sides.
     fn keep_written<R: Clock>(
         &mut self,
         rt: &R,
-        departure: &Departure<'_>,
+        object: (&str, &str),
         entry: &Entry,
         stamp: Stamp,
     ) -> Result<(), TransferFault> {
-        let now = self.now(rt);
-        let last = Last::of(entry)?;
-        self.keep_as(
-            departure.key.as_str(),
-            departure.path.as_str(),
-            last,
-            stamp,
-            &now,
-        )
+        let (key, path) = object;
+        self.keep_as(key, path, Last::of(entry)?, stamp, &self.now(rt))
     }
 }
 
