@@ -8,21 +8,21 @@ use Rattle.ados_transfer.specs.Account.{is_in_unwritten, is_within}
 use Rattle.ados_transfer.specs.Mirror.{is_same_stamp}
 
 -- the stamp that it had, if it was a file or a folder
-abbrev pub marks_of : Here → Option Stamp
-marks_of Absent = None
-marks_of (Directory stamp) = Some stamp
-marks_of (File bytes stamp mode) = Some stamp
-marks_of (Large stamp) = Some stamp
-marks_of Foreign = None
-marks_of Unread = None
+abbrev pub stamp_of : Here → Option Stamp
+stamp_of Absent = None
+stamp_of (Directory stamp) = Some stamp
+stamp_of (File bytes stamp mode) = Some stamp
+stamp_of (Large stamp) = Some stamp
+stamp_of Foreign = None
+stamp_of Unread = None
 
 -- it was there with this stamp
-abbrev pub is_marked : Option Stamp → Stamp → Bool
-is_marked None found = false
-is_marked (Some stamp) found = is_same_stamp stamp found
+abbrev pub is_stamped : Option Stamp → Stamp → Bool
+is_stamped None found = false
+is_stamped (Some stamp) found = is_same_stamp stamp found
 
-abbrev pub has_marks : Here → Stamp → Bool
-has_marks here found = is_marked (marks_of here) found
+abbrev pub has_stamp : Here → Stamp → Bool
+has_stamp here found = is_stamped (stamp_of here) found
 
 -- The bytes of a file that was seen were moved: they occur in a file that could not be written, and not in `new`, the bytes that are
 -- to replace the file.

@@ -58,7 +58,7 @@ decision last here there may_delete =
     (if may_write last here there may_delete then Write else Conflict))
 
 -- how an object of this machine is removed, given what is done with it: one that would be written over is deleted, unless it is gone
--- already, or the update is `has_unwritten`: something that the Shell has could not be written, and may have its bytes
+-- already, or something that the Shell has could not be written (`has_unwritten`), and may have its bytes
 abbrev pub removal_of : Decision → Bool → Bool → Removal
 removal_of Keep gone has_unwritten = if gone then Forget else Leave
 removal_of Bring gone has_unwritten = Leave

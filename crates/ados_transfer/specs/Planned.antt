@@ -1,4 +1,4 @@
--- Files and directories that were planned to be in the Shell's files when the script begins.
+-- Files and directories that are to be in the Shell's files when the script begins.
 use Rattle.std.specs.Prelude.{Bool, false, ◌&&◌, not, Option, Some, None}
 use Rattle.std.specs.Bool.{beq}
 use Rattle.std.specs.FinMap as map

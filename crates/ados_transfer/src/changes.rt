@@ -93,7 +93,7 @@ impl Mirror {
         let is_stand_in = record.is_some_and(Record::is_stand_in);
         match here.decision(record, entry) {
             Decision::Keep => self.keep_alike(plan, key, seen, &here, entry),
-            Decision::Write => self.keep_marks(plan, key, seen, &here),
+            Decision::Write => self.keep_stamp(plan, key, seen, &here),
             Decision::Conflict => {
                 self.report_kept(key, seen.path.as_str(), is_stand_in)?;
                 self.overrule(seen.path.as_str(), entry.is_some())?;
@@ -104,7 +104,7 @@ impl Mirror {
     }
 
     // Keeps the path and the stamp of an object in whose place the Shell's is to be written.
-    fn keep_marks(
+    fn keep_stamp(
         &mut self,
         plan: &ArrivalPlan<'_>,
         key: &str,

@@ -81,7 +81,7 @@ pub fn decide(last: &State<'_>, here: &State<'_>, there: &State<'_>, may_delete:
     // If neither changed nothing is done.
     ensures kept { is_same here.now last.now ≡ true → is_same there.now last.now ≡ true → result ≡ Decision.Keep }
     // If both changed this machine's object stays.
-    ensures stands { is_same here.now last.now ≡ false → is_same there.now last.now ≡ false → is_same here.now there.now ≡ false →
+    ensures conflict { is_same here.now last.now ≡ false → is_same there.now last.now ≡ false → is_same here.now there.now ≡ false →
         is_absent here.now ≡ false → result ≡ Decision.Conflict }
     // The Shell's own change is never overwritten.
     ensures brought { result ≡ Decision.Bring → is_same there.now last.now ≡ true }

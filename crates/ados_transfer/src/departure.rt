@@ -196,7 +196,7 @@ pub fn own_path<R: AllocGlobal + Files>(rt: &R, root: &str, path: &str) -> io::R
 
 // What is at a path has the stamp of what was looked at.
 fn is_still<R: Files>(rt: &R, path: &str, here: &Here) -> io::Result<bool> {
-    Ok(here.has_marks(&Stamp::of(&fs::symlink_metadata(rt, path)?)))
+    Ok(here.has_stamp(&Stamp::of(&fs::symlink_metadata(rt, path)?)))
 }
 
 // The folder of a path's last name, and that name. Folders on the way are made; one that is a link is refused.

@@ -14,8 +14,8 @@ use std::rt::Files;
 use std::time::Clock;
 
 impl Mirror {
-    /// Writes to the folder what changed below the directory since the last comparison: first what is new, then what changed, then what is of another kind
-    /// now, and what needs its place, and at last what is gone is deleted, the deepest first. While anything that the Shell holds
+    /// Writes to the folder what changed below the directory since the last comparison: first what is new, then what changed, then
+    /// what is of another kind now, and what needs its place, and at last what is gone is deleted, the deepest first. While anything that the Shell holds
     /// below the directory is not written, nothing is deleted: it may have been moved there, and one line reports it. With `dry`
     /// the changes are only reported.
     ///

@@ -1,6 +1,6 @@
 //! What this machine has at the place of one object of a share.
 ghost use Rattle.std.specs.Prelude.{◌≡◌};
-ghost use Rattle.ados_transfer.specs.Here.{has_marks, marks_of};
+ghost use Rattle.ados_transfer.specs.Here.{has_stamp, stamp_of};
 
 use crate::bringing::bytes_of;
 use crate::decision::{Decision, State, decide};
@@ -130,15 +130,15 @@ impl Here {
     }
 
     /// It had this stamp, so that nothing took its place since.
-    pub fn has_marks(&self, found: &Stamp) -> bool
-        ensures { result ≡ has_marks self.now found.now }
+    pub fn has_stamp(&self, found: &Stamp) -> bool
+        ensures { result ≡ has_stamp self.now found.now }
     {
         self.stamp().is_some_and(|stamp| stamp.is_same(found))
     }
 
     /// Its stamp.
     pub fn stamp(&self) -> Option<Stamp>
-        ensures { result ≡ marks_of self.now }
+        ensures { result ≡ stamp_of self.now }
     {
         match self {
             Here::Absent | Here::Foreign | Here::Unread => None,

@@ -44,7 +44,7 @@ pub struct Mirror {
     lines: Vec<String>,
     reported: BTreeSet<String>,
     // The keys of those for which this machine's object stays, and of those that could not be written or brought in.
-    standing: BTreeSet<String>,
+    reported_kept: BTreeSet<String>,
     failing: BTreeSet<String>,
     // The keys of those that could not be read at the last look, and at the one before.
     unread: BTreeSet<String>,
@@ -93,7 +93,7 @@ impl Mirror {
             has_stand_ins: false,
             lines: Vec::new(alloc),
             reported: BTreeSet::new(alloc),
-            standing: BTreeSet::new(alloc),
+            reported_kept: BTreeSet::new(alloc),
             failing: BTreeSet::new(alloc),
             unread: BTreeSet::new(alloc),
             unread_before: BTreeSet::new(alloc),
@@ -163,7 +163,7 @@ impl Mirror {
     fn settled(&mut self, key: &str)
         ensures { self.new.records ≡ self.old.records }
     {
-        self.standing.remove(key);
+        self.reported_kept.remove(key);
         self.failing.remove(key);
     }
 
@@ -200,7 +200,7 @@ impl Mirror {
         } else {
             "both changed, kept this machine's"
         };
-        self.tell_stays(key, text, path)
+        self.report_stays(key, text, path)
     }
 
     // Notes that an object gives way to this machine's, if the Shell has one.
@@ -213,12 +213,15 @@ impl Mirror {
 
     // Reports that a folder stays, since more is in it than the Shell knows, once until that is settled.
     pub(crate) fn report_not_empty(&mut self, key: &str, path: &str) -> Result<(), TransferFault> {
-        self.tell_stays(key, "kept, since it is not empty", path)
+        self.report_stays(key, "kept, since it is not empty", path)
     }
 
-    // Reports that this machine's object stays by this line, once until that is settled.
-    fn tell_stays(&mut self, key: &str, text: &str, path: &str) -> Result<(), TransferFault> {
-        if self.standing.insert(String::from_str(self.alloc, key)?)? {
+    // Reports by this line that this machine's object stays, once until that is settled.
+    fn report_stays(&mut self, key: &str, text: &str, path: &str) -> Result<(), TransferFault> {
+        if self
+            .reported_kept
+            .insert(String::from_str(self.alloc, key)?)?
+        {
             self.report(text, path)?;
         }
         Ok(())

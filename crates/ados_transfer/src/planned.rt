@@ -1,4 +1,4 @@
-//! Files and directories that were planned to be in the Shell's files when the script begins.
+//! Files and directories that are to be in the Shell's files when the script begins.
 ghost use Rattle.std.specs.Prelude.{◌≡◌};
 ghost use Rattle.std.specs.List.{list_all};
 ghost use Rattle.std.specs.Option.{option_copied};
