@@ -1,4 +1,4 @@
--- where a block ends: found by depth, and by the rows of the lines below
+-- where a block ends: found by depth, and by the entries of the lines below
 use Rattle.std.proofs.Common.{ℕ, zero, suc, ◌+◌, ◌-◌, ◌<◌, ◌≤◌, ◌≡◌, ◌∙◌, List, [], ◌∷◌, Bool, true, false, cond, ◌==◌, ◌&&◌, Option, Some, None, length, get_or, drop, refl, ap, sym, arith}
 use Rattle.std.specs.List.{count_by, find}
 use Rattle.std.proofs.lemmas.Bool.Decides.{nat_tests}
@@ -6,14 +6,14 @@ use Rattle.std.proofs.lemmas.List.{drop_more, get_or-drop, length-drop}
 use Rattle.std.proofs.lemmas.List.Sums.{sum_by_more}
 use Rattle.ados_script.specs.declared.heads.Head.{Head}
 use Rattle.ados_script.specs.declared.heads.Head.TheVariants.{If, Else, EndIf, EndSkip, Lab, Other}
-use Rattle.ados_script.specs.Blocks.{is_if, is_end_if, ends, ends_block, is_level}
+use Rattle.ados_script.specs.Blocks.{is_if, is_end, is_end_if, ends_block, is_level}
 use Rattle.ados_script.specs.Lines.{numbers_below, lines_between}
 use Rattle.ados_script.proofs.LineLemmas.{find-here, find-further, find-past, line_of-place}
 
 -- the next line ends the block if it is such a line and no inner block is open
 ends_block-place : (at_else : Bool) (lines : List Head) (from i depth : ℕ) (d : Head) → i < length lines
     → count_by is_if (lines_between lines from (i + 1)) ≡ depth + count_by is_end_if (lines_between lines from (i + 1))
-    → ends_block at_else lines from (i + 1) ≡ (ends at_else (get_or lines i d) && (depth == 0))
+    → ends_block at_else lines from (i + 1) ≡ (is_end at_else (get_or lines i d) && (depth == 0))
 ends_block-place at_else lines from i depth d h counted =
     let level : is_level (lines_between lines from (i + 1)) ≡ (depth == 0) = grind (arith, nat_tests) in
     rw (line_of-place lines i d h, level) refl
@@ -48,12 +48,12 @@ next lines i head rest e =
     record { within = long; here = ap (λ (l : List Head). get_or l 0 head) parts; after = ap (λ (l : List Head). drop 1 l) parts }
 
 sought-here : {at_else : Bool} {lines : List Head} {from i depth : ℕ} {head : Head} {rest : List Head} → IsSought at_else lines from i depth
-    → IsNext lines i head rest → (ends at_else head && (depth == 0)) ≡ true → Some (i + 1) ≡ find (ends_block at_else lines from) (numbers_below lines from)
+    → IsNext lines i head rest → (is_end at_else head && (depth == 0)) ≡ true → Some (i + 1) ≡ find (ends_block at_else lines from) (numbers_below lines from)
 sought-here {at_else} {lines} {from} {i} {depth} {head} s n t =
     find-here _ lines i n.within (ends_block-place at_else lines from i depth head n.within s.counted ∙ rw n.here t) ∙ sym s.left
 
 sought-further : {at_else : Bool} {lines : List Head} {from i depth : ℕ} {head : Head} {rest : List Head} (more : ℕ) → IsSought at_else lines from i depth
-    → from ≤ i → IsNext lines i head rest → (ends at_else head && (depth == 0)) ≡ false
+    → from ≤ i → IsNext lines i head rest → (is_end at_else head && (depth == 0)) ≡ false
     → more + cond (is_end_if head) 1 0 ≡ depth + cond (is_if head) 1 0
     → IsSought at_else lines from (i + 1) more
 sought-further {at_else} {lines} {from} {i} {depth} {head} more s order n t step =

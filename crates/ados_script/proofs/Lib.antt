@@ -1,7 +1,7 @@
 pub mod BlockLemmas
+pub mod EntryLemmas
 pub mod LabelLemmas
 mod LineLemmas
 pub mod ListLemmas
-pub mod RowLemmas
 pub mod SkipLemmas
 pub mod TableLemmas

@@ -82,7 +82,7 @@ filter-front p (x ∷ xs) (suc k) low high =
     let first : p x ≡ true = low 0 x (omega arith) (omega arith) in
     rw first (ap (λ ys. x ∷ ys) (filter-front p xs k (low_rest (λ y. p y ≡ true) x xs k low) (high_rest (λ y. p y ≡ false) x xs k high)))
 
--- what a look-up borrows is the element at the place
+-- what a lookup borrows is the element at the place
 pub lent : {X : Type 0} (xs : List X) (i : ℕ) (r : Option (Bor X)) → IsItemAt xs i r → option_copied r ≡ slice_get xs i
 lent xs i None h = let test = h.0 in sym (slice_get_past xs i (grind (arith, nat_tests)))
 lent xs i (Some x) h = let test = h.0 in ap Some h.1 ∙ sym (slice_get-get_or xs i x.now (grind (arith, nat_tests)))

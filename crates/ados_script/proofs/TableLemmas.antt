@@ -11,13 +11,13 @@ use Rattle.ados_script.specs.declared.labels.Label.{Label}
 use Rattle.ados_script.specs.Heads.{head_of, label_of}
 use Rattle.ados_script.specs.Lines.{numbers_below, is_some_and, line_of}
 use Rattle.ados_script.specs.Skips.{is_end_skip, is_end_skip_at}
-use Rattle.ados_script.specs.Tables.{ends_above, is_lab, is_lab_at, label_at, labels_below, block_ends, with_row}
+use Rattle.ados_script.specs.Tables.{ends_above, is_lab, is_lab_at, label_at, labels_below, kept_ends, with_entry}
 use Rattle.ados_script.proofs.LineLemmas.{below-more, below-past, line_of-place}
-use Rattle.ados_script.proofs.RowLemmas.{AreRows, end_below, no_rows, with_more}
+use Rattle.ados_script.proofs.EntryLemmas.{AreEntries, end_below, no_entries, with_more}
 
 -- the lines from a place on are read
 pub record AreRead (lines : List Text) (i : ℕ) (table : List Ends) (skips numbers : List ℕ) (found : List Label) : Type 0 where
-  pub rows : AreRows (map head_of lines) i table
+  pub entries : AreEntries (map head_of lines) i table
   pub end_skips : reverse skips ≡ filter (is_end_skip_at lines) (numbers_below lines i)
   pub labs : reverse numbers ≡ filter (is_lab_at lines) (numbers_below lines i)
   pub labels : reverse found ≡ labels_below lines i
@@ -26,7 +26,7 @@ pub none_read : (lines : List Text) (i : ℕ) → length lines ≤ i → AreRead
 none_read lines i h =
     let none = below-past lines i h in
     record {
-      rows = no_rows (map head_of lines) i (omega (arith, h, length-map lines head_of));
+      entries = no_entries (map head_of lines) i (omega (arith, h, length-map lines head_of));
       end_skips = rw none refl;
       labs = rw none refl;
       labels = rw none refl;
@@ -64,19 +64,19 @@ rest_of lines i text head is =
     let here : get_or (map head_of lines) i head ≡ head = get_or-map head_of lines i text head is.within ∙ ap head_of (sym is.line) ∙ sym is.head in
     drop_more (map head_of lines) i head long ∙ ap (λ (h : Head). h ∷ drop (i + 1) (map head_of lines)) here
 
-rows_more : (lines : List Text) (i : ℕ) (text : Text) (head : Head) (table : List Ends) → IsLine lines i text head → AreRows (map head_of lines) (i + 1) table
-    → AreRows (map head_of lines) i (with_row table (ends_above table (i + 1) head))
-rows_more lines i text head table is are = with_more (map head_of lines) i head (drop (i + 1) (map head_of lines)) table are (rest_of lines i text head is)
+entries_more : (lines : List Text) (i : ℕ) (text : Text) (head : Head) (table : List Ends) → IsLine lines i text head → AreEntries (map head_of lines) (i + 1) table
+    → AreEntries (map head_of lines) i (with_entry table (ends_above table (i + 1) head))
+entries_more lines i text head table is are = with_more (map head_of lines) i head (drop (i + 1) (map head_of lines)) table are (rest_of lines i text head is)
 
--- the first row gives an end below
-pub ends_below : {lines : List Text} {i : ℕ} {table : List Ends} {skips numbers : List ℕ} {found : List Label} → AreRead lines i table skips numbers found → IfSome (block_ends table 0).end_if (λ m. i ≤ m)
-ends_below {lines} {i} {table} are = end_below (map head_of lines) i table are.rows
+-- the first entry gives an end below
+pub ends_below : {lines : List Text} {i : ℕ} {table : List Ends} {skips numbers : List ℕ} {found : List Label} → AreRead lines i table skips numbers found → IfSome (kept_ends table 0).end_if (λ m. i ≤ m)
+ends_below {lines} {i} {table} are = end_below (map head_of lines) i table are.entries
 
 pub read_end_skip : {lines : List Text} {i : ℕ} {text : Text} {head : Head} {table : List Ends} {skips numbers : List ℕ} {found : List Label}
     → IsLine lines i text head → is_end_skip head ≡ true → is_lab head ≡ false → AreRead lines (i + 1) table skips numbers found
-    → AreRead lines i (with_row table (ends_above table (i + 1) head)) (skips ++ (i + 1) ∷ []) numbers found
+    → AreRead lines i (with_entry table (ends_above table (i + 1) head)) (skips ++ (i + 1) ∷ []) numbers found
 read_end_skip {lines} {i} {text} {head} {table} {skips} {numbers} {found} is skip lab are = record {
-  rows = rows_more lines i text head table is are.rows;
+  entries = entries_more lines i text head table is are.entries;
   end_skips = joined (is_end_skip_at lines) lines i skips is.within are.end_skips (tested lines i text head is_end_skip is ∙ skip);
   labs = passed (is_lab_at lines) lines i numbers is.within are.labs (tested lines i text head is_lab is ∙ lab);
   labels = label_passed lines i found is.within are.labels (tested lines i text head is_lab is ∙ lab);
@@ -84,11 +84,11 @@ read_end_skip {lines} {i} {text} {head} {table} {skips} {numbers} {found} is ski
 
 pub read_lab : {lines : List Text} {i : ℕ} {text : Text} {head : Head} {table : List Ends} {skips numbers : List ℕ} {found : List Label} {label : Text}
     → IsLine lines i text head → is_end_skip head ≡ false → is_lab head ≡ true → label ≡ label_of text → AreRead lines (i + 1) table skips numbers found
-    → AreRead lines i (with_row table (ends_above table (i + 1) head)) skips (numbers ++ (i + 1) ∷ []) (found ++ record { text = label; line = i + 1 } ∷ [])
+    → AreRead lines i (with_entry table (ends_above table (i + 1) head)) skips (numbers ++ (i + 1) ∷ []) (found ++ record { text = label; line = i + 1 } ∷ [])
 read_lab {lines} {i} {text} {head} {table} {skips} {numbers} {found} {label} is skip lab named are =
     let at : label_at lines (i + 1) ≡ record { text = label; line = i + 1 } = rw (line_of-place lines i text is.within, ← is.line, ← named) refl in
     record {
-      rows = rows_more lines i text head table is are.rows;
+      entries = entries_more lines i text head table is are.entries;
       end_skips = passed (is_end_skip_at lines) lines i skips is.within are.end_skips (tested lines i text head is_end_skip is ∙ skip);
       labs = joined (is_lab_at lines) lines i numbers is.within are.labs (tested lines i text head is_lab is ∙ lab);
       labels = label_joined lines i found _ is.within are.labels (tested lines i text head is_lab is ∙ lab) (sym at);
@@ -96,9 +96,9 @@ read_lab {lines} {i} {text} {head} {table} {skips} {numbers} {found} {label} is 
 
 pub read_other : {lines : List Text} {i : ℕ} {text : Text} {head : Head} {table : List Ends} {skips numbers : List ℕ} {found : List Label}
     → IsLine lines i text head → is_end_skip head ≡ false → is_lab head ≡ false → AreRead lines (i + 1) table skips numbers found
-    → AreRead lines i (with_row table (ends_above table (i + 1) head)) skips numbers found
+    → AreRead lines i (with_entry table (ends_above table (i + 1) head)) skips numbers found
 read_other {lines} {i} {text} {head} {table} {skips} {numbers} {found} is skip lab are = record {
-  rows = rows_more lines i text head table is are.rows;
+  entries = entries_more lines i text head table is are.entries;
   end_skips = passed (is_end_skip_at lines) lines i skips is.within are.end_skips (tested lines i text head is_end_skip is ∙ skip);
   labs = passed (is_lab_at lines) lines i numbers is.within are.labs (tested lines i text head is_lab is ∙ lab);
   labels = label_passed lines i found is.within are.labels (tested lines i text head is_lab is ∙ lab);

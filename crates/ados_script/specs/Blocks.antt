@@ -18,11 +18,11 @@ abbrev pub is_end_if : Head → Bool
 is_end_if EndIf = true
 is_end_if _ = false
 
--- an EndIf, and for an If an Else too
-abbrev pub ends : Bool → Head → Bool
-ends at_else EndIf = true
-ends at_else Else = at_else
-ends at_else _ = false
+-- a line that ends a block: an EndIf, and for an If an Else too
+abbrev pub is_end : Bool → Head → Bool
+is_end at_else EndIf = true
+is_end at_else Else = at_else
+is_end at_else _ = false
 
 -- depth 0 after these lines: as many of them are If lines as EndIf lines
 abbrev pub is_level : List Head → Bool
@@ -30,7 +30,7 @@ is_level lines = count_by is_if lines == count_by is_end_if lines
 
 -- line j ends the block of line i: it is such a line, at depth 0
 abbrev pub ends_block : Bool → List Head → ℕ → ℕ → Bool
-ends_block at_else lines i j = is_some_and (ends at_else) (line_of lines j) && is_level (lines_between lines i j)
+ends_block at_else lines i j = is_some_and (is_end at_else) (line_of lines j) && is_level (lines_between lines i j)
 
 -- after the first line below line i that ends its block
 abbrev pub block_jump : Bool → List Text → ℕ → Jump

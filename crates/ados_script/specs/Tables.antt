@@ -16,41 +16,41 @@ use Rattle.ados_script.specs.Lines.{line_of, is_some_and, numbers_below}
 use Rattle.ados_script.specs.Blocks.{ends_block}
 use Rattle.ados_script.specs.Skips.{is_end_skip_at}
 
--- where the block of a line ends: at its EndIf, and at its Else or EndIf
-abbrev pub ends_of : List Head → ℕ → Ends
-ends_of heads i = record { end_if = find (ends_block false heads i) (numbers_below heads i); branch = find (ends_block true heads i) (numbers_below heads i) }
+-- where the block of a line ends, by its lines: at its EndIf, and at its Else or EndIf
+abbrev pub first_ends : List Head → ℕ → Ends
+first_ends heads i = record { end_if = find (ends_block false heads i) (numbers_below heads i); branch = find (ends_block true heads i) (numbers_below heads i) }
 
 -- no block ends
 abbrev pub no_ends : Ends
 no_ends = record { end_if = None; branch = None }
 
 abbrev pub is_nowhere : Ends → Bool
-is_nowhere row = is_none row.end_if && is_none row.branch
+is_nowhere entry = is_none entry.end_if && is_none entry.branch
 
-abbrev pub row_or : Option Ends → Ends
-row_or None = no_ends
-row_or (Some row) = row
+abbrev pub entry_or_none : Option Ends → Ends
+entry_or_none None = no_ends
+entry_or_none (Some entry) = entry
 
--- the row of the line `down` lines below the topmost, whose row comes last; if no row is kept, no block ends
-abbrev pub block_ends : List Ends → ℕ → Ends
-block_ends rows down = row_or (slice_get (reverse rows) down)
+-- the entry of the line `down` lines below the topmost, whose entry comes last; if no entry is kept, no block ends
+abbrev pub kept_ends : List Ends → ℕ → Ends
+kept_ends entries down = entry_or_none (slice_get (reverse entries) down)
 
--- the row of the line where a block ends, by the rows from a line on
-abbrev pub row_at_end : List Ends → ℕ → Option ℕ → Ends
-row_at_end rows line None = no_ends
-row_at_end rows line (Some end) = block_ends rows (end - line)
+-- the entry of the line where a block ends, by the entries from a line on
+abbrev pub entry_at_end : List Ends → ℕ → Option ℕ → Ends
+entry_at_end entries line None = no_ends
+entry_at_end entries line (Some end) = kept_ends entries (end - line)
 
--- the row of the line above one, by the rows from that one on: below an If a block ends where it does below the If's own EndIf
+-- the entry of the line above one, by the entries from that one on: below an If a block ends where it does below the If's own EndIf
 abbrev pub ends_above : List Ends → ℕ → Head → Ends
-ends_above rows line EndIf = record { end_if = Some line; branch = Some line }
-ends_above rows line Else = record { end_if = (block_ends rows 0).end_if; branch = Some line }
-ends_above rows line If = row_at_end rows line (block_ends rows 0).end_if
-ends_above rows line _ = block_ends rows 0
+ends_above entries line EndIf = record { end_if = Some line; branch = Some line }
+ends_above entries line Else = record { end_if = (kept_ends entries 0).end_if; branch = Some line }
+ends_above entries line If = entry_at_end entries line (kept_ends entries 0).end_if
+ends_above entries line _ = kept_ends entries 0
 
--- rows with one more on top; the first that is kept says that a block ends
-abbrev pub with_row : List Ends → Ends → List Ends
-with_row [] row = if is_nowhere row then [] else row ∷ []
-with_row (last ∷ rows) row = (last ∷ rows) ++ row ∷ []
+-- the entries with one more on top; none is kept until one says that a block ends
+abbrev pub with_entry : List Ends → Ends → List Ends
+with_entry [] entry = if is_nowhere entry then [] else entry ∷ []
+with_entry (last ∷ entries) entry = (last ∷ entries) ++ entry ∷ []
 
 abbrev pub is_lab : Head → Bool
 is_lab Lab = true
@@ -87,7 +87,7 @@ pub record AreByText (lines : List Text) (labels : List Label) : Type 0 where
 -- the tables are those of these lines, which are few enough that the one after the last has a number too
 pub record AreTables (lines : List Text) (tables : Tables) : Type 0 where
   pub few : length lines < 2 ^ 63
-  pub ends : (i : ℕ) → block_ends tables.ends.items i ≡ ends_of (map head_of lines) i
+  pub ends : (i : ℕ) → kept_ends tables.ends.items i ≡ first_ends (map head_of lines) i
   pub end_skips : tables.end_skips.items ≡ filter (is_end_skip_at lines) (numbers_below lines 0)
   pub labs : tables.labs.items ≡ filter (is_lab_at lines) (numbers_below lines 0)
   pub labels : AreByText lines tables.labels.items

@@ -1,7 +1,7 @@
-// Where blocks end: a table of one row for each line, made from the last line up.
+// Where blocks end: a table of one entry for each line, made from the last line up.
 ghost use Rattle.std.specs.Prelude.{◌≡◌, ◌≤◌, true, IfSome, OnOk};
-ghost use Rattle.ados_script.specs.Blocks.{ends};
-ghost use Rattle.ados_script.specs.Tables.{ends_above, block_ends, with_row};
+ghost use Rattle.ados_script.specs.Blocks.{is_end};
+ghost use Rattle.ados_script.specs.Tables.{ends_above, kept_ends, with_entry};
 
 use crate::heads::Head;
 use ados_text::NoMemory;
@@ -23,43 +23,43 @@ impl Ends {
     };
 }
 
-/// The row of the line that is `down` lines below the topmost one that was read. If there is no such row, no block
+/// The entry of the line that is `down` lines below the topmost one that was read. If there is no such entry, no block
 /// ends there.
-pub fn block_ends(rows: &[Ends], down: usize) -> Ends
-    ensures { result ≡ block_ends rows.now down }
+pub fn kept_ends(entries: &[Ends], down: usize) -> Ends
+    ensures { result ≡ kept_ends entries.now down }
 {
-    match rows.len().checked_sub(down) {
+    match entries.len().checked_sub(down) {
         None | Some(0) => Ends::NOWHERE,
-        Some(place) => rows[place - 1],
+        Some(place) => entries[place - 1],
     }
 }
 
-/// Pushes the row of the line above this one.
-pub fn push_row(rows: &mut Vec<Ends>, line: usize, head: Head) -> Result<(), NoMemory>
-    requires { IfSome (block_ends rows.old.items 0).end_if (λ end. line ≤ end) }
-    ensures { OnOk result (rows.new.items ≡ with_row rows.old.items (ends_above rows.old.items line head)) }
+/// Pushes the entry of the line above this one.
+pub fn push_entry(entries: &mut Vec<Ends>, line: usize, head: Head) -> Result<(), NoMemory>
+    requires { IfSome (kept_ends entries.old.items 0).end_if (λ end. line ≤ end) }
+    ensures { OnOk result (entries.new.items ≡ with_entry entries.old.items (ends_above entries.old.items line head)) }
 {
-    // Below the last line that ends a block no line has an end, so no row is kept for it.
-    if rows.is_empty() && !is_end(head) {
+    // Below the last line that ends a block no line has an end, so no entry is kept for it.
+    if entries.is_empty() && !is_end(head) {
         return Ok(());
     }
-    rows.push(ends_above(rows, line, head))?;
+    entries.push(ends_above(entries, line, head))?;
     Ok(())
 }
 
 // The line ends a block, or the first part of one.
 fn is_end(head: Head) -> bool
-    ensures { result ≡ ends true head }
+    ensures { result ≡ is_end true head }
 {
     matches!(head, Head::EndIf | Head::Else)
 }
 
 // Where the block of the line above this one ends. If this is an If, it ends where the block of that If's EndIf does.
-fn ends_above(rows: &[Ends], line: usize, head: Head) -> Ends
-    requires { IfSome (block_ends rows.now 0).end_if (λ end. line ≤ end) }
-    ensures { result ≡ ends_above rows.now line head }
+fn ends_above(entries: &[Ends], line: usize, head: Head) -> Ends
+    requires { IfSome (kept_ends entries.now 0).end_if (λ end. line ≤ end) }
+    ensures { result ≡ ends_above entries.now line head }
 {
-    let below = block_ends(rows, 0);
+    let below = kept_ends(entries, 0);
     match head {
         Head::EndIf => Ends {
             end_if: Some(line),
@@ -71,7 +71,7 @@ fn ends_above(rows: &[Ends], line: usize, head: Head) -> Ends
         },
         Head::If => match below.end_if {
             None => Ends::NOWHERE,
-            Some(end) => block_ends(rows, end - line),
+            Some(end) => kept_ends(entries, end - line),
         },
         _ => below,
     }

@@ -13,7 +13,7 @@ pub enum Jump {
 }
 
 /// To the line after a line that was found.
-pub fn jump_after(line: Option<usize>) -> Jump
+pub fn jump_to_next(line: Option<usize>) -> Jump
     requires { IfSome line (λ line. line + 1 < 2 ^ 64) }
     ensures { result ≡ jump_to_next line }
 {

@@ -5,10 +5,10 @@ ghost use Rattle.ados_script.specs.Jumps.{LeadsWithin};
 ghost use Rattle.ados_script.specs.Lines.{line_of};
 ghost use Rattle.ados_script.specs.Skips.{skip};
 
-use crate::blocks::block_ends;
-use crate::jumps::{Jump, jump_after};
+use crate::blocks::kept_ends;
+use crate::jumps::{Jump, jump_to_next};
 use crate::labels::first_of;
-use crate::skips::{first_below, jump_after_first};
+use crate::skips::{first_below, jump_past_first};
 use crate::tables::{Tables, read_tables};
 use ados_text::{NoMemory, Text};
 use std::alloc::Global;
@@ -68,7 +68,7 @@ impl Script {
         ensures jump { result ≡ after_if self.now i }
         ensures within { LeadsWithin self.now result }
     {
-        jump_after(block_ends(&self.tables.ends, i).branch)
+        jump_to_next(kept_ends(&self.tables.ends, i).branch)
     }
 
     /// Where the script continues after an Else in line `i`: after the first EndIf below it at depth 0. `None` if there
@@ -77,7 +77,7 @@ impl Script {
         ensures jump { result ≡ after_else self.now i }
         ensures within { LeadsWithin self.now result }
     {
-        jump_after(block_ends(&self.tables.ends, i).end_if)
+        jump_to_next(kept_ends(&self.tables.ends, i).end_if)
     }
 
     /// Where the script continues after a Skip in line `i`: after the first Lab below it that has the label, ignoring
@@ -93,6 +93,6 @@ impl Script {
             None => first_below(&self.tables.labs, start),
             Some(label) => first_of(&self.tables.labels, label, start),
         };
-        jump_after_first(lab, first_below(&self.tables.end_skips, start))
+        jump_past_first(lab, first_below(&self.tables.end_skips, start))
     }
 }

@@ -14,7 +14,7 @@ pub fn first_below(lines: &[usize], i: usize) -> Option<usize>
 }
 
 /// To the line after the Lab or the EndSkip that was found, whichever comes first.
-pub fn jump_after_first(lab: Option<usize>, end_skip: Option<usize>) -> Jump
+pub fn jump_past_first(lab: Option<usize>, end_skip: Option<usize>) -> Jump
     requires lab { IfSome lab (λ line. line + 1 < 2 ^ 64) }
     requires end_skip { IfSome end_skip (λ line. line + 1 < 2 ^ 64) }
     ensures { result ≡ jump_past_first lab end_skip }

@@ -2,7 +2,7 @@
 ghost use Rattle.std.specs.Prelude.{IfOk};
 ghost use Rattle.ados_script.specs.Tables.{AreTables};
 
-use crate::blocks::{Ends, push_row};
+use crate::blocks::{Ends, push_entry};
 use crate::heads::{Head, read_head};
 use crate::labels::{Label, read_label, sort};
 use ados_text::{NoMemory, Text};
@@ -33,7 +33,7 @@ pub fn read_tables(alloc: Global, lines: &[Text]) -> Result<Tables, NoMemory>
     for place in (0..lines.len()).rev() {
         let line = &lines[place];
         let head = read_head(line.as_bytes());
-        push_row(&mut ends, place + 1, head)?;
+        push_entry(&mut ends, place + 1, head)?;
         match head {
             Head::EndSkip => end_skips.push(place + 1)?,
             Head::Lab => {

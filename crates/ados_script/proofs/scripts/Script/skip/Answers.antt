@@ -22,8 +22,8 @@ first_below-requires c =
     let lines = c.self.inside.lines.items in
     rw (c.deref-2.ensures.value, c.self.invariant.end_skips) (numbers_rise (is_end_skip_at lines) lines)
 
-pub jump_after_first-requires-clause-lab : goal.jump_after_first-requires-clause-lab
-jump_after_first-requires-clause-lab c =
+pub jump_past_first-requires-clause-lab : goal.jump_past_first-requires-clause-lab
+jump_past_first-requires-clause-lab c =
     let lines = c.self.inside.lines.items in
     let lab : c.match-label.lab ≡ find (sought_at (option_map (λ (t : Bor (List ℕ)). t.now) c.args.label) lines) (numbers_below lines c.if-back.start) = elim c.match-label.branch [
       | in-None w ↦ rw (w.in-None.is, w.lab-is, w.first_below-lab.ensures, w.deref.ensures.value, c.self.invariant.labs)
@@ -33,8 +33,8 @@ jump_after_first-requires-clause-lab c =
     ] in
     small lines c.match-label.lab c.self.invariant.few (found-within (sought_at (option_map (λ (t : Bor (List ℕ)). t.now) c.args.label) lines) lines c.if-back.start c.match-label.lab lab)
 
-pub jump_after_first-requires-clause-end_skip : goal.jump_after_first-requires-clause-end_skip
-jump_after_first-requires-clause-end_skip c =
+pub jump_past_first-requires-clause-end_skip : goal.jump_past_first-requires-clause-end_skip
+jump_past_first-requires-clause-end_skip c =
     let lines = c.self.inside.lines.items in
     let end : c.first_below.result ≡ find (is_end_skip_at lines) (numbers_below lines c.if-back.start) =
     rw (c.first_below.ensures, c.deref-2.ensures.value, c.self.invariant.end_skips) (first-is (is_end_skip_at lines) lines c.if-back.start) in
@@ -55,7 +55,7 @@ returns-clause-jump c =
       | then-back w ↦ rw (w.if-back.true, w.start-is) refl
       | else-back w ↦ rw (w.if-back.false, w.start-is) refl
     ] in
-    rw (← c.self.view_is, ← start, c.jump_after_first.ensures) (skip-is {label = option_map (λ (t : Bor (List ℕ)). t.now) c.args.label} {lines = lines} {i = c.if-back.start} (record { lab_is = lab; end_is = end }))
+    rw (← c.self.view_is, ← start, c.jump_past_first.ensures) (skip-is {label = option_map (λ (t : Bor (List ℕ)). t.now) c.args.label} {lines = lines} {i = c.if-back.start} (record { lab_is = lab; end_is = end }))
 
 pub returns-clause-within : goal.returns-clause-within
 returns-clause-within c =
@@ -68,5 +68,5 @@ returns-clause-within c =
     ] in
     let end : c.first_below.result ≡ find (is_end_skip_at lines) (numbers_below lines c.if-back.start) =
     rw (c.first_below.ensures, c.deref-2.ensures.value, c.self.invariant.end_skips) (first-is (is_end_skip_at lines) lines c.if-back.start) in
-    rw (← c.self.view_is, c.jump_after_first.ensures)
+    rw (← c.self.view_is, c.jump_past_first.ensures)
     (leads_first lines c.match-label.lab c.first_below.result (found-within (sought_at (option_map (λ (t : Bor (List ℕ)). t.now) c.args.label) lines) lines c.if-back.start c.match-label.lab lab) (found-within (is_end_skip_at lines) lines c.if-back.start c.first_below.result end))
