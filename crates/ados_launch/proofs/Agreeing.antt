@@ -21,11 +21,11 @@ use Rattle.ados_machine.proofs.KeptChildren.{turns-keep}
 use Rattle.ados_machine.proofs.MovedChildren.{answers-move}
 use Rattle.ados_machine.proofs.ChildLemmas.{request-names, requests-are}
 use Rattle.ados_launcher.specs.declared.calls.Call.{Call}
-use Rattle.ados_launcher.specs.Lives.{Broken, life_of, life_for_state, life_after_call, is_open, state_of}
+use Rattle.ados_launcher.specs.Lifecycles.{Broken, lifecycle_of, lifecycle_for_state, lifecycle_after_call, is_open, state_of}
 use Rattle.ados_launch.specs.Agreement.{Agrees, AreWhole, IsOpenTable}
 use Rattle.ados_launch.specs.Asked.{Answers, Asks, IsTaken, Lists, MayAsk, call_of}
 use Rattle.ados_launch.specs.Rounds.{asks_read_or_wait}
-use Rattle.ados_launch.proofs.Rows.{asked-start, life-more, life-here, life-there, may-ask, unmarked}
+use Rattle.ados_launch.proofs.NextCall.{asked-start, lifecycle-more, lifecycle-here, lifecycle-there, may-ask, unmarked}
 
 -- the response to an event that was accepted
 pub record IsAccepted (now : WorldState) (out : Out) (response : Response) : Type 0 where
@@ -37,11 +37,11 @@ pub accepted-is : (w now : WorldState) (event : Event) (out : Out) (response : R
 accepted-is w now event out (Accepted world given items) answer world_is = record { items = items; is = rw (world_is, answer) refl }
 accepted-is w now event out (Refused why) answer world_is = absurd answer
 
--- an event that is not a launcher's answer keeps all rows
+-- an event that is not a launcher's answer keeps all sequences
 event-agrees : (w now : WorldState) (event : Event) (out : Out) (calls : List Call) → Agrees w calls → is_launchers event ≡ false →
     IsAccepted now out (step_of w event) → Agrees now calls
 event-agrees w now event out calls agrees other accepted k =
-    agrees k ∙ ap life_for_state (sym (turns-keep w event now out accepted.items other accepted.is k))
+    agrees k ∙ ap lifecycle_for_state (sym (turns-keep w event now out accepted.items other accepted.is k))
 
 pub given-agrees : (w now : WorldState) (event : Event) (out : Out) (calls : List Call) → Agrees w calls → is_launchers event ≡ false →
     IsAnswer event (Ok out) (step_of w event) → now ≡ resulting_world w (Ok out) (step_of w event) → Agrees now calls
@@ -56,24 +56,24 @@ same-agrees w now calls agrees same = rw same agrees
 asked-of : (w : WorldState) (k : ℕ) (request : Request) → pending_of w k ≡ Some request → is_asked (Some request) (child_in w k) ≡ true
 asked-of w k request asked = subst (λ p. is_asked p (child_in w k) ≡ true) asked (requests-are w k)
 
--- the row of the child for which a request is made
-row-here : (w : WorldState) (k : ℕ) (is_full : Bool) (request : Request) (reply : Reply) (calls listed : List Call) → Agrees w calls → pending_of w k ≡ Some request →
-    shell_named request ≡ k → Lists is_full request reply listed → life_of k (calls ++ listed) ≡ life_for_state (child_after_answer (is_marked w k) request reply)
-row-here w k is_full request reply calls listed agrees asked named (fit, inl listed_is) =
-    rw listed_is (life-more k calls (call_of request reply)
-    ∙ (ap (λ life. life_after_call k life (call_of request reply)) (agrees k)
-    ∙ life-here k (is_marked w k) request reply (child_in w k) named fit (asked-of w k request asked)))
-row-here w k is_full (Start job) reply calls listed agrees asked named (fit, inr none) =
-    rw (none.0, none.2, append-nil) (agrees k ∙ ap life_for_state (asked-start job (child_in w k) (asked-of w k (Start job) asked)))
-row-here w k is_full (Read n) reply calls listed agrees asked named (fit, inr none) = let no = none.1 in cc
-row-here w k is_full (Wait n) reply calls listed agrees asked named (fit, inr none) = let no = none.1 in cc
+-- the sequence of the child for which a request is made
+sequence-here : (w : WorldState) (k : ℕ) (is_full : Bool) (request : Request) (reply : Reply) (calls listed : List Call) → Agrees w calls → pending_of w k ≡ Some request →
+    shell_named request ≡ k → Lists is_full request reply listed → lifecycle_of k (calls ++ listed) ≡ lifecycle_for_state (child_after_answer (is_marked w k) request reply)
+sequence-here w k is_full request reply calls listed agrees asked named (fit, inl listed_is) =
+    rw listed_is (lifecycle-more k calls (call_of request reply)
+    ∙ (ap (λ lifecycle. lifecycle_after_call k lifecycle (call_of request reply)) (agrees k)
+    ∙ lifecycle-here k (is_marked w k) request reply (child_in w k) named fit (asked-of w k request asked)))
+sequence-here w k is_full (Start job) reply calls listed agrees asked named (fit, inr none) =
+    rw (none.0, none.2, append-nil) (agrees k ∙ ap lifecycle_for_state (asked-start job (child_in w k) (asked-of w k (Start job) asked)))
+sequence-here w k is_full (Read n) reply calls listed agrees asked named (fit, inr none) = let no = none.1 in cc
+sequence-here w k is_full (Wait n) reply calls listed agrees asked named (fit, inr none) = let no = none.1 in cc
 
--- the rows of the other children
-row-there : (k j : ℕ) (is_full : Bool) (request : Request) (reply : Reply) (calls listed : List Call) → shell_named request ≡ k → Lists is_full request reply listed → j ≢ k →
-    life_of j (calls ++ listed) ≡ life_of j calls
-row-there k j is_full request reply calls listed named (fit, inl listed_is) apart =
-    rw listed_is (life-more j calls (call_of request reply) ∙ life-there j k request reply (life_of j calls) named apart)
-row-there k j is_full request reply calls listed named (fit, inr none) apart = rw (none.0, append-nil) refl
+-- the sequences of the other children
+sequence-there : (k j : ℕ) (is_full : Bool) (request : Request) (reply : Reply) (calls listed : List Call) → shell_named request ≡ k → Lists is_full request reply listed → j ≢ k →
+    lifecycle_of j (calls ++ listed) ≡ lifecycle_of j calls
+sequence-there k j is_full request reply calls listed named (fit, inl listed_is) apart =
+    rw listed_is (lifecycle-more j calls (call_of request reply) ∙ lifecycle-there j k request reply (lifecycle_of j calls) named apart)
+sequence-there k j is_full request reply calls listed named (fit, inr none) apart = rw (none.0, append-nil) refl
 
 -- an answer that the world takes
 answer-agrees : (w now : WorldState) (k : ℕ) (is_full : Bool) (request : Request) (reply : Reply) (out : Out) (calls listed : List Call) → IsSane w → Agrees w calls →
@@ -82,9 +82,9 @@ answer-agrees w now k is_full request reply out calls listed sane agrees asked l
     let moves = answers-move w k request reply now out accepted.items sane asked accepted.is in
     let named = request-names w k request sane asked in
     elim (cases_eq j k) [
-      | inl same ↦ subst (λ n. life_of n (calls ++ listed) ≡ life_for_state (child_in now n)) (sym same)
-          (row-here w k is_full request reply calls listed agrees asked named lists ∙ ap life_for_state (sym moves.own))
-      | inr apart ↦ row-there k j is_full request reply calls listed named lists apart ∙ (agrees j ∙ ap life_for_state (sym (moves.children j apart)))
+      | inl same ↦ subst (λ n. lifecycle_of n (calls ++ listed) ≡ lifecycle_for_state (child_in now n)) (sym same)
+          (sequence-here w k is_full request reply calls listed agrees asked named lists ∙ ap lifecycle_for_state (sym moves.own))
+      | inr apart ↦ sequence-there k j is_full request reply calls listed named lists apart ∙ (agrees j ∙ ap lifecycle_for_state (sym (moves.children j apart)))
     ]
 
 -- if its answer was taken, the world and the list agree
@@ -102,7 +102,7 @@ untaken-agrees w k was_full is_full calls calls_now request reply out sane agree
     rw asks.calls_are (answer-agrees w (resulting_world w (Ok out) (step_of w (Answer k reply))) k is_full request reply out calls asks.listed sane agrees asked asks.lists
     (accepted-is w (resulting_world w (Ok out) (step_of w (Answer k reply))) (Answer k reply) out (step_of w (Answer k reply)) is refl))
 
-whole-in : (state : ChildState) → life_for_state state ≢ Broken
+whole-in : (state : ChildState) → lifecycle_for_state state ≢ Broken
 whole-in Closed e = cc
 whole-in Reading e = cc
 whole-in Waiting e = cc
@@ -111,16 +111,16 @@ whole-in Cut e = cc
 pub agrees-whole : (w : WorldState) (calls : List Call) → Agrees w calls → AreWhole calls
 agrees-whole w calls agrees k e = whole-in (child_in w k) (sym (agrees k) ∙ e)
 
--- after a call each row is whole, whatever became of its answer
+-- after a call each sequence is whole, whatever became of its answer
 asked-whole : (w : WorldState) (k : ℕ) (was_full is_full : Bool) (request : Request) (reply : Reply) (calls calls_now : List Call) → IsSane w → Agrees w calls →
     pending_of w k ≡ Some request → Asks request reply was_full is_full calls calls_now → AreWhole calls_now
 asked-whole w k was_full is_full request reply calls calls_now sane agrees asked asks j e =
     let named = request-names w k request sane asked in
-    let is : life_of j (calls ++ asks.listed) ≡ Broken = ap (life_of j) (sym asks.calls_are) ∙ e in
+    let is : lifecycle_of j (calls ++ asks.listed) ≡ Broken = ap (lifecycle_of j) (sym asks.calls_are) ∙ e in
     elim (cases_eq j k) [
       | inl same ↦ whole-in (child_after_answer (is_marked w k) request reply)
-          (sym (row-here w k is_full request reply calls asks.listed agrees asked named asks.lists) ∙ subst (λ n. life_of n (calls ++ asks.listed) ≡ Broken) same is)
-      | inr apart ↦ agrees-whole w calls agrees j (sym (row-there k j is_full request reply calls asks.listed named asks.lists apart) ∙ is)
+          (sym (sequence-here w k is_full request reply calls asks.listed agrees asked named asks.lists) ∙ subst (λ n. lifecycle_of n (calls ++ asks.listed) ≡ Broken) same is)
+      | inr apart ↦ agrees-whole w calls agrees j (sym (sequence-there k j is_full request reply calls asks.listed named asks.lists apart) ∙ is)
     ]
 
 -- what a launcher's preconditions need
@@ -133,27 +133,27 @@ pub number-asked : (w : WorldState) (k : ℕ) (request : Request) → IsSane w �
 number-asked w k request sane asked few = rw (request-names w k request sane asked) few
 
 -- the table after a call
-rows-asked : (w : WorldState) (k : ℕ) (was_full is_full b : Bool) (request : Request) (reply : Reply) (calls calls_now : List Call) (table : List Bool) → IsSane w → Agrees w calls →
+sequences-asked : (w : WorldState) (k : ℕ) (was_full is_full b : Bool) (request : Request) (reply : Reply) (calls calls_now : List Call) (table : List Bool) → IsSane w → Agrees w calls →
     IsOpenTable table calls → k < length table → pending_of w k ≡ Some request → Asks request reply was_full is_full calls calls_now →
-    b ≡ is_open (life_for_state (child_after_answer false request reply)) → (j : ℕ) → get_or (slice_set table k b) j false ≡ is_open (life_of j calls_now)
-rows-asked w k was_full is_full b request reply calls calls_now table sane agrees opened few asked asks is j =
+    b ≡ is_open (lifecycle_for_state (child_after_answer false request reply)) → (j : ℕ) → get_or (slice_set table k b) j false ≡ is_open (lifecycle_of j calls_now)
+sequences-asked w k was_full is_full b request reply calls calls_now table sane agrees opened few asked asks is j =
     let named = request-names w k request sane asked in
     rw asks.calls_are
     (elim (cases_eq j k) [
-      | inl same ↦ subst (λ n. get_or (slice_set table k b) n false ≡ is_open (life_of n (calls ++ asks.listed))) (sym same)
-          (get_or-set_same table k b false few ∙ (is ∙ ap is_open (sym (row-here w k is_full request reply calls asks.listed agrees asked named asks.lists ∙ unmarked (is_marked w k) request reply))))
-      | inr apart ↦ get_or-set_other table k j b false apart ∙ (opened.1 j ∙ ap is_open (sym (row-there k j is_full request reply calls asks.listed named asks.lists apart)))
+      | inl same ↦ subst (λ n. get_or (slice_set table k b) n false ≡ is_open (lifecycle_of n (calls ++ asks.listed))) (sym same)
+          (get_or-set_same table k b false few ∙ (is ∙ ap is_open (sym (sequence-here w k is_full request reply calls asks.listed agrees asked named asks.lists ∙ unmarked (is_marked w k) request reply))))
+      | inr apart ↦ get_or-set_other table k j b false apart ∙ (opened.1 j ∙ ap is_open (sym (sequence-there k j is_full request reply calls asks.listed named asks.lists apart)))
     ])
 
 pub table-asked : (w : WorldState) (k : ℕ) (was_full is_full b : Bool) (request : Request) (reply : Reply) (calls calls_now : List Call) (table : List Bool) → IsSane w → Agrees w calls →
     IsOpenTable table calls → k < length table → pending_of w k ≡ Some request → Asks request reply was_full is_full calls calls_now →
-    b ≡ is_open (life_for_state (child_after_answer false request reply)) → IsOpenTable (slice_set table k b) calls_now
+    b ≡ is_open (lifecycle_for_state (child_after_answer false request reply)) → IsOpenTable (slice_set table k b) calls_now
 table-asked w k was_full is_full b request reply calls calls_now table sane agrees opened few asked asks is = (
   asked-whole w k was_full is_full request reply calls calls_now sane agrees asked asks,
-  rows-asked w k was_full is_full b request reply calls calls_now table sane agrees opened few asked asks is,
+  sequences-asked w k was_full is_full b request reply calls calls_now table sane agrees opened few asked asks is,
 )
 
-further-open : (request : Option Request) (state : ChildState) → is_asked request state ≡ true → asks_read_or_wait request ≡ is_open (life_for_state state)
+further-open : (request : Option Request) (state : ChildState) → is_asked request state ≡ true → asks_read_or_wait request ≡ is_open (lifecycle_for_state state)
 further-open None state asked = grind (arith, common_steps)
 further-open (Some (Start job)) state asked = grind (arith, common_steps)
 further-open (Some (Read n)) state asked = grind (arith, common_steps)

@@ -21,7 +21,7 @@ use Rattle.ados_machine.proofs.Loops.{IsTaken, alone-turn, alone-reply, pending-
 use Rattle.ados_machine.proofs.Shells.{IsFree, found, found-set_other, free-number}
 use Rattle.ados_machine.proofs.Systems.{opened-stands}
 use Rattle.ados_launcher.specs.declared.calls.Call.{Call}
-use Rattle.ados_launcher.specs.Lives.{life_for_state}
+use Rattle.ados_launcher.specs.Lifecycles.{lifecycle_for_state}
 use Rattle.ados_launch.specs.Agreement.{Agrees}
 use Rattle.ados_launch.specs.Alone.{IsNextOf, IsUntaken, TakesNext}
 use Rattle.ados_launch.specs.Asked.{AreAsked, Asks}
@@ -41,7 +41,7 @@ opened-child w k commands j free =
 
 -- so the launcher's list agrees with the world as before
 pub opened-agrees : (w : WorldState) (k : ℕ) (commands : List Text) (calls : List Call) → free_number w.shells ≡ Some k → Agrees w calls → Agrees (world_with_opened w k commands) calls
-opened-agrees w k commands calls free agrees j = agrees j ∙ ap life_for_state (sym (opened-child w k commands j free))
+opened-agrees w k commands calls free agrees j = agrees j ∙ ap lifecycle_for_state (sym (opened-child w k commands j free))
 
 -- the answers in an event
 abbrev pub replies_in : Event → List Reply

@@ -13,7 +13,7 @@ pub mod Inputs
 pub mod Accepts
 pub mod ReaderEnd
 pub mod Over
-pub mod Rows
+pub mod NextCall
 pub mod Agreeing
 pub mod Waits
 pub mod Outcomes

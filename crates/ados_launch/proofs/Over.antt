@@ -14,7 +14,7 @@ use Rattle.ados_machine.specs.Turning.{Input}
 use Rattle.ados_machine.specs.Phases.{Phase, Ready, GoingOn, Waiting}
 use Rattle.ados_machine.specs.declared.phases.Wait.TheVariants.{ForAnswer, ForLines, ForStart, ForPiece, ForEnd}
 use Rattle.ados_launcher.specs.declared.calls.Call.{Call}
-use Rattle.ados_launcher.specs.Lives.{life_for_state}
+use Rattle.ados_launcher.specs.Lifecycles.{lifecycle_for_state}
 use Rattle.ados_launch.specs.Agreement.{Agrees, AreOver}
 use Rattle.ados_launch.specs.Rounds.{IsIdle}
 use Rattle.ados_launch.proofs.Places.{idle-line, idle-turn, idle-pending}
@@ -101,9 +101,9 @@ over-none w (suc i) over = none-in w.shells i (unset (list_any is_some w.shells)
     unset true e = cc
     unset false e = refl
 
--- and then each row of lives is at its end
+-- and then each sequence of lifecycles is at its end
 pub calls-over : (w : WorldState) (calls : List Call) → Agrees w calls → is_over w ≡ true → AreOver calls
-calls-over w calls agrees over k = agrees k ∙ ap (λ o. life_for_state (child_of_shell o)) (over-none w k over)
+calls-over w calls agrees over k = agrees k ∙ ap (λ o. lifecycle_for_state (child_of_shell o)) (over-none w k over)
 
 -- a view of which numbers have a shell has a place for each
 pub size-of : (w : WorldState) (table : List Bool) → table ≡ running_numbers w → length table ≡ 20 → length w.shells ≡ 20

@@ -9,102 +9,102 @@ use Rattle.ados_machine.specs.declared.answers.Answer.{Answer}
 use Rattle.ados_machine.specs.Children.{answers_wait}
 use Rattle.ados_launcher.specs.declared.calls.Call.{Call}
 use Rattle.ados_launcher.specs.declared.calls.Call.TheVariants.{Start as Starts, Read as Reads, Wait as Waits}
-use Rattle.ados_launcher.specs.Lives.{Life, Between, InReads, AfterReads, Broken, life_of, life_after_wait, is_open}
+use Rattle.ados_launcher.specs.Lifecycles.{LifecycleState, Between, InReads, AfterReads, Broken, lifecycle_of, lifecycle_after_wait, is_open}
 use Rattle.ados_launch.specs.Agreement.{AddsWait, AreWaits, AreOpenChildWaits, AreOver, IsOpenTable, WaitsForOpen, waited_child}
-use Rattle.ados_launch.proofs.Rows.{life-more}
+use Rattle.ados_launch.proofs.NextCall.{lifecycle-more}
 
--- a row once its open child was waited for
-abbrev pub waited : Life → Life
+-- a sequence once its open child was waited for
+abbrev pub waited : LifecycleState → LifecycleState
 waited InReads = Between
 waited AfterReads = Between
-waited life = life
+waited lifecycle = lifecycle
 
--- the rows below n were waited for
+-- the sequences below n were waited for
 abbrev pub IsWaited : ℕ → List Call → List Call → Type 0
-IsWaited n before after = (j : ℕ) → life_of j after ≡ (if nat_lt j n then waited (life_of j before) else life_of j before)
+IsWaited n before after = (j : ℕ) → lifecycle_of j after ≡ (if nat_lt j n then waited (lifecycle_of j before) else lifecycle_of j before)
 
 pub none-waited : (before : List Call) → IsWaited 0 before before
 none-waited before j = grind (arith, common_steps)
 
-waited-is : (life : Life) (a : Answer) → is_open life ≡ true → answers_wait a ≡ true → life_after_wait life a ≡ waited life
+waited-is : (lifecycle : LifecycleState) (a : Answer) → is_open lifecycle ≡ true → answers_wait a ≡ true → lifecycle_after_wait lifecycle a ≡ waited lifecycle
 waited-is InReads a o f = rw f refl
 waited-is AfterReads a o f = rw f refl
 waited-is Between a o f = cc
 waited-is Broken a o f = cc
 
-closed-stays : (life : Life) → is_open life ≡ false → waited life ≡ life
+closed-stays : (lifecycle : LifecycleState) → is_open lifecycle ≡ false → waited lifecycle ≡ lifecycle
 closed-stays InReads o = cc
 closed-stays AfterReads o = cc
 closed-stays Between o = refl
 closed-stays Broken o = refl
 
-at : (n : ℕ) (x y : Life) → (if nat_lt n n then x else y) ≡ y
+at : (n : ℕ) (x y : LifecycleState) → (if nat_lt n n then x else y) ≡ y
 at n x y = grind (arith, common_steps)
 
-later : (n : ℕ) (x y : Life) → (if nat_lt n (n + 1) then x else y) ≡ x
+later : (n : ℕ) (x y : LifecycleState) → (if nat_lt n (n + 1) then x else y) ≡ x
 later n x y = grind (arith, common_steps)
 
-past : (j n : ℕ) (x y : Life) → j ≢ n → (if nat_lt j (n + 1) then x else y) ≡ (if nat_lt j n then x else y)
+past : (j n : ℕ) (x y : LifecycleState) → j ≢ n → (if nat_lt j (n + 1) then x else y) ≡ (if nat_lt j n then x else y)
 past j n x y h = grind (arith, common_steps)
 
-row-waited : (n : ℕ) (a : Answer) (mid : List Call) → life_of n (mid ++ Waits n a ∷ []) ≡ life_after_wait (life_of n mid) a
-row-waited n a mid = life-more n mid (Waits n a) ∙ grind (arith, common_steps)
+sequence-waited : (n : ℕ) (a : Answer) (mid : List Call) → lifecycle_of n (mid ++ Waits n a ∷ []) ≡ lifecycle_after_wait (lifecycle_of n mid) a
+sequence-waited n a mid = lifecycle-more n mid (Waits n a) ∙ grind (arith, common_steps)
 
-row-stays : (j n : ℕ) (a : Answer) (mid : List Call) → j ≢ n → life_of j (mid ++ Waits n a ∷ []) ≡ life_of j mid
-row-stays j n a mid h = life-more j mid (Waits n a) ∙ grind (arith, common_steps)
+sequence-stays : (j n : ℕ) (a : Answer) (mid : List Call) → j ≢ n → lifecycle_of j (mid ++ Waits n a ∷ []) ≡ lifecycle_of j mid
+sequence-stays j n a mid h = lifecycle-more j mid (Waits n a) ∙ grind (arith, common_steps)
 
 -- an open child is waited for
-waits-one : (n : ℕ) (a : Answer) (before mid after : List Call) → IsWaited n before mid → is_open (life_of n before) ≡ true → answers_wait a ≡ true → after ≡ mid ++ Waits n a ∷ []
+waits-one : (n : ℕ) (a : Answer) (before mid after : List Call) → IsWaited n before mid → is_open (lifecycle_of n before) ≡ true → answers_wait a ≡ true → after ≡ mid ++ Waits n a ∷ []
     → IsWaited (n + 1) before after
 waits-one n a before mid after w o f l j =
     elim (cases_eq j n) [
-      | inl same ↦ subst (λ m. life_of m after ≡ (if nat_lt m (n + 1) then waited (life_of m before) else life_of m before)) (sym same)
-          (rw l (row-waited n a mid) ∙ (ap (λ x. life_after_wait x a) (w n ∙ at n (waited (life_of n before)) (life_of n before))
-          ∙ (waited-is (life_of n before) a o f ∙ sym (later n (waited (life_of n before)) (life_of n before)))))
-      | inr apart ↦ rw l (row-stays j n a mid apart) ∙ (w j ∙ sym (past j n (waited (life_of j before)) (life_of j before) apart))
+      | inl same ↦ subst (λ m. lifecycle_of m after ≡ (if nat_lt m (n + 1) then waited (lifecycle_of m before) else lifecycle_of m before)) (sym same)
+          (rw l (sequence-waited n a mid) ∙ (ap (λ x. lifecycle_after_wait x a) (w n ∙ at n (waited (lifecycle_of n before)) (lifecycle_of n before))
+          ∙ (waited-is (lifecycle_of n before) a o f ∙ sym (later n (waited (lifecycle_of n before)) (lifecycle_of n before)))))
+      | inr apart ↦ rw l (sequence-stays j n a mid apart) ∙ (w j ∙ sym (past j n (waited (lifecycle_of j before)) (lifecycle_of j before) apart))
     ]
 
 -- another is passed over
-passes-one : (n : ℕ) (before mid : List Call) → IsWaited n before mid → is_open (life_of n before) ≡ false → IsWaited (n + 1) before mid
+passes-one : (n : ℕ) (before mid : List Call) → IsWaited n before mid → is_open (lifecycle_of n before) ≡ false → IsWaited (n + 1) before mid
 passes-one n before mid w o j =
     elim (cases_eq j n) [
-      | inl same ↦ subst (λ m. life_of m mid ≡ (if nat_lt m (n + 1) then waited (life_of m before) else life_of m before)) (sym same)
-          (w n ∙ (at n (waited (life_of n before)) (life_of n before) ∙ (sym (closed-stays (life_of n before) o) ∙ sym (later n (waited (life_of n before)) (life_of n before)))))
-      | inr apart ↦ w j ∙ sym (past j n (waited (life_of j before)) (life_of j before) apart)
+      | inl same ↦ subst (λ m. lifecycle_of m mid ≡ (if nat_lt m (n + 1) then waited (lifecycle_of m before) else lifecycle_of m before)) (sym same)
+          (w n ∙ (at n (waited (lifecycle_of n before)) (lifecycle_of n before) ∙ (sym (closed-stays (lifecycle_of n before) o) ∙ sym (later n (waited (lifecycle_of n before)) (lifecycle_of n before)))))
+      | inr apart ↦ w j ∙ sym (past j n (waited (lifecycle_of j before)) (lifecycle_of j before) apart)
     ]
 
-pub rows-more : (n : ℕ) (b : Bool) (before mid after : List Call) → IsWaited n before mid → b ≡ is_open (life_of n before) → MatchBool b (AddsWait n mid after) (after ≡ mid) → IsWaited (n + 1) before after
-rows-more n true before mid after w o m = waits-one n m.answer before mid after w (sym o) m.fit m.calls_are
-rows-more n false before mid after w o m = subst (IsWaited (n + 1) before) (sym m) (passes-one n before mid w (sym o))
+pub sequences-more : (n : ℕ) (b : Bool) (before mid after : List Call) → IsWaited n before mid → b ≡ is_open (lifecycle_of n before) → MatchBool b (AddsWait n mid after) (after ≡ mid) → IsWaited (n + 1) before after
+sequences-more n true before mid after w o m = waits-one n m.answer before mid after w (sym o) m.fit m.calls_are
+sequences-more n false before mid after w o m = subst (IsWaited (n + 1) before) (sym m) (passes-one n before mid w (sym o))
 
 -- a child that is open and not yet passed is open still
-pub still-open : (n : ℕ) (before mid : List Call) → IsWaited n before mid → is_open (life_of n before) ≡ true → is_open (life_of n mid) ≡ true
-still-open n before mid w o = ap is_open (w n ∙ at n (waited (life_of n before)) (life_of n before)) ∙ o
+pub still-open : (n : ℕ) (before mid : List Call) → IsWaited n before mid → is_open (lifecycle_of n before) ≡ true → is_open (lifecycle_of n mid) ≡ true
+still-open n before mid w o = ap is_open (w n ∙ at n (waited (lifecycle_of n before)) (lifecycle_of n before)) ∙ o
 
-whole-over : (life : Life) → life ≢ Broken → waited life ≡ Between
+whole-over : (lifecycle : LifecycleState) → lifecycle ≢ Broken → waited lifecycle ≡ Between
 whole-over Between h = refl
 whole-over InReads h = refl
 whole-over AfterReads h = refl
 whole-over Broken h = absurd (h refl)
 
-closed-over : (life : Life) → life ≢ Broken → is_open life ≡ false → life ≡ Between
+closed-over : (lifecycle : LifecycleState) → lifecycle ≢ Broken → is_open lifecycle ≡ false → lifecycle ≡ Between
 closed-over Between h o = refl
 closed-over InReads h o = cc
 closed-over AfterReads h o = cc
 closed-over Broken h o = absurd (h refl)
 
-over-by : (b : Bool) (life : Life) → life ≢ Broken → (b ≡ false → is_open life ≡ false) → (if b then waited life else life) ≡ Between
-over-by true life h o = whole-over life h
-over-by false life h o = closed-over life h (o refl)
+over-by : (b : Bool) (lifecycle : LifecycleState) → lifecycle ≢ Broken → (b ≡ false → is_open lifecycle ≡ false) → (if b then waited lifecycle else lifecycle) ≡ Between
+over-by true lifecycle h o = whole-over lifecycle h
+over-by false lifecycle h o = closed-over lifecycle h (o refl)
 
 -- at the end none is open
 pub all-over : (table : List Bool) (n : ℕ) (before after : List Call) → IsWaited n before after → IsOpenTable table before → ((j : ℕ) → nat_lt j n ≡ false → get_or table j false ≡ false) → AreOver after
 all-over table n before after w t past j =
-    w j ∙ over-by (nat_lt j n) (life_of j before) (t.0 j) (λ e. sym (t.1 j) ∙ past j e)
+    w j ∙ over-by (nat_lt j n) (lifecycle_of j before) (t.0 j) (λ e. sym (t.1 j) ∙ past j e)
 
 -- the open children below n, in ascending order
 abbrev pub open_below : List Call → ℕ → List ℕ
-open_below calls n = filter (λ k. is_open (life_of k calls)) (range_with_len 0 n)
+open_below calls n = filter (λ k. is_open (lifecycle_of k calls)) (range_with_len 0 n)
 
 filter-append : (test : ℕ → Bool) (xs ys : List ℕ) → filter test (xs ++ ys) ≡ filter test xs ++ filter test ys
 filter-append test [] ys = refl
@@ -122,8 +122,8 @@ range-from (suc n) a = ap (λ xs. a ∷ xs) (range-from n (a + 1)) ∙ ap (λ m.
 range-more : (n : ℕ) → range_with_len 0 (n + 1) ≡ range_with_len 0 n ++ n ∷ []
 range-more n = ap (range_with_len 0) (add-one n) ∙ (range-from n 0 ∙ ap (λ m. range_with_len 0 n ++ m ∷ []) (omega arith))
 
-below-more : (calls : List Call) (n : ℕ) → open_below calls (n + 1) ≡ open_below calls n ++ (if is_open (life_of n calls) then n ∷ [] else [])
-below-more calls n = ap (filter (λ k. is_open (life_of k calls))) (range-more n) ∙ filter-append (λ k. is_open (life_of k calls)) (range_with_len 0 n) (n ∷ [])
+below-more : (calls : List Call) (n : ℕ) → open_below calls (n + 1) ≡ open_below calls n ++ (if is_open (lifecycle_of n calls) then n ∷ [] else [])
+below-more calls n = ap (filter (λ k. is_open (lifecycle_of k calls))) (range-more n) ∙ filter-append (λ k. is_open (lifecycle_of k calls)) (range_with_len 0 n) (n ∷ [])
 
 -- one wait was asked for each open child below n, in ascending order of number, and nothing else
 pub record WaitsBelow (n : ℕ) (before after : List Call) : Type 0 where
@@ -141,7 +141,7 @@ waits-append (Reads m b ∷ calls) n a h f = h
 pub no-waits : (before : List Call) → WaitsBelow 0 before before
 no-waits before = record { waits = []; calls_are = sym (append-nil before); children_are = refl; fit = tt }
 
-one-wait : (n : ℕ) (a : Answer) (before mid after : List Call) → WaitsBelow n before mid → is_open (life_of n before) ≡ true → answers_wait a ≡ true → after ≡ mid ++ Waits n a ∷ [] →
+one-wait : (n : ℕ) (a : Answer) (before mid after : List Call) → WaitsBelow n before mid → is_open (lifecycle_of n before) ≡ true → answers_wait a ≡ true → after ≡ mid ++ Waits n a ∷ [] →
     WaitsBelow (n + 1) before after
 one-wait n a before mid after w o f l = record {
   waits = w.waits ++ Waits n a ∷ [];
@@ -151,7 +151,7 @@ one-wait n a before mid after w o f l = record {
   fit = waits-append w.waits n a w.fit f;
 }
 
-no-more : (n : ℕ) (before mid : List Call) → WaitsBelow n before mid → is_open (life_of n before) ≡ false → WaitsBelow (n + 1) before mid
+no-more : (n : ℕ) (before mid : List Call) → WaitsBelow n before mid → is_open (lifecycle_of n before) ≡ false → WaitsBelow (n + 1) before mid
 no-more n before mid w o = record {
   waits = w.waits;
   calls_are = w.calls_are;
@@ -159,7 +159,7 @@ no-more n before mid w o = record {
   fit = w.fit;
 }
 
-pub waits-more : (n : ℕ) (b : Bool) (before mid after : List Call) → WaitsBelow n before mid → b ≡ is_open (life_of n before) → MatchBool b (AddsWait n mid after) (after ≡ mid) → WaitsBelow (n + 1) before after
+pub waits-more : (n : ℕ) (b : Bool) (before mid after : List Call) → WaitsBelow n before mid → b ≡ is_open (lifecycle_of n before) → MatchBool b (AddsWait n mid after) (after ≡ mid) → WaitsBelow (n + 1) before after
 waits-more n true before mid after w o m = one-wait n m.answer before mid after w (sym o) m.fit m.calls_are
 waits-more n false before mid after w o m = subst (WaitsBelow (n + 1) before) (sym m) (no-more n before mid w (sym o))
 
@@ -171,8 +171,8 @@ filter-none test [] none = refl
 filter-none test (x ∷ xs) none = rw (none x) (filter-none test xs none)
 
 -- if no child is open none is waited for
-pub none-open : (calls : List Call) → ((k : ℕ) → life_of k calls ≡ Between) → AreOpenChildWaits calls []
-none-open calls between = (ap (map Some) (sym (filter-none (λ k. is_open (life_of k calls)) (range_with_len 0 21) (λ k. ap is_open (between k)))), tt)
+pub none-open : (calls : List Call) → ((k : ℕ) → lifecycle_of k calls ≡ Between) → AreOpenChildWaits calls []
+none-open calls between = (ap (map Some) (sym (filter-none (λ k. is_open (lifecycle_of k calls)) (range_with_len 0 21) (λ k. ap is_open (between k)))), tt)
 
 -- a table that is filled up to n
 filled-at : (n : ℕ) (b : Bool) (f : ℕ → Bool) → b ≡ f n → b ≡ (if nat_lt n (n + 1) then f n else false)

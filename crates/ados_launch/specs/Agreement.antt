@@ -6,24 +6,25 @@ use Rattle.ados_machine.specs.Children.{answers_wait, child_in}
 use Rattle.ados_machine.specs.World.{WorldState}
 use Rattle.ados_launcher.specs.declared.calls.Call.{Call}
 use Rattle.ados_launcher.specs.declared.calls.Call.TheVariants.{Start, Read, Wait}
-use Rattle.ados_launcher.specs.Lives.{Between, Broken, life_of, life_for_state, is_open}
+use Rattle.ados_launcher.specs.Lifecycles.{Between, Broken, lifecycle_of, lifecycle_for_state, is_open}
 
--- Each row of lives is well-formed so far, and its open child is the one that the world reads or waits for: the end of its
--- reads is not listed if the world reads it or has broken it, and is listed if the world waits for it and has not.
+-- Each sequence of lifecycles is well-formed so far, and its open child is the one that the world reads or waits for: the
+-- end of its reads is not listed if the world reads it or has broken it, and is listed if the world waits for it and has
+-- not.
 abbrev pub Agrees : WorldState → List Call → Type 0
-Agrees w calls = (k : ℕ) → life_of k calls ≡ life_for_state (child_in w k)
+Agrees w calls = (k : ℕ) → lifecycle_of k calls ≡ lifecycle_for_state (child_in w k)
 
 -- no call is out of place
 abbrev pub AreWhole : List Call → Type 0
-AreWhole calls = (k : ℕ) → life_of k calls ≢ Broken
+AreWhole calls = (k : ℕ) → lifecycle_of k calls ≢ Broken
 
--- no child is open, and no call is out of place: the calls for each number are a row of whole lives
+-- no child is open, and no call is out of place: the calls for each number are a sequence of whole lifecycles
 abbrev pub AreOver : List Call → Type 0
-AreOver calls = (k : ℕ) → life_of k calls ≡ Between
+AreOver calls = (k : ℕ) → lifecycle_of k calls ≡ Between
 
 -- the numbers of the open children, in ascending order
 abbrev pub open_children : List Call → List ℕ
-open_children calls = filter (λ k. is_open (life_of k calls)) (range_with_len 0 21)
+open_children calls = filter (λ k. is_open (lifecycle_of k calls)) (range_with_len 0 21)
 
 -- the child that was waited for
 abbrev pub waited_child : Call → Option ℕ
@@ -48,9 +49,9 @@ pub record WaitsForOpen (before after : List Call) : Type 0 where
   pub calls_are : after ≡ before ++ waits
   pub are_for_open : AreOpenChildWaits before waits
 
--- no call is out of place, and the table tells by number which children are open
+-- no call is out of place, and the table says by number which children are open
 abbrev pub IsOpenTable : List Bool → List Call → Type 0
-IsOpenTable table calls = AreWhole calls × ((k : ℕ) → get_or table k false ≡ is_open (life_of k calls))
+IsOpenTable table calls = AreWhole calls × ((k : ℕ) → get_or table k false ≡ is_open (lifecycle_of k calls))
 
 -- a wait for child k was asked, and nothing else
 pub record AddsWait (k : ℕ) (before after : List Call) : Type 0 where

@@ -4,7 +4,7 @@ ghost use Rattle.ados_machine.specs.Limits.{IsSane};
 ghost use Rattle.ados_machine.specs.World.{pending_of};
 ghost use Rattle.ados_machine.specs.Children.{child_after_answer, shell_named};
 ghost use Rattle.ados_shell.specs.Drafts.{out_of};
-ghost use Rattle.ados_launcher.specs.Lives.{is_open, life_for_state, state_of};
+ghost use Rattle.ados_launcher.specs.Lifecycles.{is_open, lifecycle_for_state, state_of};
 ghost use Rattle.ados_launch.specs.Agreement.{Agrees, IsOpenTable};
 ghost use Rattle.ados_launch.specs.Asked.{Answers, Asks, MayAsk, TakesAnswer};
 
@@ -54,7 +54,7 @@ pub fn ask<L: Launcher>(launcher: &mut L, request: &Request) -> Answer
 
 // The child is open after this answer to the request.
 fn runs_after(request: &Request, answer: &Answer) -> bool
-    ensures { result ≡ is_open (life_for_state (child_after_answer false request.now answer.now)) }
+    ensures { result ≡ is_open (lifecycle_for_state (child_after_answer false request.now answer.now)) }
 {
     match request {
         Request::Start(_) => matches!(answer, Answer::Started),

@@ -2,7 +2,7 @@
 ghost use Rattle.std.specs.Prelude.{◌≡◌, ◌≢◌, ◌<◌, ℕ, true, false, get_or, MatchBool};
 ghost use Rattle.ados_machine.specs.World.{pending_of};
 ghost use Rattle.ados_machine.specs.declared.children.ChildState.TheVariants.{Closed};
-ghost use Rattle.ados_launcher.specs.Lives.{state_of};
+ghost use Rattle.ados_launcher.specs.Lifecycles.{state_of};
 ghost use Rattle.ados_launch.specs.Agreement.{AddsWait, AreOver, IsOpenTable, WaitsForOpen};
 ghost use Rattle.ados_launch.specs.Rounds.{asks_read_or_wait};
 

@@ -21,7 +21,7 @@ mod schedule;
 mod session;
 mod written;
 
-pub use ados_launcher::{Call, Host, Launcher, Listed, calls_are_rows_of_lives};
+pub use ados_launcher::{Call, Host, Launcher, Listed, calls_are_sequences_of_lifecycles};
 pub use ados_machine::BreakAt;
 pub use alone::{SystemEnd, SystemFault, system};
 pub use counted::{Counted, Sink, Source};

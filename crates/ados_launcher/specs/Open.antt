@@ -3,7 +3,7 @@ use Rattle.std.specs.Prelude.{◌≡◌, ℕ, List, Bool, true, false, get_or, r
 use Rattle.ados_machine.specs.declared.answers.Answer.{Answer}
 use Rattle.ados_machine.specs.declared.answers.Answer.TheVariants.{Started}
 use Rattle.ados_launcher.specs.declared.calls.Call.{Call}
-use Rattle.ados_launcher.specs.Lives.{is_open, life_for_state, state_of}
+use Rattle.ados_launcher.specs.Lifecycles.{is_open, lifecycle_for_state, state_of}
 
 -- no child is open
 abbrev pub no_open_children : List Bool
@@ -20,4 +20,4 @@ next_open_table k answer table = slice_set table k (is_open_after_start answer (
 
 -- a child is open by the table exactly if it is by the list of the calls
 abbrev pub AreOpen : List Bool → List Call → Type 0
-AreOpen table calls = (k : ℕ) → get_or table k false ≡ is_open (life_for_state (state_of k calls))
+AreOpen table calls = (k : ℕ) → get_or table k false ≡ is_open (lifecycle_for_state (state_of k calls))

@@ -9,7 +9,7 @@ use Rattle.ados_machine.specs.declared.children.ChildState.TheVariants.{Closed}
 use Rattle.ados_machine.specs.Children.{child_of_shell, child_in}
 use Rattle.ados_machine.specs.World.{WorldState, flatten, running_numbers}
 use Rattle.ados_launcher.specs.declared.calls.Call.{Call}
-use Rattle.ados_launcher.specs.Lives.{Life, Between, life_for_state, life_of}
+use Rattle.ados_launcher.specs.Lifecycles.{LifecycleState, Between, lifecycle_for_state, lifecycle_of}
 use Rattle.ados_launch.specs.Agreement.{Agrees}
 use Rattle.ados_launch.proofs.Over.{size-of}
 
@@ -18,27 +18,27 @@ past-numbers w zero size past = refl
 past-numbers w (suc i) size past = ap (λ found. child_of_shell (flatten found)) (slice_get_past w.shells i (rw size (grind (arith, common_steps))))
 
 pub reopened : (w : WorldState) (calls : List Call) (n : ℕ) (table : List Bool) → table ≡ running_numbers w → length table ≡ 20 → 21 ≤ n →
-    ((k : ℕ) → life_of k calls ≡ (if nat_lt k n then life_for_state (child_in w k) else Between)) → Agrees w calls
-reopened w calls n table is size all rows k =
+    ((k : ℕ) → lifecycle_of k calls ≡ (if nat_lt k n then lifecycle_for_state (child_in w k) else Between)) → Agrees w calls
+reopened w calls n table is size all sequences k =
     elim (cases_Bool (nat_lt k n)) [
-      | inl low ↦ rows k ∙ rw low refl
-      | inr past ↦ rows k ∙ rw (past, past-numbers w k (size-of w table is size) (grind (arith, common_steps))) refl
+      | inl low ↦ sequences k ∙ rw low refl
+      | inr past ↦ sequences k ∙ rw (past, past-numbers w k (size-of w table is size) (grind (arith, common_steps))) refl
     ]
 
-last-row : (n : ℕ) (life : Life) → life ≡ (if nat_lt n (n + 1) then life else Between)
-last-row n life = grind (arith, common_steps)
+last-sequence : (n : ℕ) (lifecycle : LifecycleState) → lifecycle ≡ (if nat_lt n (n + 1) then lifecycle else Between)
+last-sequence n lifecycle = grind (arith, common_steps)
 
-other-row : (n k : ℕ) (life : Life) → k ≢ n → (if nat_lt k n then life else Between) ≡ (if nat_lt k (n + 1) then life else Between)
-other-row n k life apart = grind (arith, common_steps)
+other-sequence : (n k : ℕ) (lifecycle : LifecycleState) → k ≢ n → (if nat_lt k n then lifecycle else Between) ≡ (if nat_lt k (n + 1) then lifecycle else Between)
+other-sequence n k lifecycle apart = grind (arith, common_steps)
 
 -- one more number
 pub one-more : (w : WorldState) (before after : List Call) (n : ℕ) →
-    ((k : ℕ) → life_of k before ≡ (if nat_lt k n then life_for_state (child_in w k) else Between)) →
-    life_of n after ≡ life_for_state (child_in w n) → ((k : ℕ) → k ≢ n → life_of k after ≡ life_of k before) →
-    (k : ℕ) → life_of k after ≡ (if nat_lt k (n + 1) then life_for_state (child_in w k) else Between)
-one-more w before after n rows own others k =
+    ((k : ℕ) → lifecycle_of k before ≡ (if nat_lt k n then lifecycle_for_state (child_in w k) else Between)) →
+    lifecycle_of n after ≡ lifecycle_for_state (child_in w n) → ((k : ℕ) → k ≢ n → lifecycle_of k after ≡ lifecycle_of k before) →
+    (k : ℕ) → lifecycle_of k after ≡ (if nat_lt k (n + 1) then lifecycle_for_state (child_in w k) else Between)
+one-more w before after n sequences own others k =
     elim (cases_eq k n) [
-      | inl same ↦ subst (λ m. life_of m after ≡ (if nat_lt m (n + 1) then life_for_state (child_in w m) else Between)) (sym same)
-          (own ∙ last-row n (life_for_state (child_in w n)))
-      | inr apart ↦ others k apart ∙ (rows k ∙ other-row n k (life_for_state (child_in w k)) apart)
+      | inl same ↦ subst (λ m. lifecycle_of m after ≡ (if nat_lt m (n + 1) then lifecycle_for_state (child_in w m) else Between)) (sym same)
+          (own ∙ last-sequence n (lifecycle_for_state (child_in w n)))
+      | inr apart ↦ others k apart ∙ (sequences k ∙ other-sequence n k (lifecycle_for_state (child_in w k)) apart)
     ]

@@ -1,6 +1,6 @@
 // A launcher for a world in which children may be open.
 ghost use Rattle.std.specs.Prelude.{◌≡◌, ◌≢◌, ◌<◌, ℕ, IfOk, OnOk};
-ghost use Rattle.ados_launcher.specs.Lives.{Between, InReads, AfterReads, life_for_state, life_of};
+ghost use Rattle.ados_launcher.specs.Lifecycles.{Between, InReads, AfterReads, lifecycle_for_state, lifecycle_of};
 ghost use Rattle.ados_launch.specs.Agreement.{Agrees};
 
 use crate::lines::answer_of;
@@ -54,9 +54,9 @@ fn reopen(
     number: u8,
 ) -> Result<(), NoMemory>
     requires number { number < 21 }
-    requires none { life_of number launcher.old.calls ≡ Between }
-    ensures own { OnOk result (life_of number launcher.new.calls ≡ life_for_state child) }
-    ensures others { OnOk result ((k : ℕ) → k ≢ number → life_of k launcher.new.calls ≡ life_of k launcher.old.calls) }
+    requires none { lifecycle_of number launcher.old.calls ≡ Between }
+    ensures own { OnOk result (lifecycle_of number launcher.new.calls ≡ lifecycle_for_state child) }
+    ensures others { OnOk result ((k : ℕ) → k ≢ number → lifecycle_of k launcher.new.calls ≡ lifecycle_of k launcher.old.calls) }
 {
     match child {
         ChildState::Closed => Ok(()),
@@ -71,9 +71,9 @@ fn reopen(
 // Starts the child with this number.
 fn start(alloc: Global, launcher: &mut Listed, number: u8) -> Result<(), NoMemory>
     requires number { number < 21 }
-    requires none { life_of number launcher.old.calls ≡ Between }
-    ensures own { OnOk result (life_of number launcher.new.calls ≡ InReads) }
-    ensures others { OnOk result ((k : ℕ) → k ≢ number → life_of k launcher.new.calls ≡ life_of k launcher.old.calls) }
+    requires none { lifecycle_of number launcher.old.calls ≡ Between }
+    ensures own { OnOk result (lifecycle_of number launcher.new.calls ≡ InReads) }
+    ensures others { OnOk result ((k : ℕ) → k ≢ number → lifecycle_of k launcher.new.calls ≡ lifecycle_of k launcher.old.calls) }
 {
     let job = Job {
         shell: number,
@@ -89,9 +89,9 @@ fn start(alloc: Global, launcher: &mut Listed, number: u8) -> Result<(), NoMemor
 // Ends the reads of the child with this number.
 fn end_reads(launcher: &mut Listed, number: u8) -> Result<(), NoMemory>
     requires number { number < 21 }
-    requires reading { life_of number launcher.old.calls ≡ InReads }
-    ensures own { OnOk result (life_of number launcher.new.calls ≡ AfterReads) }
-    ensures others { OnOk result ((k : ℕ) → k ≢ number → life_of k launcher.new.calls ≡ life_of k launcher.old.calls) }
+    requires reading { lifecycle_of number launcher.old.calls ≡ InReads }
+    ensures own { OnOk result (lifecycle_of number launcher.new.calls ≡ AfterReads) }
+    ensures others { OnOk result ((k : ℕ) → k ≢ number → lifecycle_of k launcher.new.calls ≡ lifecycle_of k launcher.old.calls) }
 {
     match launcher.read(number) {
         Answer::End | Answer::PipeFault => Ok(()),

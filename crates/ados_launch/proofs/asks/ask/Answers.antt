@@ -1,4 +1,4 @@
-use Rattle.ados_launch.proofs.Rows.{asks-start, asks-read, asks-wait}
+use Rattle.ados_launch.proofs.NextCall.{asks-start, asks-read, asks-wait}
 use Rattle.ados_launch.proofs.asks.ask.Goals as goal
 
 pub returns-in-Start : goal.returns-in-Start
