@@ -31,22 +31,22 @@ pub struct Departure<'a> {
     /// It was not there at the last comparison.
     pub is_new: bool,
     /// It is a file and was a directory, or the other way round.
-    pub is_turned: bool,
-    /// It is turned, or below an object that is.
-    pub is_at_turn: bool,
+    pub changes_kind: bool,
+    /// It changes its kind so, or is below an object that does.
+    pub is_within_kind_change: bool,
 }
 
 impl<'a> Departure<'a> {
     /// The change of an object that was there at the last comparison.
     pub fn of(record: &Record, entry: Option<&'a Entry>) -> Result<Departure<'a>, TransferFault> {
         let was_directory = matches!(record.last, Last::Directory);
-        let is_turned = entry.is_some_and(|entry| entry.is_directory() != was_directory);
+        let changes_kind = entry.is_some_and(|entry| entry.is_directory() != was_directory);
         Ok(Departure {
             path: record.path.clone()?,
             entry,
             is_new: false,
-            is_turned,
-            is_at_turn: is_turned,
+            changes_kind,
+            is_within_kind_change: changes_kind,
         })
     }
 
@@ -56,8 +56,8 @@ impl<'a> Departure<'a> {
             path,
             entry: Some(entry),
             is_new: true,
-            is_turned: false,
-            is_at_turn: false,
+            changes_kind: false,
+            is_within_kind_change: false,
         }
     }
 }
@@ -67,8 +67,8 @@ impl<'a> Departure<'a> {
 pub struct Departures<'a> {
     /// In the order of these keys a directory comes before what is in it.
     pub by_key: BTreeMap<String, Departure<'a>>,
-    // The keys of those that are turned.
-    turned: Vec<String>,
+    // The keys of those that change their kind.
+    kind_changes: Vec<String>,
 }
 
 impl<'a> Departures<'a> {
@@ -78,7 +78,7 @@ impl<'a> Departures<'a> {
     {
         Departures {
             by_key: BTreeMap::new(alloc),
-            turned: Vec::new(alloc),
+            kind_changes: Vec::new(alloc),
         }
     }
 
@@ -87,24 +87,27 @@ impl<'a> Departures<'a> {
         ensures { OnOk result ((q : Bytes) → has_key self.new.by_key q ≡ (bytes_eq (string_bytes key) q || has_key self.old.by_key q)) }
     {
         let mut departure = departure;
-        departure.is_at_turn = self.note_turn(key.as_str(), departure.is_turned)?;
+        departure.is_within_kind_change = self.note_kind_change(
+            key.as_str(),
+            departure.changes_kind,
+        )?;
         self.by_key.insert(key, departure)?;
         Ok(())
     }
 
-    // An object is turned, which is noted, or is below one that is.
-    fn note_turn(&mut self, key: &str, is_turned: bool) -> Result<bool, TransferFault>
+    // An object changes its kind, which is noted, or is below one that does.
+    fn note_kind_change(&mut self, key: &str, changes_kind: bool) -> Result<bool, TransferFault>
         ensures { self.new.by_key ≡ self.old.by_key }
     {
-        if !is_turned {
+        if !changes_kind {
             return Ok(
-                self.turned
+                self.kind_changes
                     .iter()
-                    .any(|turned| is_below(turned.as_str(), key)),
+                    .any(|above| is_below(above.as_str(), key)),
             );
         }
-        self.turned
-            .push(String::from_str(*self.turned.allocator(), key)?)?;
+        self.kind_changes
+            .push(String::from_str(*self.kind_changes.allocator(), key)?)?;
         Ok(true)
     }
 }

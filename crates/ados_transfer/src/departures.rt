@@ -14,10 +14,10 @@ use std::rt::Files;
 use std::time::Clock;
 
 impl Mirror {
-    /// Writes to the folder what changed below the directory since the last comparison: first what is new, then what changed, then
-    /// what is of another kind now, and what needs its place, and at last what is gone is deleted, the deepest first. While anything that the Shell holds
-    /// below the directory is not written, nothing is deleted: it may have been moved there, and one line reports it. With `dry`
-    /// the changes are only reported.
+    /// Writes to the folder what changed below the directory since the last comparison: first what is new, then what changed,
+    /// then what is of another kind now, and what needs its place. At last what is gone is deleted, the deepest first. While
+    /// anything that the Shell holds below the directory is not written, nothing is deleted: it may have been moved there, and
+    /// one line reports it. With `dry` the changes are only reported.
     ///
     /// What can't be written or deleted is reported and left. The only error is that an allocation fails.
     pub fn write_out<R: AllocGlobal + Files + Clock>(
@@ -44,14 +44,14 @@ impl Mirror {
         let departures = self.departures(files, &mut account)?;
         for is_new in [true, false] {
             for (key, departure) in &departures.by_key {
-                if departure.is_new == is_new && !departure.is_at_turn {
+                if departure.is_new == is_new && !departure.is_within_kind_change {
                     self.write_here(rt, files, key.as_str(), departure, &mut account)?;
                 }
             }
         }
-        self.turn(rt, files, &departures, &mut account)?;
+        self.change_kinds(rt, files, &departures, &mut account)?;
         for (key, departure) in departures.by_key.iter().rev() {
-            if departure.entry.is_none() && !departure.is_at_turn {
+            if departure.entry.is_none() && !departure.is_within_kind_change {
                 self.delete_here(rt, key.as_str(), departure, &mut account)?;
             }
         }
@@ -60,7 +60,7 @@ impl Mirror {
 
     // Makes way for what is of another kind now, and writes what needs the place. What is moved aside for it is deleted only if all of
     // it is written, otherwise it gets its place back.
-    fn turn<R: AllocGlobal + Files + Clock>(
+    fn change_kinds<R: AllocGlobal + Files + Clock>(
         &mut self,
         rt: &R,
         files: &Ram,
@@ -68,16 +68,18 @@ impl Mirror {
         account: &mut Account,
     ) -> Result<(), TransferFault> {
         for (key, departure) in departures.by_key.iter().rev() {
-            if departure.is_at_turn && (departure.is_turned || departure.entry.is_none()) {
+            if departure.is_within_kind_change
+                && (departure.changes_kind || departure.entry.is_none())
+            {
                 self.delete_here(rt, key.as_str(), departure, account)?;
             }
         }
         for (key, departure) in &departures.by_key {
-            if departure.is_at_turn {
+            if departure.is_within_kind_change {
                 self.write_here(rt, files, key.as_str(), departure, account)?;
             }
         }
-        self.end_turn(rt, account)
+        self.finish_kind_changes(rt, account)
     }
 
     // The objects whose state in the Shell's files differs from the last comparison. A file whose name is left out is never written: that

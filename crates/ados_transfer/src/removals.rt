@@ -51,7 +51,7 @@ impl Mirror {
                 account.hold(path)
             }
             Removal::Conflict => {
-                add_unwritten_at_turn(departure, account)?;
+                add_unwritten_within_kind_change(departure, account)?;
                 self.not_touched(key, path, &here, "cannot delete", is_large)
             }
             Removal::Leave => Ok(()),
@@ -71,13 +71,13 @@ impl Mirror {
         if self.options.dry {
             return self.report_once("would delete", path);
         }
-        let is_done = if departure.is_at_turn {
+        let is_done = if departure.is_within_kind_change {
             self.set_aside(rt, key, path, here, account)
         } else {
             remove(rt, self.folder.as_str(), path, here)
         };
         if !matches!(is_done, Ok(true)) {
-            add_unwritten_at_turn(departure, account)?;
+            add_unwritten_within_kind_change(departure, account)?;
         }
         match is_done {
             Ok(true) => {
@@ -142,7 +142,7 @@ impl Mirror {
     }
 
     // Deletes what was moved aside; if anything is not written each object gets its place back, the last one first.
-    pub(crate) fn end_turn<R: AllocGlobal + Files>(
+    pub(crate) fn finish_kind_changes<R: AllocGlobal + Files>(
         &mut self,
         rt: &R,
         account: &mut Account,
@@ -189,11 +189,11 @@ impl Mirror {
 }
 
 // What needs the place of an object that stays cannot be written.
-fn add_unwritten_at_turn(
+fn add_unwritten_within_kind_change(
     departure: &Departure<'_>,
     account: &mut Account,
 ) -> Result<(), TransferFault> {
-    if departure.is_at_turn {
+    if departure.is_within_kind_change {
         account.add_unwritten(departure.path.as_str())
     } else {
         Ok(())

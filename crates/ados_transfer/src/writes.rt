@@ -34,10 +34,10 @@ impl Mirror {
         let Some(entry) = departure.entry else {
             return Ok(());
         };
-        if departure.is_at_turn && account.has_unwritten() {
+        if departure.is_within_kind_change && account.has_unwritten() {
             return Ok(());
         }
-        if departure.is_at_turn && self.options.dry {
+        if departure.is_within_kind_change && self.options.dry {
             return self.report_once("would write", path);
         }
         let here = Here::look(rt, self.folder.as_str(), path)?;

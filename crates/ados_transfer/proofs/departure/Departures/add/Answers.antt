@@ -7,5 +7,5 @@ use Rattle.ados_transfer.proofs.departure.Departures.add.Goals as goal
 
 pub returns : goal.returns
 returns c = λ q.
-    has_key_set (string_bytes c.args.key) c.note_turn.new.self.by_key c.insert.new.self _ (btree_map_updates_text (string_bytes c.args.key) c.note_turn.new.self.by_key c.insert.new.self _ c.in_ok-insert.ensures.updates) q
-    ∙ ap (λ m. bytes_eq (string_bytes c.args.key) q || has_key m q) c.note_turn.ensures
+    has_key_set (string_bytes c.args.key) c.note_kind_change.new.self.by_key c.insert.new.self _ (btree_map_updates_text (string_bytes c.args.key) c.note_kind_change.new.self.by_key c.insert.new.self _ c.in_ok-insert.ensures.updates) q
+    ∙ ap (λ m. bytes_eq (string_bytes c.args.key) q || has_key m q) c.note_kind_change.ensures
