@@ -27,7 +27,7 @@ pub if_ok : {X E : Type 0} {P Q : X → Type 0} (r : Result X E) → ((x : X) �
 if_ok (Ok x) h p = h x p
 if_ok (Err e) h p = p
 
--- a look-up below a name
+-- a lookup below a name
 pub find-flatten : (y : List ℕ) (ys : Key) (ks : Kids) → T (is_sorted name_cmp ks) → find place_cmp (y ∷ ys) (flatten ks) ≡ find place_cmp ys (rows_found (find name_cmp y ks))
 find-flatten y ys ks h = sym (find-from (y ∷ []) ys (flatten ks)) ∙ ap (find place_cmp ys) (from-flatten y [] ks h ∙ from-root (rows_found (find name_cmp y ks)))
 

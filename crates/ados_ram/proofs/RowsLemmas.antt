@@ -52,7 +52,7 @@ pub record AreRowsOf (es : Rows) (m : Files) : Type 0 where
   pub is : map.from_sorted es ≡ m
   pub sorted : IsTrue (is_sorted place_cmp es)
 
--- a look-up in the map is one in the rows
+-- a lookup in the map is one in the rows
 pub get_rows : {m : Files} (es : Rows) (q : List (List ℕ)) → map.from_sorted es ≡ m → IsTrue (is_sorted place_cmp es) → map.get m q ≡ find place_cmp q es
 get_rows es q e sorted = ap (λ m. map.get m q) (sym e) ∙ get-from_sorted place_cmp es q (holds _ sorted)
 

@@ -70,7 +70,7 @@ from-flatten x xs (k ∷ ks) h =
       | Greater ↦ λ p. rest
     ] refl
 
--- a look-up of the place itself
+-- a lookup of the place itself
 pub find-from : (key q : Key) (es : Rows) → find place_cmp q (subtree_rows key es) ≡ find place_cmp (key ++ q) es
 find-from key q [] = refl
 find-from key q (e ∷ es) =

@@ -171,8 +171,8 @@ pub record MayMove (from to : Key) (m : Files) : Type 0 where
 
 -- names that lead down from a place, as they are written in the rows
 abbrev pub rows_written : Rows → Key → Place → Place
-rows_written es parent_key [] = []
-rows_written es parent_key (name ∷ rest) = spelled_name (map.find place_cmp (parent_key ++ folded_text name ∷ []) es) name ∷ rows_written es (parent_key ++ folded_text name ∷ []) rest
+rows_written es directory [] = []
+rows_written es directory (name ∷ rest) = spelled_name (map.find place_cmp (directory ++ folded_text name ∷ []) es) name ∷ rows_written es (directory ++ folded_text name ∷ []) rest
 
 -- the fault of the directories above a place, by the rows
 abbrev pub rows_way : Rows → Key → Key → Option Result2

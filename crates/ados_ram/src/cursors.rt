@@ -1,4 +1,4 @@
-// Cursors: places in the files from which a look-up can continue.
+// Cursors: places in the files from which a lookup can continue.
 ghost use Rattle.std.specs.Prelude.{◌≡◌, ◌∷◌, []};
 ghost use Rattle.std.specs.Option.{option_copied};
 ghost use Rattle.std.specs.FinMap as map;

@@ -66,7 +66,7 @@ impl Ram {
         self.table.find(place.names())
     }
 
-    /// The entries at a place and below it, for look-ups from there without a walk from the root. Nothing is allocated.
+    /// The entries at a place and below it, for lookups from there without a walk from the root. Nothing is allocated.
     pub fn below(&self, place: &Place) -> Cursor<'_>
         ensures { result ≡ subtree_rows (key_of place.now) (map.entries self.now) }
     {
