@@ -22,10 +22,10 @@ IsPlainAt options line place word =
     (word_of line (item_at true line place) ≡ Some (Run word.from word.to word.to, word.to))
     × ((given : List Reading) → meaning_of options line given Free (Run word.from word.to word.to) ≡ Plain (item.Word word.from word.to))
 
--- the readings if the line says no more, and otherwise what `next` gives from a place on
+-- the readings if the line says no more, and otherwise what `next` gives from that place on
 abbrev pub next_readings : (ℕ → Result Readings ArgFault) → Readings → Option ℕ → Result Readings ArgFault
 next_readings next readings None = Ok readings
-next_readings next readings (Some next_place) = next next_place
+next_readings next readings (Some place) = next place
 
 -- Reading goes on: what the words from a place on say after some readings is what those from the next place say after others;
 -- if there is no next place, the others are all.
