@@ -203,9 +203,9 @@ pub record IsReported (scene : Scene) (before after : Draft) (name : Text) (fram
   pub reports : after.reports.items ≡ before.reports.items ++ report_of scene.number name frame ∷ []
 
 -- the end of a tick left its line to go on, with its output
-pub record IsTicked (scene : Scene) (mid after : Draft) (front after_it : Text) : Type 0 where
+pub record IsTicked (scene : Scene) (mid after : Draft) (front tail : Text) : Type 0 where
   pub frames : after.shell.frames ≡ mid.shell.frames
-  pub phase : drafted_phase after.shell ≡ GoingOn (record { before = front; output = newest_kept (course_of scene mid).kept; after = after_it })
+  pub phase : drafted_phase after.shell ≡ GoingOn (record { before = front; output = newest_kept (course_of scene mid).kept; after = tail })
   pub course : course_of scene after ≡ record (course_of scene mid) { kept = drop 1 (course_of scene mid).kept }
   pub reports : after.reports.items ≡ mid.reports.items
 

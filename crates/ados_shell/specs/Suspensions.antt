@@ -4,7 +4,7 @@ use Rattle.ados_machine.specs.Phases.{Phase, Ready, GoingOn, Waiting}
 use Rattle.ados_shell.specs.declared.suspensions.Suspension.{Suspension}
 use Rattle.ados_shell.specs.declared.suspensions.Suspension.TheVariants as suspension
 
--- a shell that nothing keeps from it is ready
+-- a shell that nothing keeps from it is in the phase Ready
 abbrev pub phase_of : Option Suspension → Phase
 phase_of None = Ready
 phase_of (Some (suspension.GoingOn parted)) = GoingOn parted

@@ -39,7 +39,7 @@ IsTurning scene queue Goes draft (machine.Takes rest turned) = (rest ≡ queue) 
 IsTurning scene queue Takes draft (machine.Takes rest turned) = (line : Text) × (queue ≡ line ∷ rest) × IsDrafted scene draft turned
 IsTurning scene queue _ draft _ = ⊥
 
--- the machine's turn of a shell that is ready and runs no frame, when these lines wait
+-- the machine's turn of a shell in the phase Ready that runs no frame, when these lines wait
 abbrev pub console_turning : Scene → Input → List Text → machine.Turning
 console_turning scene input queue = machine.console_turning queue input.is_ended (turn_start scene)
 

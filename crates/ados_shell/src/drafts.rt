@@ -1,4 +1,4 @@
-// What a turn has changed so far, ready to be moved in.
+// What a turn has changed so far, to be committed ("moved in").
 ghost use Rattle.std.specs.Prelude.{◌≡◌, [], None, false, OnOk, option_map};
 ghost use Rattle.ados_find.specs.Shared.{version};
 ghost use Rattle.ados_machine.specs.Step.{event_out};
@@ -49,7 +49,7 @@ pub struct Draft {
 pub struct ShellDraft {
     /// The frames.
     pub frames: Stack,
-    /// What the shell does next; `None` if it is ready.
+    /// What the shell does next; `None` in the phase Ready.
     pub phase: Option<Box<Suspension>>,
     /// The fail limit.
     pub limit: Code,

@@ -1,4 +1,4 @@
-// What a turn makes of its shell, ready to be moved in.
+// What a turn makes of its shell, to be committed ("moved in").
 ghost use Rattle.std.specs.Prelude.{◌≡◌, ◌||◌, None, false, option_map, IfOk, OnErr, OnOk};
 
 use crate::drafts::ShellDraft;

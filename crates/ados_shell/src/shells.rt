@@ -20,7 +20,7 @@ use std::marker::Model;
 pub struct Shell {
     // The newest is the last.
     pub(crate) frames: Vec<Frame>,
-    // `None` if it is ready.
+    // `None` in the phase Ready.
     pub(crate) phase: Option<Box<Suspension>>,
     // What it asked a launcher for, and waits for.
     pub(crate) request: Option<Request>,
@@ -171,8 +171,8 @@ impl Shell {
         !self.frames.is_empty()
     }
 
-    /// It can take a turn: it is ready and runs a frame, a line of it goes on, or it has input to take, as `has_lines`
-    /// says.
+    /// It can take a turn: it is in the phase Ready and runs a frame, a line of it goes on, or it has input to take, as
+    /// `has_lines` says.
     pub fn can_take(&self, has_lines: bool) -> bool
         ensures { (input : Input) → has_input input ≡ has_lines → result ≡ can_take input self.now.frames self.now.phase }
     {
@@ -183,7 +183,7 @@ impl Shell {
         }
     }
 
-    /// It reads its input next: it is ready and runs no frame, or waits for a line.
+    /// It reads its input next: it is in the phase Ready and runs no frame, or waits for a line.
     pub fn takes_input(&self) -> bool
         ensures { result ≡ takes_input self.now.frames self.now.phase }
     {

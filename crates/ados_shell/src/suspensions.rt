@@ -7,7 +7,8 @@ ghost use Rattle.ados_shell.specs.Suspensions.{phase_of};
 use ados_machine::{Parted, Request, Wait};
 use ados_text::NoMemory;
 
-/// What keeps a shell from taking its next line: a line of it that has begun and not ended. A shell without one is ready.
+/// What keeps a shell from taking its next line: a line of it that has begun and not ended. A shell without one is in the
+/// phase Ready.
 #[derive(Drop)]
 pub enum Suspension {
     /// It continues a line whose command substitution has ended.

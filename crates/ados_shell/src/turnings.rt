@@ -38,9 +38,9 @@ impl Draft {
     ///
     /// A shell that waits for the answer to a prompt takes a line of its input, and at its end an empty one; one whose Run
     /// gathers takes a line, and goes on without one at the end; one that waits for a launcher takes nothing. A line whose
-    /// tick has ended goes on. A shell that is
-    /// ready takes the next line of its newest frame; without a frame it takes a line of its input, and ends at the end
-    /// of that. If the shell is flagged and runs a script, its scripts end instead of all this, and no line is taken.
+    /// command substitution has ended goes on. In the phase Ready a shell takes the next line of its newest frame; without a
+    /// frame it takes a line of its input, and ends at the end of that. If the shell is flagged and runs a script, its
+    /// scripts end instead of all this, and no line is taken.
     ///
     /// `NoMemory` if there is none for what the turn makes, and only if the shell has something to
     /// take: its end needs no memory.
@@ -92,7 +92,7 @@ impl Draft {
         self.bind(scene)
     }
 
-    /// A turn of a shell that is ready.
+    /// A turn of a shell in the phase Ready.
     fn ready_turn(&mut self, scene: &Scene, input: &Input) -> Result<Turning, NoMemory>
         ensures turn { IfOk result (λ turn. Gives scene.now input.now (plain_turning scene.now input.now Ready) turn self.new) }
         ensures memory { OnErr result (LacksMemory input.now (plain_turning scene.now input.now Ready)) }
@@ -187,7 +187,7 @@ impl Draft {
         self.bind(scene)
     }
 
-    /// A turn of a shell that is ready and runs no frame.
+    /// A turn of a shell in the phase Ready that runs no frame.
     fn console_turn(&mut self, scene: &Scene, input: &Input) -> Result<Turning, NoMemory>
         requires { scene.now.shell.now.frames ≡ [] }
         ensures turn { IfOk result (λ turn. Gives scene.now input.now (console_turning scene.now input.now) turn self.new) }
