@@ -29,7 +29,7 @@ ghost use Rattle.ados_machine.specs.Laws.{
 ghost use Rattle.ados_machine.specs.Limits.{IsSane};
 ghost use Rattle.ados_machine.specs.Quiet.{QuietShellsAreInvisible};
 ghost use Rattle.ados_machine.specs.Starts.{FailedStartsChangeTheCodes, FailedStartsLeaveNothing};
-ghost use Rattle.ados_machine.specs.Told.{AloneTellsReports};
+ghost use Rattle.ados_machine.specs.LoneReports.{AloneTellsReports};
 ghost use Rattle.ados_machine.specs.World.{fresh_world};
 ghost use Rattle.ados_resident.specs.declared.hosts.HostEntry.{HostEntry};
 ghost use Rattle.std.specs.Prelude.{List};

@@ -4,7 +4,7 @@ ghost use Rattle.std.specs.List.{slice_set};
 ghost use Rattle.ados_machine.specs.Limits.{IsSane};
 ghost use Rattle.ados_machine.specs.Numbers.{free_number};
 ghost use Rattle.ados_machine.specs.declared.answers.Answer.{Answer};
-ghost use Rattle.ados_machine.specs.Told.{TellsReports, collect_reports};
+ghost use Rattle.ados_machine.specs.LoneReports.{TellsReports, collect_reports};
 ghost use Rattle.ados_machine.specs.LoneShell.{opened_shell, whole};
 ghost use Rattle.ados_world.specs.Opened.{Refuses, world_after_opening, opening_fault};
 ghost use Rattle.ados_world.specs.Shells.{IsShellNumber};

@@ -4,7 +4,7 @@ ghost use Rattle.ados_machine.specs.Given.{all_lines_taken, all_lines_typed};
 ghost use Rattle.ados_machine.specs.Kept.{codes_after_trace};
 ghost use Rattle.ados_machine.specs.Runs.{Runs};
 ghost use Rattle.ados_machine.specs.Limits.{LimitsHold, ReportsHold};
-ghost use Rattle.ados_machine.specs.Reports.{reports_of_trace, shell_stacks};
+ghost use Rattle.ados_machine.specs.Reports.{reports_of_trace, shell_stack};
 ghost use Rattle.ados_machine.specs.Stacks.{FramesHold};
 ghost use Rattle.ados_machine.specs.Trace.{own, all_reports, trace};
 ghost use Rattle.ados_machine.specs.World.{codes_at};
@@ -86,7 +86,7 @@ impl World {
         ensures starts { IfOk result (λ run. FailedStartsLeaveNothingIn self events.now run.outs) }
         ensures quiet { IfOk result (λ run. QuietShellsAreInvisibleIn self events.now run.outs run.world) }
         ensures typed { IfOk result (λ run. self.queue ++ all_lines_typed events.now run.outs ≡ all_lines_taken self events.now run.outs ++ run.world.queue) }
-        ensures records { IfOk result (λ run. all_reports run.outs ≡ reports_of_trace (shell_stacks self) (trace self events.now run.outs)) }
+        ensures records { IfOk result (λ run. all_reports run.outs ≡ reports_of_trace (shell_stack self) (trace self events.now run.outs)) }
         ensures codes { IfOk result (λ run. (k : ℕ) → codes_at run.world k ≡ codes_after_trace (codes_at self k) (own k (trace self events.now run.outs))) }
         ensures err { IfErr result (λ world. world ≡ self) }
     {

@@ -1,4 +1,4 @@
-// The table of the shells, and the words that tell which of them are due.
+// The table of the shells, and the machine words that say which of them are due.
 ghost use Rattle.std.specs.Prelude.{◌≡◌, ◌∷◌, ◌-◌, ◌≤◌, None, Some, replicate, IfSome, OnErr, OnOk};
 ghost use Rattle.std.specs.List.{slice_set};
 ghost use Rattle.ados_machine.specs.Breaks.{broken_number};

@@ -93,7 +93,8 @@ impl World {
         })
     }
 
-    /// The shell of this number, if one runs: what it holds, by a name for each part.
+    /// The shell of this number, whose methods show each part of it. `None` if none runs: of one that has ended only its
+    /// last [`codes`](World::codes) are left.
     pub fn shell(&self, number: u8) -> Option<&Shell>
         ensures shell { option_copied result ≡ numbered_shell self.now number }
         ensures number { OnSome result (IsShellNumber number) }
@@ -119,9 +120,9 @@ impl World {
         }
     }
 
-    /// The shell of this number can take a turn: it is ready and runs a frame, a line of it goes on after its tick, or it
-    /// reads its input and a line waits there or it has ended. One that waits for the answer to a prompt, or whose
-    /// Run gathers, only reads its input, and one that waits for a launcher takes nothing.
+    /// The shell of this number can take a turn: it is in the phase Ready and runs a frame, a line of it continues after its
+    /// command substitution, or it reads its input and a line waits there or the input has ended. One that waits for the
+    /// answer to a prompt, or whose Run gathers, only reads its input, and one that waits for a launcher takes nothing.
     /// The input of a background shell is at its end.
     pub fn ready(&self, number: u8) -> bool
         ensures { result ≡ is_ready self.now number }
