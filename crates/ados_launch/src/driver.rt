@@ -85,11 +85,12 @@ impl Drive<'_> {
     /// memory for the next line or event; no byte past that line is taken. A read or write that is interrupted has failed, and
     /// is not tried again.
     ///
-    /// Before the call the reader's faults and the writer's are below 2^64 - 1, and the launcher's list of calls agrees with the
-    /// world as for [`system`](crate::system); those of a new world and a new launcher do. After a fault this world and this
-    /// launcher must not be driven again: the world still requests reads and waits of child processes that are gone. Bytes are
-    /// read ahead of the lines, as many as come with a read: those read and not taken are lost at the return, even to a second
-    /// call with the same reader.
+    /// Before the call the reader has counted fewer than 2^64 - 1 failed reads and the writer fewer than 2^64 - 1 failed
+    /// writes, so that a `u64` can count one more. The launcher's list of calls agrees with the world as for
+    /// [`system`](crate::system); those of a new world and a new launcher do. After a fault this world and this launcher must
+    /// not be driven again: the world still requests reads and waits of child processes that are gone. Bytes are read ahead of
+    /// the lines, as many as come with a read: those read and not taken are lost at the return, even to a second call with the
+    /// same reader.
     pub fn run<L: Launcher, S: Source, K: Sink>(
         &self,
         world: &mut World,
