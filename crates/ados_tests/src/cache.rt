@@ -183,7 +183,7 @@ fn residents_begin_anew(alloc: Global) -> Result<bool, Wrong> {
 fn other_residents_begin_anew(rt: HostRuntime) -> Result<(), Wrong> {
     expect(
         residents_begin_anew(rt.alloc())?,
-        "X:y behind other residents",
+        "X:y after other residents",
     )
 }
 
