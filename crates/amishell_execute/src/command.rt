@@ -59,7 +59,7 @@ where there is none";
 
 const STRICT: &str =
     "Runs nothing if a line of the script gives a command an option of Release 2 that the Shell leaves out;
-without it each such line is told on standard error, and the script runs";
+without it each such line is reported on standard error, and the script runs";
 
 const TURNS: &str =
     "How many events and long lines are taken at most, 1 to 1000000000, not counted those that bring files
