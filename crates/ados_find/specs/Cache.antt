@@ -1,4 +1,4 @@
--- The cache: paths whose places are known, each as resolving gives it.
+-- The cache: resolved paths, each with the place that resolving gives.
 use Rattle.std.specs.Prelude.{◌≡◌, List, ◌∷◌, Ok}
 use Rattle.std.specs.List.{All, Contains}
 use Rattle.ados_text.specs.Text.{Text}
@@ -20,6 +20,6 @@ IsResolved assigns files known = text_resolved assigns files known.directory kno
 abbrev pub AreResolved : AssignMap → Files → List Known → Type 0
 AreResolved assigns files pairs = All (IsResolved assigns files) pairs
 
--- what is known after a pair was kept: it was known before, or is the pair
+-- what is cached after a pair was added: it was cached before, or is the pair
 unfoldable pub IsKept : List Known → Known → List Known → Type 0
 IsKept old pair new = All (Contains (pair ∷ old)) new

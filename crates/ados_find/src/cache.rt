@@ -7,8 +7,8 @@ use ados_text::{Name, Text};
 use std::alloc::Global;
 use std::marker::Model;
 
-// The greatest number of paths that are known.
-const MOST: usize = 64;
+// The cache has at most this many paths.
+const CACHED_PATHS: usize = 64;
 
 /// A path, as it was written, and the place to which it leads from a directory.
 #[derive(Drop)]
@@ -19,7 +19,7 @@ pub struct Known {
 }
 
 impl Known {
-    /// What is known about a path, with this spelling; `None` if an allocation fails.
+    /// A path, with this spelling, and its place; `None` if an allocation fails.
     pub fn of(directory: &Place, path: &Text, place: Place) -> Option<Known>
         ensures { IfSome result (λ known. known ≡ record { directory = directory.now; path = path.now; place = place }) }
     {
@@ -33,7 +33,7 @@ impl Known {
         }
     }
 
-    /// Whether the path is a word after these bytes, from this directory, all with the same spelling.
+    /// Whether the path is these bytes followed by the word, from this directory, all with the same spelling.
     pub fn is(&self, directory: &Place, front: &[u8], word: &Text) -> bool
         ensures directory { IsTrue result → self.now.directory ≡ directory.now }
         ensures path { IsTrue result → self.now.path ≡ front.now ++ word.now }
@@ -43,7 +43,7 @@ impl Known {
     }
 }
 
-// Whether the bytes are these two, one after the other.
+// Whether the bytes are `front` followed by `word`.
 fn is_joined(bytes: &[u8], front: &[u8], word: &[u8]) -> bool
     ensures { IsTrue result → bytes.now ≡ front.now ++ word.now }
 {
@@ -72,10 +72,10 @@ fn is_spelled(name: &Name, other: &Name) -> bool
     name.text().as_bytes() == other.text().as_bytes()
 }
 
-/// The paths whose places are known in one version of the files and assigns.
+/// The resolved paths of one version of the files and assigns.
 #[derive(Drop)]
 pub struct Cache {
-    // `None` if nothing is known, so that an empty cache is small to move.
+    // `None` if nothing is cached, so that an empty cache is small to move.
     known: Option<Box<Vec<Known>>>,
 }
 
@@ -89,14 +89,14 @@ impl Model for Cache {
 }
 
 impl Cache {
-    /// Nothing is known; nothing is allocated.
+    /// The empty cache; nothing is allocated.
     pub fn new() -> Cache
         ensures { result ≡ [] }
     {
         Cache { known: None }
     }
 
-    /// The pairs that are known.
+    /// The cached pairs.
     pub fn as_slice(&self) -> &[Known]
         ensures { result.now ≡ self.now }
     {
@@ -106,7 +106,7 @@ impl Cache {
         }
     }
 
-    /// Keeps a pair, unless an allocation fails; if the cache is full the others are forgotten.
+    /// Adds a pair, unless an allocation fails; a full cache is cleared first.
     #[tactic(auto, using(crate::proofs::CacheLemmas::kept_none))]
     pub fn keep(&mut self, alloc: Global, pair: Known)
         ensures { IsKept self.old pair self.new }
@@ -126,13 +126,13 @@ fn first(alloc: Global, pair: Known) -> Option<Box<Vec<Known>>>
     Some(pushed(pairs, pair))
 }
 
-// Pairs with one more, unless an allocation fails. If there are as many as can be, it replaces all.
+// The pairs with one more, unless an allocation fails; a full list is cleared first.
 #[tactic(auto, using(crate::proofs::CacheLemmas::kept_anew))]
 fn pushed(pairs: Box<Vec<Known>>, pair: Known) -> Box<Vec<Known>>
     ensures { IsKept pairs.value.items pair result.value.items }
 {
     let mut pairs = pairs;
-    if pairs.len() < MOST {
+    if pairs.len() < CACHED_PATHS {
         push(&mut pairs, pair);
         return pairs;
     }

@@ -24,7 +24,7 @@ impl Shared {
         }
     }
 
-    /// The same for each of these texts in turn.
+    /// Appends the devices of each of these texts in turn, as [`push_device_of`](Shared::push_device_of) does.
     pub fn push_devices_of(&self, used: &mut Vec<Name>, texts: &[Text]) -> Result<(), NoMemory>
         ensures { OnOk result (used.new.items ≡ used.old.items ++ flat_map (reached_devices self.now.assigns) (flat_map device_named texts.now)) }
     {
@@ -34,7 +34,7 @@ impl Shared {
         Ok(())
     }
 
-    /// The same for the device of this name.
+    /// Appends the device of this name, and then those to which it leads.
     pub fn push_device(
         &self,
         alloc: Global,
@@ -47,7 +47,7 @@ impl Shared {
         self.assigns.push_reached(used, device)
     }
 
-    /// The same for the devices that the search for a word uses, given how far the search went.
+    /// Appends the devices that the search for a word uses, given how far it went, and those to which they lead.
     pub fn push_searched(
         &self,
         alloc: Global,

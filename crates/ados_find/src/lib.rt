@@ -1,6 +1,6 @@
 #![tactic(auto)]
-//! What commands read and what they give: the parts that all shells share, the view of a shell, the work on arguments in
-//! order, and the outcome of a command; and what the word of a command stands for.
+//! What commands read, and their outcomes: the parts that all shells share, the view of a shell, the work on arguments in
+//! order, and the outcome of a command. And command lookup: what the word of a command stands for.
 
 mod cache;
 mod changes;

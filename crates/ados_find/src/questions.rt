@@ -1,4 +1,4 @@
-// What the cache may learn.
+// Which path the cache does not have.
 use crate::shared::Shared;
 use ados_ram::Place;
 use ados_text::Text;
@@ -12,9 +12,9 @@ pub struct Question {
 }
 
 impl Shared {
-    /// What the cache may learn, so that a word that is looked up in a directory, and then after these bytes, is found
-    /// sooner: the first of these two paths that the cache does not have. `None` if it has both or may not have it, or
-    /// if an allocation fails. No contract sees the cache.
+    /// The path to cache next, so that looking up a word in a directory, and then after these bytes, becomes faster: the
+    /// first of these two paths that the cache does not have. `None` if it has both, if the path may not be cached, or if an
+    /// allocation fails. No contract sees the cache.
     pub fn question(
         &self,
         alloc: Global,
