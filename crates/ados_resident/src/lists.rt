@@ -11,7 +11,7 @@ use crate::residents::{Internal, Resident};
 use ados_text::{NoMemory, Text};
 use std::alloc::Global;
 
-/// How many of these uses are of the entry with a name: the shells that run from it.
+/// How many of these uses name the entry with a name: as many shells run from it.
 pub fn count(uses: &[Text], name: &Text) -> usize
     ensures { result ≡ count_of uses.now name.now }
 {
@@ -95,7 +95,7 @@ pub fn entry_in<'a>(entries: &'a [Resident], name: &Text) -> Option<&'a Resident
     None
 }
 
-// Appends the entries, with one in place of the one with its name, or else after them all.
+// Appends the entries, with one that replaces the one with its name, or else comes after them all.
 pub fn put_into(
     out: &mut Vec<Resident>,
     entries: &[Resident],
