@@ -1,4 +1,4 @@
-//! The law of local variables, by the definitions alone.
+//! The law of local variables, which follows from the definitions alone.
 
 ghost use Rattle.ados_vars.specs.Locals.{AnswerIsSeen, CodesBegin, CodesStay, SettingIsSeen, UnsettingIsSeen};
 

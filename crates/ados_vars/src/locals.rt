@@ -25,7 +25,7 @@ pub struct Locals {
     vars: Vars,
 }
 
-// Written out, so that dropping variables is one step for the caller, instead of one for each of its parts.
+// Implemented by hand, so that dropping variables is one step for the caller, and not one for each part.
 impl Drop for Locals {
     fn drop(self) {
         let Locals {

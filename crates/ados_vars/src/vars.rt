@@ -14,7 +14,7 @@ pub struct Vars {
     map: IndexMap<Name, Text>,
 }
 
-// Written out, so that dropping a list is one step for the caller, instead of one for each of its parts.
+// Implemented by hand, so that dropping a list is one step for the caller, and not one for each part.
 impl Drop for Vars {
     fn drop(self) {
         let Vars { map: _map } = self;
