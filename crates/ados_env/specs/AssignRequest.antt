@@ -11,7 +11,7 @@ use Rattle.ados_env.specs.declared.assign_request.Request.{Request}
 -- EXISTS prints; DEFER and PATH keep TARGET as a text; ADD and REMOVE change the directories of an assign
 abbrev pub request_of : List Arg → Request
 request_of args = record {
-  tells = has_switch args 2;
+  prints = has_switch args 2;
   defers = has_switch args 3;
   follows = has_switch args 4;
   adds = has_switch args 5;
@@ -31,16 +31,16 @@ changes_list r = r.adds || r.removes
 -- two of the switches are on
 abbrev pub are_two : Request → Bool
 are_two r =
-    (r.tells && (r.defers || (r.follows || (r.adds || r.removes))))
+    (r.prints && (r.defers || (r.follows || (r.adds || r.removes))))
     || ((r.defers && (r.follows || (r.adds || r.removes))) || ((r.follows && (r.adds || r.removes)) || (r.adds && r.removes)))
 
 abbrev pub fault_if : Bool → Codes → Option Codes
 fault_if wrong codes = if wrong then Some codes else None
 
--- before the name is judged: two switches, or EXISTS with TARGET; TARGET, or a switch other than EXISTS, without NAME
+-- before the name is checked: two switches, or EXISTS with TARGET; TARGET, or a switch other than EXISTS, without NAME
 abbrev pub request_fault : Request → Bool → Option Codes
 request_fault r has_name =
-    option_or (fault_if (are_two r || (r.tells && has_target r)) (fail_codes TOO_MANY_ARGUMENTS))
+    option_or (fault_if (are_two r || (r.prints && has_target r)) (fail_codes TOO_MANY_ARGUMENTS))
     (fault_if (not has_name && (has_target r || (keeps_text r || changes_list r))) (fail_codes ARGUMENT_MISSING))
 
 -- and after it: ADD, PATH and DEFER need TARGET, and PATH and DEFER only one

@@ -10,7 +10,8 @@ reads_in_use SetEnv = true
 reads_in_use UnsetEnv = true
 reads_in_use command = false
 
--- whether a command reads what the shells are called and run from: Status and Break read the one, and Resident the other
+-- whether a command reads the names of the shells, and what they run from: Status and Break read the names, and Resident
+-- what they run from
 abbrev pub reads_shells : EnvCommand → Bool
 reads_shells Break = true
 reads_shells Resident = true

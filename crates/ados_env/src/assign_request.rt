@@ -11,7 +11,7 @@ use std::alloc::Global;
 #[derive(Drop)]
 pub struct Request {
     /// The assign is printed.
-    pub tells: bool,
+    pub prints: bool,
     /// TARGET is kept as a text up to its first use.
     pub defers: bool,
     /// TARGET is kept as a text, and followed at each use.
@@ -30,7 +30,7 @@ impl Request {
         ensures { IfOk result (λ request. request ≡ request_of args.now) }
     {
         Ok(Request {
-            tells: args.has_switch(2),
+            prints: args.has_switch(2),
             defers: args.has_switch(3),
             follows: args.has_switch(4),
             adds: args.has_switch(5),
@@ -64,25 +64,25 @@ impl Request {
         ensures { result ≡ are_two self.now }
     {
         let Request {
-            tells,
+            prints,
             defers,
             follows,
             adds,
             removes,
             ..
         } = *self;
-        (tells && (defers || (follows || (adds || removes))))
+        (prints && (defers || (follows || (adds || removes))))
             || ((defers && (follows || (adds || removes)))
                 || ((follows && (adds || removes)) || (adds && removes)))
     }
 
-    /// What is wrong with it before the name is judged.
+    /// What is wrong with it before the name is checked.
     ///
     /// 118 for two switches, or EXISTS with TARGET; 116 for TARGET, or a switch other than EXISTS, without NAME.
     pub fn fault(&self, has_name: bool) -> Option<Codes>
         ensures { result ≡ request_fault self.now has_name }
     {
-        if self.are_two() || (self.tells && self.has_target()) {
+        if self.are_two() || (self.prints && self.has_target()) {
             return Some(Codes::failed(Result2::TOO_MANY_ARGUMENTS));
         }
         if !has_name && (self.has_target() || (self.keeps_text() || self.changes_list())) {

@@ -55,7 +55,7 @@ fn push_targets(
     }
 }
 
-// Those of Resident: of FILE, or of NAME if it stands for it.
+// Those of Resident: of FILE, or without it of NAME.
 fn push_program(
     alloc: Global,
     shared: &Shared,

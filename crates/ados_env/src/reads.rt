@@ -20,7 +20,7 @@ pub fn reads_in_use(command: EnvCommand) -> bool
     )
 }
 
-/// Whether a command reads what the shells are called and run from.
+/// Whether a command reads the names of the shells, and what they run from.
 #[tactic(auto, using(crate::proofs::ShellsLemmas::ignores))]
 pub fn reads_shells(command: EnvCommand) -> bool
     ensures value { result ≡ reads_shells command }

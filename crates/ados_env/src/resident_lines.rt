@@ -8,10 +8,10 @@ use ados_text::{NoMemory, Text, push_left, push_right};
 use itoa::Buffer;
 use std::alloc::Global;
 
-// The minimum widths of a name and of what is printed after it.
+// The minimum widths of a name and of its state, which is printed after it.
 const NAME_WIDTH: usize = 20;
 
-const TOLD_WIDTH: usize = 4;
+const STATE_WIDTH: usize = 4;
 
 // The lines of the list; those of entries of the system only if they are asked for.
 pub fn list_lines(
@@ -41,12 +41,12 @@ fn push_internals(output: &mut Vec<u8>, internals: &[Internal]) -> Result<(), No
 fn push_internal(output: &mut Vec<u8>, internal: Internal) -> Result<(), NoMemory>
     ensures { OnOk result (output.new.items ≡ output.old.items ++ internal_line internal) }
 {
-    let told = if internal.is_disabled {
+    let state = if internal.is_disabled {
         "DISABLED"
     } else {
         "-2"
     };
-    push_line(output, internal.command.name().as_bytes(), told.as_bytes())
+    push_line(output, internal.command.name().as_bytes(), state.as_bytes())
 }
 
 fn push_entries(
@@ -75,8 +75,8 @@ fn push_entry(
     let name = entry.name.as_bytes();
     if !entry.is_system {
         let mut buffer = Buffer::new();
-        let told = buffer.format(count(uses, &entry.name));
-        return push_line(output, name, told.as_bytes());
+        let state = buffer.format(count(uses, &entry.name));
+        return push_line(output, name, state.as_bytes());
     }
     if !system {
         return Ok(());
@@ -85,12 +85,12 @@ fn push_entry(
 }
 
 // Adds a line of the list to the output.
-fn push_line(output: &mut Vec<u8>, name: &[u8], told: &[u8]) -> Result<(), NoMemory>
-    ensures { OnOk result (output.new.items ≡ output.old.items ++ list_line name.now told.now) }
+fn push_line(output: &mut Vec<u8>, name: &[u8], state: &[u8]) -> Result<(), NoMemory>
+    ensures { OnOk result (output.new.items ≡ output.old.items ++ list_line name.now state.now) }
 {
     push_left(output, NAME_WIDTH, name)?;
     output.push(b' ')?;
-    push_right(output, TOLD_WIDTH, told)?;
+    push_right(output, STATE_WIDTH, state)?;
     output.push(b'\n')?;
     Ok(())
 }
