@@ -24,7 +24,7 @@ use Rattle.ados_subst.specs.Faults.{result2_of}
 use Rattle.ados_subst.specs.Scripts.{script_of}
 use Rattle.ados_flow.specs.Actions.{Action, Calls, codes_action}
 
--- a script is looked for in S: if its name is not a path and nothing has it
+-- S: is searched for a script if its name is not a path and nothing has it
 abbrev pub script_place : SharedState → Place → Text → Place → Result Place Codes
 script_place shared directory word place =
     if not (is_path word) && is_none (finite.get shared.files (key_of place)) then place_of shared directory (codes "S:" ++ word) else Ok place
@@ -34,7 +34,7 @@ abbrev pub fault_answer : SharedState → Result Result2 NoMemory → Action
 fault_answer shared (Ok number) = codes_action shared (fail_codes number)
 fault_answer shared (Err none) = codes_action shared (fail_codes NO_FREE_STORE)
 
--- the call of a script whose lines have its arguments put in
+-- the call of a script with its arguments substituted in its lines
 abbrev pub call_of_lines : SharedState → Text → Result (List Text) SubstFault → Action
 call_of_lines shared name (Err fault) = fault_answer shared (result2_of fault)
 call_of_lines shared name (Ok lines) = Calls (record { name = name; script = lines })
@@ -43,7 +43,7 @@ abbrev pub script_read : SharedState → View → Place → Text → Result Byte
 script_read shared view place args (Err fault) = codes_action shared (error_codes fault)
 script_read shared view place args (Ok bytes) = call_of_lines shared (full_path shared.files place) (script_of (lines_of bytes) args (decimal view.parts.number))
 
--- the call with these arguments of the script at a place: it is read, and its arguments are put in
+-- the call with these arguments of the script at a place: it is read, and its arguments are substituted
 unfoldable pub script_row : SharedState → View → Text → Place → Action
 script_row shared view args place = script_read shared view place args (read_result shared.files view.busy.outputs place)
 

@@ -10,7 +10,7 @@ pub use Rattle.ados_flow.specs.declared.records.Record.{Record}
 pub use Rattle.ados_flow.specs.declared.kinds.Kind.{Kind}
 pub use Rattle.ados_flow.specs.declared.kinds.Kind.TheVariants.{Script, Lines, Tick}
 
--- the frame is a script's
+-- the frame is that of a script
 abbrev pub is_script : Kind → Bool
 is_script (Script name command) = true
 is_script Lines = false

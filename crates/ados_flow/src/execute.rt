@@ -17,8 +17,8 @@ use ados_script::Script;
 use ados_text::{NoMemory, Result2, Text};
 use std::alloc::Global;
 
-/// Execute calls the script FILE with ARGS. It is looked for by its path, and if that is a mere name that nothing has,
-/// in S:.
+/// Execute calls the script FILE with ARGS. Its path is looked up; if that is a name alone, and nothing has it, S: is
+/// searched.
 ///
 /// What finding, reading and substituting refuse: 202 for an open output, 204, 205, 210, 212, 218, 224 with 10; 114 to
 /// 119 with 20.
@@ -101,7 +101,7 @@ fn in_scripts(
     place_of(alloc, shared, directory, &path)
 }
 
-/// Calls the script at a place with these arguments: it is read, and its arguments are put in.
+/// Calls the script at a place with these arguments: it is read, and the arguments are substituted.
 ///
 /// What reading refuses (202 for an open output, 205, 212, 224) with 10; what substituting refuses (114 to 119) with 20.
 #[tactic(auto, unfolding(crate::specs::Execute::script_row))]
@@ -123,7 +123,7 @@ pub fn call_script(
     }
 }
 
-/// Calls the script of a file's bytes, with these arguments put in.
+/// Calls the script of a file's bytes, with these arguments substituted.
 fn call_lines(
     alloc: Global,
     name: Text,

@@ -15,7 +15,7 @@ use std::rc::Rc;
 /// A shell has at most this many frames.
 pub const FRAME_LIMIT: usize = 32;
 
-/// What does not change of a frame while it runs.
+/// The parts of a frame that do not change while it runs.
 #[derive(Drop)]
 struct Fixed {
     kind: Kind,
@@ -76,7 +76,7 @@ impl Frame {
         })
     }
 
-    /// The same frame; what does not change of it is shared.
+    /// A copy of the frame, which shares the parts that do not change.
     pub fn share(&self) -> Result<Frame, NoMemory>
         ensures { IfOk result (λ frame. frame ≡ self.now) }
     {
@@ -97,7 +97,7 @@ impl Frame {
         self.fixed.script.lines().get(self.position)
     }
 
-    /// The next line was taken.
+    /// Moves past the next line, which was taken.
     pub fn move_on(&mut self)
         requires { self.old.position + 1 < 2 ^ 64 }
         ensures { self.new ≡ advanced_frame self.old }
@@ -122,7 +122,7 @@ impl Frame {
         lines.get(self.position()..).unwrap_or(&[])
     }
 
-    /// This many of the lines that are not taken yet are taken.
+    /// Takes this many of the lines that are not taken yet.
     pub fn skip(&mut self, taken: usize)
         requires { self.old.position + taken < 2 ^ 64 }
         ensures { self.new ≡ frame_at_line (suc (self.old.position + taken)) self.old }
@@ -130,7 +130,7 @@ impl Frame {
         self.position += taken;
     }
 
-    /// It continues at a line, counted from 1.
+    /// Continues at a line, counted from 1.
     pub fn jump_to(&mut self, line: usize)
         ensures { self.new ≡ frame_at_line line self.old }
     {
@@ -180,7 +180,7 @@ impl Frame {
         &self.fixed.kind
     }
 
-    /// It is a script's.
+    /// It is the frame of a script.
     pub fn is_script(&self) -> bool
         ensures { result ≡ is_script self.now.kind }
     {

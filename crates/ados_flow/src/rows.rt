@@ -47,7 +47,7 @@ pub fn template(command: FlowCommand) -> &'static str
 }
 
 /// What a command does, by the shared parts, the newest frame, its shell's view, and the arguments that its template
-/// gave. It reads neither what the shells are called nor what they run from.
+/// gave. It reads neither the names of the shells nor what they run from.
 #[tactic(auto, using(crate::proofs::ShellsLemmas::ignores_shells))]
 pub fn run(
     alloc: Global,
