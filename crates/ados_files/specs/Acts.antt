@@ -23,11 +23,11 @@ in_files_saying fault files quiet place words done =
     refused_or fault done
     (record done { shared = with_files done.shared files; output = say quiet done.output (full_path done.shared.files place ++ words) })
 
--- an act with the place to which a path leads, in the files at that time, or the work stops
+-- an action on the place to which a path leads, in the files at that time, or the work stops
 abbrev pub at_path : (Done → Place → Done) → View → Done → Text → Done
 at_path act view done text = if_found (stop_with_codes done) (place_of done.shared view.parts.directory text) (act done)
 
--- an act with each of the objects
+-- an action on each of the objects
 abbrev pub at_places : (Done → Place → Done) → Done → FoundPlaces → Done
 at_places act done found = act_on_each act done found.places
 

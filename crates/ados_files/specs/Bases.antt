@@ -28,7 +28,7 @@ further_children files before [] = []
 further_children files before (base ∷ bases) =
     new_places files before (children (key_of base) (map.entries files)) ++ further_children files (before ++ base ∷ []) bases
 
--- the objects in directories, in their order, each name only at its first, with case ignored
+-- the objects in directories, in their order, of each name only the first, with case ignored
 abbrev pub all_children : Files → List Place → List Place
 all_children files [] = []
 all_children files (base ∷ bases) = children (key_of base) (map.entries files) ++ further_children files (base ∷ []) bases

@@ -84,7 +84,8 @@ first_entry files (place ∷ places) = map.get files (key_of place)
 abbrev pub one_entry : Files → FoundPlaces → Option Entry
 one_entry files found = if found.literal then first_entry files found.places else None
 
--- TO has to be a directory: a missing one is created only for a single directory, and otherwise refused, as is a file
+-- TO has to be a directory: a missing one is created only if the source is a single directory, and otherwise refused, as is
+-- a file
 abbrev pub target_directory : Bool → Place → Done → Option Entry → Done
 target_directory true to done there = ensure_directory done to there
 target_directory false to done None = refused_or (Some DIRECTORY_NOT_FOUND) done done

@@ -19,7 +19,7 @@ write_one view bytes done place =
     refused_or (write_fault (is_output view.busy (key_of place)) done.shared.files (key_of place) (last_name place) bytes) done
     (record done { shared = with_files done.shared (write_of done.shared.files (key_of place) (last_name place) bytes) })
 
--- what was read is not output
+-- what was read is not printed
 abbrev pub without_output : Done → Done
 without_output done = record done { output = [] }
 

@@ -13,7 +13,7 @@ use Rattle.ados_find.specs.Effects.{Effect}
 use Rattle.ados_find.specs.Done.{Done, fresh_work, refused_or, act_on_each, end_effect}
 use Rattle.ados_files.specs.Acts.{at_names}
 
--- the bytes of one file are output
+-- the bytes of one file are printed
 abbrev pub type_one : View → Done → Place → Done
 type_one view done place =
     refused_or (read_fault (is_output view.busy (key_of place)) (map.get done.shared.files (key_of place))) done

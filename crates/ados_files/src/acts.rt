@@ -15,7 +15,7 @@ use ados_ram::{Place, Ram};
 use ados_text::{NoMemory, Stop, Text};
 use std::alloc::Global;
 
-/// The outcome of a command that does an act with each item of a list.
+/// The outcome of a command that performs an action on each item of a list.
 pub fn done_with<X, A: Act<X>>(
     alloc: Global,
     shared: &Shared,
@@ -30,7 +30,7 @@ pub fn done_with<X, A: Act<X>>(
     Ok(work.end())
 }
 
-/// The outcome of a command that does an act with each of the objects that its arguments name.
+/// The outcome of a command that performs an action on each of the objects that its arguments name.
 pub fn done_with_named<A: Act<Place>>(
     alloc: Global,
     shared: &Shared,
@@ -94,7 +94,7 @@ fn stop(work: &mut Work, refusal: Stop) -> Result<(), NoMemory>
     }
 }
 
-/// An act with the place of each path.
+/// An action on the place of each path.
 #[derive(Drop)]
 pub struct Paths<'a, A> {
     pub act: &'a A,
@@ -109,7 +109,7 @@ impl<'a, A: Act<Place>> Act<Text> for Paths<'a, A> {
     }
 }
 
-/// An act with each of the objects that each argument names.
+/// An action on each of the objects that each argument names.
 #[derive(Drop)]
 pub struct Names<'a, A> {
     pub act: &'a A,
@@ -124,7 +124,7 @@ impl<'a, A: Act<Place>> Act<Text> for Names<'a, A> {
     }
 }
 
-/// Does an act with the place to which a path leads.
+/// Performs an action on the place to which a path leads.
 pub fn at_path<A: Act<Place>>(
     act: &A,
     view: &ShellView,
@@ -144,7 +144,7 @@ pub fn at_path<A: Act<Place>>(
     }
 }
 
-/// Does an act with each of the objects that an argument names.
+/// Performs an action on each of the objects that an argument names.
 pub fn at_names<A: Act<Place>>(
     act: &A,
     view: &ShellView,

@@ -18,7 +18,7 @@ pub fn entry_at<'a>(ram: &'a Ram, bases: &[Place]) -> Option<&'a Entry>
     }
 }
 
-/// The objects in these directories, in their order. A name that several of them have counts only at the first.
+/// The objects in these directories, in their order. Of a name that several of them have, only the first counts.
 pub fn all_children(alloc: Global, ram: &Ram, bases: &[Place]) -> Result<Vec<Place>, NoMemory>
     ensures { IfOk result (λ places. places.items ≡ all_children ram.now bases.now) }
 {

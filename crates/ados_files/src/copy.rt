@@ -104,7 +104,7 @@ fn is_onto(ram: &Ram, found: &Found, to: &Place) -> bool
     is_file(one_entry(ram, found)) && !is_directory(ram.look(to))
 }
 
-// Whether there is a file.
+// Whether there is an entry, and it is that of a file.
 fn is_file(there: Option<&Entry>) -> bool
     ensures { result ≡ is_some_file (option_copied there.entry) }
 {
@@ -150,7 +150,7 @@ fn copy_to_directory(
     each(&act, shared, work, &jobs)
 }
 
-// Makes sure that TO is a directory: a missing one is created only for a single directory.
+// Makes sure that TO is a directory: a missing one is created only if the source is a single directory.
 fn target_directory(one: bool, to: &Place, shared: &Shared, work: &mut Work) -> Result<(), NoMemory>
     ensures { OnOk result (done_of shared.now work.new ≡
         target_directory one to.now (done_of shared.now work.old) (map.get (version shared.now work.old.shared).files (key_of to.now))) }

@@ -23,7 +23,7 @@ pub fn type_files(
     done_with_named(alloc, shared, view, &Typing { view }, texts.as_slice())
 }
 
-/// The output of one file.
+/// The printing of one file.
 #[derive(Drop)]
 pub struct Typing<'a> {
     pub view: &'a ShellView<'a>,
@@ -37,7 +37,7 @@ impl<'a> Act<Place> for Typing<'a> {
     }
 }
 
-// Outputs one file.
+// Prints the bytes of one file.
 fn type_one(
     view: &ShellView,
     shared: &Shared,
