@@ -36,19 +36,28 @@ class Refusals:
         self.room, self.each, self.step = room, each, step
         self.library = library(room, "refuse")
 
-    def runs(self, name, words, given, folder="."):
-        """Gives the number of each allocation that failed, how that run ended, and whether the program waited for a process
-        that did not exist.
+    def start_of(self, name, words, given):
+        """Returns how many allocations the program makes before it first reads its standard input, which is `given`; 0 if it
+        reads none."""
+        started = f"{self.room}/{name}.started"
+        ran(words, given, ".", {"LD_PRELOAD": self.library, "STARTED": started})
+        if not os.path.exists(started):
+            return 0
+        with open(started) as file:
+            return int(file.read())
 
-        The words are the program's, which runs in the folder, `given` is its standard input, and the name is that of no other
-        run at the time.
+    def runs(self, name, words, given, first=1):
+        """Gives the number of each allocation that failed, from the first, how that run ended, and whether the program
+        waited for a process that did not exist.
+
+        The words are the program's, `given` is its standard input, and the name is that of no other run at the time.
         """
         refused, missed = f"{self.room}/{name}.refused", f"{self.room}/{name}.missed"
-        number = 0
+        number = first
         while True:
-            number += 1 if number < self.each else self.step
             more = {"LD_PRELOAD": self.library, "REFUSE": str(number), "REFUSED": refused, "MISSED": missed}
-            came = ran(words, given, folder, more)
+            came = ran(words, given, ".", more)
             if not was_marked(refused):
                 return
             yield number, came, was_marked(missed)
+            number += 1 if number < self.each else self.step

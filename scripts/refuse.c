@@ -1,10 +1,12 @@
 /* Makes one allocation of a program fail, and none of those that it starts: the one whose number, from 1, REFUSE names.
-   Built by scripts/refusals.py and put before the C library by LD_PRELOAD. Where that request came, the file that REFUSED names
-   is made; and if the program waits for a process that does not exist, as for one that it waited for before, that of MISSED. */
+   Built by scripts/refusals.py and put before the C library by LD_PRELOAD. If that request comes, the file that REFUSED names
+   is made; and if the program waits for a process that does not exist, as for one that it waited for before, that of MISSED.
+   The file that STARTED names gets the number of requests before the first read of standard input. */
 #define _GNU_SOURCE
 #include <dlfcn.h>
 #include <errno.h>
 #include <fcntl.h>
+#include <stdio.h>
 #include <stdlib.h>
 #include <sys/types.h>
 #include <unistd.h>
@@ -77,4 +79,20 @@ pid_t waitpid(pid_t child, int *status, int options) {
         errno = ECHILD;
     }
     return ended;
+}
+
+ssize_t read(int from, void *octets, size_t count) {
+    static ssize_t (*next)(int, void *, size_t);
+    static int is_started;
+    if (!next) next = dlsym(RTLD_NEXT, "read");
+    if (from == STDIN_FILENO && !is_started) {
+        const char *file = getenv("STARTED");
+        is_started = 1;
+        int to = file ? open(file, O_CREAT | O_WRONLY | O_TRUNC, 0600) : -1;
+        if (to >= 0) {
+            dprintf(to, "%ld", requests < 0 ? 0 : requests);
+            close(to);
+        }
+    }
+    return next(from, octets, count);
 }
