@@ -1,6 +1,7 @@
 -- a text without a star stands for itself; the text of an item is ASCII
 use Rattle.std.proofs.Common.{ℕ, ◌≡◌, ◌<◌, List, [], ◌∷◌, Bool, true, false, ◌||◌, ◌==◌, map, slice_index_or, refl, ap, arith}
 use Rattle.std.specs.List.{list_any}
+use Rattle.std.proofs.lemmas.Bool.{or_parts}
 use Rattle.std.proofs.lemmas.Bool.Decides.{nat_tests}
 use Rattle.std.proofs.lemmas.List.Elements.{All-map}
 use Rattle.ados_text.specs.Text.{to_ascii, IsText}
@@ -8,18 +9,11 @@ use Rattle.ados_items.specs.Items.{is_star, unescaped_bytes, bytes_between, valu
 use Rattle.ados_items.specs.declared.items.Item.{Item}
 use Rattle.ados_items.specs.declared.items.Item.TheVariants.{Word, Quoted, Equal, End, Unmatched}
 
-neither-left : (a b : Bool) → (a || b) ≡ false → a ≡ false
-neither-left true b e = e
-neither-left false b e = refl
-
-neither-right : (a b : Bool) → (a || b) ≡ false → b ≡ false
-neither-right true b e = absurd cc
-neither-right false b e = e
-
 pub without_star : (text : List ℕ) → list_any is_star text ≡ false → unescaped_bytes false text ≡ text
 without_star [] e = refl
 without_star (c ∷ cs) e =
-    rw (neither-left (c == 42) (list_any is_star cs) e) (ap (λ rest. c ∷ rest) (without_star cs (neither-right (c == 42) (list_any is_star cs) e)))
+    let others = or_parts (c == 42) (list_any is_star cs) e in
+    rw others.0 (ap (λ rest. c ∷ rest) (without_star cs others.1))
 
 below : (c : ℕ) → to_ascii c < 128
 below c = grind (arith, nat_tests)

@@ -2,7 +2,7 @@
 use Rattle.std.proofs.Common.{zero, suc, ◌≡◌, ◌<◌, ◌+◌, ◌==◌, ◌∙◌, ℕ, List, [], ◌∷◌, Bool, true, false, Option, Some, None, ◌||◌, ◌&&◌, not, if◌then◌else◌, length, drop, position, get_or, replicate, refl, ap, sym, arith}
 use Rattle.std.specs.Prelude.{IfSome}
 use Rattle.std.specs.List.{list_any, position_from}
-use Rattle.std.proofs.lemmas.Bool.{false_from_ne_true}
+use Rattle.std.proofs.lemmas.Bool.{false_from_ne_true, or_parts}
 use Rattle.std.proofs.lemmas.Bool.Decides.{nat_tests}
 use Rattle.std.proofs.lemmas.List.{length-map}
 use Rattle.std.proofs.lemmas.Iterator.Adapters.{position_from-zero}
@@ -29,27 +29,19 @@ place-within options (Some middle) e = (position-Some is_middle options middle n
 pub middle_within : (options : List TemplateOption) → IfSome (middle_of options) (λ middle. middle < length options)
 middle_within options = place-within options (middle_of options) refl
 
-neither-left : (a b : Bool) → (a || b) ≡ false → a ≡ false
-neither-left true b e = e
-neither-left false b e = refl
-
-neither-right : (a b : Bool) → (a || b) ≡ false → b ≡ false
-neither-right true b e = absurd cc
-neither-right false b e = e
-
 -- if no option has /A, none lacks a value
 pub none_lacks : (options : List TemplateOption) (args : List Arg) → list_any is_required options ≡ false → lacks options args ≡ false
 none_lacks [] args e = refl
 none_lacks (option ∷ options) [] e = refl
 none_lacks (option ∷ options) (arg ∷ args) e =
-    rw (neither-left (is_required option) (list_any is_required options) e, none_lacks options args (neither-right (is_required option) (list_any is_required options) e)) refl
+    let others = or_parts (is_required option) (list_any is_required options) e in rw (others.0, none_lacks options args others.1) refl
 
 -- if no option has /N, no text is a bad number
 pub none_bad : (options : List TemplateOption) (args : List Arg) → list_any takes_number options ≡ false → has_bad options args ≡ false
 none_bad [] args e = refl
 none_bad (option ∷ options) [] e = refl
 none_bad (option ∷ options) (arg ∷ args) e =
-    rw (neither-left (takes_number option) (list_any takes_number options) e, none_bad options args (neither-right (takes_number option) (list_any takes_number options) e)) refl
+    let others = or_parts (takes_number option) (list_any takes_number options) e in rw (others.0, none_bad options args others.1) refl
 
 -- a name of another length is another name
 other-length : (own name : List ℕ) → (length own == length name) ≡ false → is_same own name ≡ false
@@ -62,18 +54,14 @@ other-length own name e =
 not-named : (names : List (List ℕ)) (name : List ℕ) → list_any (is_as_long (length name)) names ≡ false → list_any (λ own. is_same own name) names ≡ false
 not-named [] name e = refl
 not-named (own ∷ names) name e =
-    rw (
-      other-length own name (neither-left (is_as_long (length name) own) (list_any (is_as_long (length name)) names) e),
-      not-named names name (neither-right (is_as_long (length name) own) (list_any (is_as_long (length name)) names) e),
-    ) refl
+    let others = or_parts (is_as_long (length name) own) (list_any (is_as_long (length name)) names) e in
+    rw (other-length own name others.0, not-named names name others.1) refl
 
 none-from : (options : List TemplateOption) (name : List ℕ) (place : ℕ) → one_is_as_long (length name) options ≡ false → position_from (is_keyword name true) place options ≡ None
 none-from [] name place e = refl
 none-from (option ∷ options) name place e =
-    rw (
-      not-named option.names name (neither-left (has_as_long (length name) option) (one_is_as_long (length name) options) e),
-      none-from options name (place + 1) (neither-right (has_as_long (length name) option) (one_is_as_long (length name) options) e),
-    ) refl
+    let others = or_parts (has_as_long (length name) option) (one_is_as_long (length name) options) e in
+    rw (not-named option.names name others.0, none-from options name (place + 1) others.1) refl
 
 -- if no option has a name of that length, the name is a keyword of none
 pub none_named : (options : List TemplateOption) (name : List ℕ) → one_is_as_long (length name) options ≡ false → position (is_keyword name true) options ≡ None
@@ -92,14 +80,13 @@ not-counted false = refl
 none-needed : (options : List TemplateOption) (given : List Reading) (place : ℕ) → list_any is_required options ≡ false → vacant_count true place options given ≡ 0
 none-needed [] given place e = refl
 none-needed (option ∷ options) given place e =
-    let first : option.qualifiers.required ≡ false = neither-left (is_required option) (list_any is_required options) e in
-    let rest = none-needed options given (place + 1) (neither-right (is_required option) (list_any is_required options) e) in
-    rw (first, rest) (not-counted (is_vacant place option.qualifiers given))
+    let others = or_parts (is_required option) (list_any is_required options) e in
+    rw (others.0, none-needed options given (place + 1) others.1) (not-counted (is_vacant place option.qualifiers given))
 
 none-after : (options : List TemplateOption) (n : ℕ) → list_any is_required options ≡ false → list_any is_required (drop n options) ≡ false
 none-after options zero e = e
 none-after [] (suc n) e = refl
-none-after (option ∷ options) (suc n) e = none-after options n (neither-right (is_required option) (list_any is_required options) e)
+none-after (option ∷ options) (suc n) e = none-after options n (or_parts (is_required option) (list_any is_required options) e).1
 
 -- if no option has /A, none from a place on is needed
 pub none_needed : (options : List TemplateOption) (given : List Reading) (place : ℕ) → list_any is_required options ≡ false → vacant_count true place (drop place options) given ≡ 0
