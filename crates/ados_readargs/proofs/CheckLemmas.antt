@@ -7,7 +7,7 @@ use Rattle.ados_readargs.specs.declared.options.TemplateOption.{TemplateOption}
 use Rattle.ados_readargs.specs.declared.args.Arg.{Arg}
 use Rattle.ados_readargs.specs.declared.args.Arg.TheVariants.{Absent, On, One, Many}
 use Rattle.ados_readargs.specs.Args.{or_absent, option_texts, texts_or_none}
-use Rattle.ados_readargs.specs.Checks.{is_lacking, lacks, is_bad_text, has_bad_number, is_bad, has_bad}
+use Rattle.ados_readargs.specs.Checks.{any_option, is_bad_text, has_bad_number}
 
 or-nothing : (b : Bool) → (b || false) ≡ b
 or-nothing true = refl
@@ -31,10 +31,22 @@ options-more options place option h e = drop_more options place option h ∙ ap 
 args-more : (args : List Arg) (place : ℕ) → place < length args → drop place args ≡ or_absent (slice_get args place) ∷ drop (place + 1) args
 args-more args place h = drop_more args place Absent h ∙ ap (λ arg. arg ∷ drop (place + 1) args) (sym (ap or_absent (slice_get-get_or args place Absent h)))
 
-pub lacks-more : (options : List TemplateOption) (args : List Arg) (place : ℕ) (option : TemplateOption) → place < length options → length args ≡ length options → option ≡ get_or options place option
-    → lacks (drop place options) (drop place args) ≡ (is_lacking option (or_absent (slice_get args place)) || lacks (drop (place + 1) options) (drop (place + 1) args))
-lacks-more options args place option h l e = rw (options-more options place option h e, args-more args place (omega (arith, h, l))) refl
+any-more : (test : TemplateOption → Arg → Bool) (options : List TemplateOption) (args : List Arg) (place : ℕ) (option : TemplateOption)
+    → place < length options → length args ≡ length options → option ≡ get_or options place option
+    → any_option test (drop place options) (drop place args) ≡ (test option (or_absent (slice_get args place)) || any_option test (drop (place + 1) options) (drop (place + 1) args))
+any-more test options args place option h l e = rw (options-more options place option h e, args-more args place (omega (arith, h, l))) refl
 
-pub bad-more : (options : List TemplateOption) (args : List Arg) (place : ℕ) (option : TemplateOption) → place < length options → length args ≡ length options → option ≡ get_or options place option
-    → has_bad (drop place options) (drop place args) ≡ (is_bad option (or_absent (slice_get args place)) || has_bad (drop (place + 1) options) (drop (place + 1) args))
-bad-more options args place option h l e = rw (options-more options place option h e, args-more args place (omega (arith, h, l))) refl
+-- a loop over the options goes on after one that does not pass, and ends at one that passes
+pub any-goes_on : (test : TemplateOption → Arg → Bool) (options : List TemplateOption) (args : List Arg) (place : ℕ) (option : TemplateOption)
+    → place < length options → length args ≡ length options → option ≡ get_or options place option
+    → any_option test options args ≡ any_option test (drop place options) (drop place args) → test option (or_absent (slice_get args place)) ≡ false
+    → any_option test options args ≡ any_option test (drop (place + 1) options) (drop (place + 1) args)
+any-goes_on test options args place option h l e so_far fails =
+    so_far ∙ any-more test options args place option h l e ∙ ap (λ b. b || any_option test (drop (place + 1) options) (drop (place + 1) args)) fails
+
+pub any-found : (test : TemplateOption → Arg → Bool) (options : List TemplateOption) (args : List Arg) (place : ℕ) (option : TemplateOption)
+    → place < length options → length args ≡ length options → option ≡ get_or options place option
+    → any_option test options args ≡ any_option test (drop place options) (drop place args) → test option (or_absent (slice_get args place)) ≡ true
+    → true ≡ any_option test options args
+any-found test options args place option h l e so_far passes =
+    sym (so_far ∙ any-more test options args place option h l e ∙ ap (λ b. b || any_option test (drop (place + 1) options) (drop (place + 1) args)) passes)

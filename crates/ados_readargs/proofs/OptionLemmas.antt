@@ -14,7 +14,7 @@ use Rattle.std.proofs.lemmas.List.Quantifiers.{position-Some}
 use Rattle.ados_readargs.specs.declared.options.TemplateOption.{TemplateOption}
 use Rattle.ados_readargs.specs.declared.args.Arg.{Arg}
 use Rattle.ados_readargs.specs.Options.{is_required, takes_number, no_qualifiers}
-use Rattle.ados_readargs.specs.Checks.{lacks, has_bad}
+use Rattle.ados_readargs.specs.Checks.{any_option, has_bad, has_bad_number, is_absent, lacks}
 use Rattle.ados_readargs.specs.Shares.{is_middle, middle_of, vacant_count}
 use Rattle.ados_readargs.specs.Readings.{is_vacant}
 use Rattle.ados_readargs.specs.declared.readings.Reading.{Reading}
@@ -29,19 +29,21 @@ place-within options (Some middle) e = (position-Some is_middle options middle n
 pub middle_within : (options : List TemplateOption) → IfSome (middle_of options) (λ middle. middle < length options)
 middle_within options = place-within options (middle_of options) refl
 
+-- if no option has a qualifier, none fails a test of what has it
+none-pass : (is_tested : TemplateOption → Bool) (fails : Arg → Bool) (options : List TemplateOption) (args : List Arg)
+    → list_any is_tested options ≡ false → any_option (λ option arg. is_tested option && fails arg) options args ≡ false
+none-pass is_tested fails [] args e = refl
+none-pass is_tested fails (option ∷ options) [] e = refl
+none-pass is_tested fails (option ∷ options) (arg ∷ args) e =
+    let others = or_parts (is_tested option) (list_any is_tested options) e in rw (others.0, none-pass is_tested fails options args others.1) refl
+
 -- if no option has /A, none lacks a value
 pub none_lacks : (options : List TemplateOption) (args : List Arg) → list_any is_required options ≡ false → lacks options args ≡ false
-none_lacks [] args e = refl
-none_lacks (option ∷ options) [] e = refl
-none_lacks (option ∷ options) (arg ∷ args) e =
-    let others = or_parts (is_required option) (list_any is_required options) e in rw (others.0, none_lacks options args others.1) refl
+none_lacks = none-pass is_required is_absent
 
 -- if no option has /N, no text is a bad number
 pub none_bad : (options : List TemplateOption) (args : List Arg) → list_any takes_number options ≡ false → has_bad options args ≡ false
-none_bad [] args e = refl
-none_bad (option ∷ options) [] e = refl
-none_bad (option ∷ options) (arg ∷ args) e =
-    let others = or_parts (takes_number option) (list_any takes_number options) e in rw (others.0, none_bad options args others.1) refl
+none_bad = none-pass takes_number has_bad_number
 
 -- a name of another length is another name
 other-length : (own name : List ℕ) → (length own == length name) ≡ false → is_same own name ≡ false

@@ -18,11 +18,15 @@ is_absent (Many texts) = false
 abbrev pub is_lacking : TemplateOption → Arg → Bool
 is_lacking option arg = option.qualifiers.required && is_absent arg
 
+-- an option passes a test with its argument
+abbrev pub any_option : (TemplateOption → Arg → Bool) → List TemplateOption → List Arg → Bool
+any_option test [] args = false
+any_option test (option ∷ options) [] = false
+any_option test (option ∷ options) (arg ∷ args) = test option arg || any_option test options args
+
 -- an option with /A has no argument
 abbrev pub lacks : List TemplateOption → List Arg → Bool
-lacks [] args = false
-lacks (option ∷ options) [] = false
-lacks (option ∷ options) (arg ∷ args) = is_lacking option arg || lacks options args
+lacks options args = any_option is_lacking options args
 
 -- the text is not a number
 abbrev pub is_bad_text : Text → Bool
@@ -41,6 +45,4 @@ is_bad option arg = option.qualifiers.number && has_bad_number arg
 
 -- an option with /N has a text that is not a number
 abbrev pub has_bad : List TemplateOption → List Arg → Bool
-has_bad [] args = false
-has_bad (option ∷ options) [] = false
-has_bad (option ∷ options) (arg ∷ args) = is_bad option arg || has_bad options args
+has_bad options args = any_option is_bad options args
