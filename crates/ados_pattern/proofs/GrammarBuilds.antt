@@ -65,33 +65,20 @@ abbrev pub OnFirst : ℕ → (Form → Form) → Kind → List ℕ → Form → 
 OnFirst sign change Row text f = 0 < length text → Says Row (sign ∷ text) (change f)
 OnFirst sign change kind text f = Unit {0}
 
-pub first-many : {k : Kind} {text : List ℕ} {f : Form} → Says k text f → OnFirst hash item_many k text f
-first-many (character c e) = tt
-first-many (quoted c) = tt
-first-many any = tt
-first-many nothing = tt
-first-many (many t f i) = tt
-first-many (other t f i) = tt
-first-many (group t f a) = tt
-first-many (class t f c) = tt
-first-many end = λ l. absurd (omega (arith, l))
-first-many (item s t f g i r) = λ l. item (hash ∷ s) t (Many f) g (many s f i) r
-first-many (one t f r) = tt
-first-many (either s t f g r a) = tt
-
-pub first-other : {k : Kind} {text : List ℕ} {f : Form} → Says k text f → OnFirst tilde item_other k text f
-first-other (character c e) = tt
-first-other (quoted c) = tt
-first-other any = tt
-first-other nothing = tt
-first-other (many t f i) = tt
-first-other (other t f i) = tt
-first-other (group t f a) = tt
-first-other (class t f c) = tt
-first-other end = λ l. absurd (omega (arith, l))
-first-other (item s t f g i r) = λ l. item (tilde ∷ s) t (Other f) g (other s f i) r
-first-other (one t f r) = tt
-first-other (either s t f g r a) = tt
+pub first-marked : {k : Kind} {text : List ℕ} {f : Form} (sign : ℕ) (change mark : Form → Form) → ((f g : Form) → change (Then f g) ≡ Then (mark f) g)
+    → ((t : List ℕ) (f : Form) → Says Item t f → Says Item (sign ∷ t) (mark f)) → Says k text f → OnFirst sign change k text f
+first-marked sign change mark first put (character c e) = tt
+first-marked sign change mark first put (quoted c) = tt
+first-marked sign change mark first put any = tt
+first-marked sign change mark first put nothing = tt
+first-marked sign change mark first put (many t f i) = tt
+first-marked sign change mark first put (other t f i) = tt
+first-marked sign change mark first put (group t f a) = tt
+first-marked sign change mark first put (class t f c) = tt
+first-marked sign change mark first put end = λ l. absurd (omega (arith, l))
+first-marked sign change mark first put (item s t f g i r) = λ l. subst (Says Row (sign ∷ s ++ t)) (sym (first f g)) (item (sign ∷ s) t (mark f) g (put s f i) r)
+first-marked sign change mark first put (one t f r) = tt
+first-marked sign change mark first put (either s t f g r a) = tt
 
 pub some-front : (text s tail : List ℕ) → has_nothing (tokens_from Plain text) ≡ false → text ≡ s ++ tail → EndsRow tail → 0 < length s
 some-front text [] tail e j ends = let f : true ≡ false = sym (ap (λ x. has_nothing (tokens_from Plain x)) j ∙ ends-nothing tail ends) ∙ e in absurd cc
@@ -146,10 +133,10 @@ build-step (at_any rest) n again l d place e = levels-item (question ∷ []) Any
 build-step (at_nothing rest) n again l d place e = levels-item (percent ∷ []) Empty nothing (again rest (omega (arith, l)) d (place + 1) e)
 build-step (at_many rest) n again l d place e =
     let w = by-none (has_nothing (tokens_from Plain rest)) place (fault_from d (place + 1) (tokens_from Plain rest)) e in
-    levels-front (hash ∷ []) item_many (again rest (omega (arith, l)) d (place + 1) w.1) (λ s tail f j ends r. first-many r (some-front rest s tail w.0 j ends))
+    levels-front (hash ∷ []) item_many (again rest (omega (arith, l)) d (place + 1) w.1) (λ s tail f j ends r. first-marked hash item_many Many (λ f g. refl) many r (some-front rest s tail w.0 j ends))
 build-step (at_other rest) n again l d place e =
     let w = by-none (has_nothing (tokens_from Plain rest)) place (fault_from d (place + 1) (tokens_from Plain rest)) e in
-    levels-front (tilde ∷ []) item_other (again rest (omega (arith, l)) d (place + 1) w.1) (λ s tail f j ends r. first-other r (some-front rest s tail w.0 j ends))
+    levels-front (tilde ∷ []) item_other (again rest (omega (arith, l)) d (place + 1) w.1) (λ s tail f j ends r. first-marked tilde item_other Other (λ f g. refl) other r (some-front rest s tail w.0 j ends))
 build-step (at_bar rest) n again l d place e = levels-bar (again rest (omega (arith, l)) d (place + 1) e)
 build-step (at_open rest) n again l d place e =
     let w = by-none (not (closes 0 (tokens_from Plain rest))) place (fault_from (d + 1) (place + 1) (tokens_from Plain rest)) e in

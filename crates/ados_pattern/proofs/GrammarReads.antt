@@ -82,37 +82,36 @@ reads-any = record { passes = record { built = λ rest. refl; kept = λ d place 
 pub reads-nothing : ReadsItem (percent ∷ []) Empty
 reads-nothing = record { passes = record { built = λ rest. refl; kept = λ d place rest. refl; level = λ d rest. refl }; begins = λ rest. refl }
 
-pub many-first : (f : Form) (ls : List Level) → on_row item_many (with_item f ls) ≡ with_item (Many f) ls
-many-first f [] = refl
-many-first f (l ∷ ls) = refl
+-- a sign changes the item after it, which has to be there
+record IsMark (sign : ℕ) (change mark : Form → Form) : Type 0 where
+  pub first : (f g : Form) → change (Then f g) ≡ Then (mark f) g
+  pub built : (text : List ℕ) → levels_of_tokens (tokens_from Plain (sign ∷ text)) ≡ on_row change (levels_of_tokens (tokens_from Plain text))
+  pub kept : (d place : ℕ) (text : List ℕ) →
+      fault_from d place (tokens_from Plain (sign ∷ text)) ≡ (if has_nothing (tokens_from Plain text) then Some place else fault_from d (place + 1) (tokens_from Plain text))
+  pub level : (d : ℕ) (text : List ℕ) → closes d (tokens_from Plain (sign ∷ text)) ≡ closes d (tokens_from Plain text)
+  pub begins : (text : List ℕ) → has_nothing (tokens_from Plain (sign ∷ text)) ≡ false
 
-pub other-first : (f : Form) (ls : List Level) → on_row item_other (with_item f ls) ≡ with_item (Other f) ls
-other-first f [] = refl
-other-first f (l ∷ ls) = refl
+mark-first : (sign : ℕ) (change mark : Form → Form) → IsMark sign change mark → (f : Form) (ls : List Level) → on_row change (with_item f ls) ≡ with_item (mark f) ls
+mark-first sign change mark m f [] = refl
+mark-first sign change mark m f (l ∷ ls) = ap (λ row. (row, l.1) ∷ ls) (m.first f l.0)
 
-pub reads-many : (t : List ℕ) (f : Form) → ReadsItem t f → ReadsItem (hash ∷ t) (Many f)
-reads-many t f i = record {
+reads-marked : (sign : ℕ) (change mark : Form → Form) → IsMark sign change mark → (t : List ℕ) (f : Form) → ReadsItem t f → ReadsItem (sign ∷ t) (mark f)
+reads-marked sign change mark m t f i = record {
   passes = record {
-    built = λ rest. ap (on_row item_many) (i.passes.built rest) ∙ many-first f (levels_of_tokens (tokens_from Plain rest));
+    built = λ rest. m.built (t ++ rest) ∙ ap (on_row change) (i.passes.built rest) ∙ mark-first sign change mark m f (levels_of_tokens (tokens_from Plain rest));
     kept = λ d place rest.
-        no-fault (has_nothing (tokens_from Plain (t ++ rest))) place (fault_from d (place + 1) (tokens_from Plain (t ++ rest))) (i.begins rest)
-        ∙ i.passes.kept d (place + 1) rest ∙ at-place d (place + 1 + length t) (place + length (hash ∷ t)) (tokens_from Plain rest) (omega arith);
-    level = i.passes.level;
+        m.kept d place (t ++ rest) ∙ no-fault (has_nothing (tokens_from Plain (t ++ rest))) place (fault_from d (place + 1) (tokens_from Plain (t ++ rest))) (i.begins rest)
+        ∙ i.passes.kept d (place + 1) rest ∙ at-place d (place + 1 + length t) (place + length (sign ∷ t)) (tokens_from Plain rest) (omega arith);
+    level = λ d rest. m.level d (t ++ rest) ∙ i.passes.level d rest;
   };
-  begins = λ rest. refl;
+  begins = λ rest. m.begins (t ++ rest);
 }
 
-pub reads-other : (t : List ℕ) (f : Form) → ReadsItem t f → ReadsItem (tilde ∷ t) (Other f)
-reads-other t f i = record {
-  passes = record {
-    built = λ rest. ap (on_row item_other) (i.passes.built rest) ∙ other-first f (levels_of_tokens (tokens_from Plain rest));
-    kept = λ d place rest.
-        no-fault (has_nothing (tokens_from Plain (t ++ rest))) place (fault_from d (place + 1) (tokens_from Plain (t ++ rest))) (i.begins rest)
-        ∙ i.passes.kept d (place + 1) rest ∙ at-place d (place + 1 + length t) (place + length (tilde ∷ t)) (tokens_from Plain rest) (omega arith);
-    level = i.passes.level;
-  };
-  begins = λ rest. refl;
-}
+is-many : IsMark hash item_many Many
+is-many = record { first = λ f g. refl; built = λ text. refl; kept = λ d place text. refl; level = λ d text. refl; begins = λ text. refl }
+
+is-other : IsMark tilde item_other Other
+is-other = record { first = λ f g. refl; built = λ text. refl; kept = λ d place text. refl; level = λ d text. refl; begins = λ text. refl }
 
 -- a closing bracket after a text
 pub close-level : (d : ℕ) (rest : List ℕ) → closes (d + 1) (tokens_from Plain (close_group ∷ rest)) ≡ closes d (tokens_from Plain rest)
@@ -208,8 +207,8 @@ says-reads (character c e) = reads-char c e
 says-reads (quoted c) = reads-quoted c
 says-reads any = reads-any
 says-reads nothing = reads-nothing
-says-reads (many t f i) = reads-many t f (says-reads i)
-says-reads (other t f i) = reads-other t f (says-reads i)
+says-reads (many t f i) = reads-marked hash item_many Many is-many t f (says-reads i)
+says-reads (other t f i) = reads-marked tilde item_other Other is-other t f (says-reads i)
 says-reads (group t f a) = reads-group t f (says-reads a)
 says-reads (class t f c) = reads-class t f c
 says-reads end = reads-end

@@ -1,5 +1,6 @@
 -- What a text begins with, outside of a class.
 use Rattle.std.proofs.Common.{◌≡◌, ℕ, List, [], ◌∷◌, ◌++◌, Bool, true, false, ◌==◌, ◌||◌, refl, sym, ◌∙◌, ap, subst, ◌⊎◌, inl, inr}
+use Rattle.std.proofs.lemmas.Bool.{or_parts}
 use Rattle.ados_pattern.specs.declared.tokens.Token.TheVariants.{Char}
 use Rattle.ados_pattern.specs.declared.tokens.Mode.TheVariants.{Plain, Begun}
 use Rattle.ados_pattern.specs.Tokens.{tokens_from}
@@ -11,14 +12,6 @@ use Rattle.ados_pattern.specs.Signs.{hash, percent, quote, open_group, close_gro
 use Rattle.ados_pattern.proofs.ClassReads.{IsOpen}
 use Rattle.ados_pattern.proofs.ClassTexts.{IsWhole, whole-cut}
 use Rattle.ados_pattern.proofs.RuleLemmas.{eq-is}
-
-pub neither-left : (a b : Bool) → (a || b) ≡ false → a ≡ false
-neither-left true b e = e
-neither-left false b e = refl
-
-pub neither-right : (a b : Bool) → (a || b) ≡ false → b ≡ false
-neither-right true b e = absurd cc
-neither-right false b e = e
 
 -- the byte is none of the signs
 pub record IsNone (c : ℕ) : Type 0 where
@@ -34,23 +27,23 @@ pub record IsNone (c : ℕ) : Type 0 where
 
 pub none-of : (c : ℕ) → is_sign c ≡ false → IsNone c
 none-of c e =
-    let e2 = neither-right (c == 39) _ e in
-    let e3 = neither-right (c == 91) _ e2 in
-    let e4 = neither-right (c == 63) _ e3 in
-    let e5 = neither-right (c == 37) _ e4 in
-    let e6 = neither-right (c == 35) _ e5 in
-    let e7 = neither-right (c == 126) _ e6 in
-    let e8 = neither-right (c == 124) _ e7 in
+    let e2 = (or_parts (c == 39) _ e).1 in
+    let e3 = (or_parts (c == 91) _ e2).1 in
+    let e4 = (or_parts (c == 63) _ e3).1 in
+    let e5 = (or_parts (c == 37) _ e4).1 in
+    let e6 = (or_parts (c == 35) _ e5).1 in
+    let e7 = (or_parts (c == 126) _ e6).1 in
+    let e8 = (or_parts (c == 124) _ e7).1 in
     record {
-      no_quote = neither-left (c == 39) _ e;
-      no_class = neither-left (c == 91) _ e2;
-      no_any = neither-left (c == 63) _ e3;
-      no_nothing = neither-left (c == 37) _ e4;
-      no_many = neither-left (c == 35) _ e5;
-      no_other = neither-left (c == 126) _ e6;
-      no_bar = neither-left (c == 124) _ e7;
-      no_open = neither-left (c == 40) (c == 41) e8;
-      no_close = neither-right (c == 40) (c == 41) e8;
+      no_quote = (or_parts (c == 39) _ e).0;
+      no_class = (or_parts (c == 91) _ e2).0;
+      no_any = (or_parts (c == 63) _ e3).0;
+      no_nothing = (or_parts (c == 37) _ e4).0;
+      no_many = (or_parts (c == 35) _ e5).0;
+      no_other = (or_parts (c == 126) _ e6).0;
+      no_bar = (or_parts (c == 124) _ e7).0;
+      no_open = (or_parts (c == 40) (c == 41) e8).0;
+      no_close = (or_parts (c == 40) (c == 41) e8).1;
     }
 
 pub char-tokens : (c : ℕ) (rest : List ℕ) → is_sign c ≡ false → tokens_from Plain (c ∷ rest) ≡ Char c ∷ tokens_from Plain rest
