@@ -86,37 +86,40 @@ none-left line end read = (
   },
 )
 
+-- a piece after which the cut goes on with what it adds
+add-piece : (line : List ℕ) (place to end : ℕ) (piece : Piece) (read next after : Cut) → Spans line place to (piece_bytes piece) → IsPieceAt line read.command place piece
+    → ((pieces : List Piece) → Stand line next.command to pieces → Stand line (next_command read.command piece) to pieces)
+    → ((pieces : List Piece) → command_from next.command pieces ≡ command_from read.command (piece ∷ pieces))
+    → ((pieces : List Piece) → next.args ++ args_from next.command pieces ≡ read.args ++ args_from read.command (piece ∷ pieces))
+    → ((pieces : List Piece) → option_to_list next.input ++ flat_map inputs pieces ≡ option_to_list read.input ++ flat_map inputs (piece ∷ pieces))
+    → ((pieces : List Piece) → option_to_list next.output ++ flat_map outputs pieces ≡ option_to_list read.output ++ flat_map outputs (piece ∷ pieces))
+    → Parts line to end next after → Parts line place end read after
+add-piece line place to end piece read next after spans here stand command args input output (pieces, a) = (
+  piece ∷ pieces,
+  record {
+    joined = joined-more line (piece_bytes piece) place to end pieces spans a.joined;
+    placed = stand-more line read.command place to piece pieces here spans.1 (stand pieces a.placed);
+    command = a.command ∙ command pieces;
+    args = a.args ∙ args pieces;
+    input = a.input ∙ input pieces;
+    output = a.output ∙ output pieces;
+  },
+)
+
 -- an item that is kept: the command, or a part of the arguments
 pub kept-parts : (line : List ℕ) (place to end : ℕ) (bytes text : List ℕ) (read after : Cut) (command : Option (List ℕ)) → read.command ≡ command
     → Spans line place to bytes → IsPieceAt line read.command place (Kept bytes text) → Parts line to end (with_piece command text bytes read) after
     → Parts line place end read after
 kept-parts line place to end bytes text read after None e spans here p =
-    let a = p.1 in let piece = Kept bytes text in
-    let S : Option (List ℕ) → Type 0 = λ o. Stand line (option_or o (Some text)) to p.0 in (
-      piece ∷ p.0,
-      record {
-        joined = joined-more line bytes place to end p.0 spans a.joined;
-        placed = stand-more line read.command place to piece p.0 here spans.1 (subst S (sym e) a.placed);
-        command = a.command ∙ ap (λ o. command_from o (piece ∷ p.0)) (sym e);
-        args = a.args ∙ ap (λ o. read.args ++ args_from o (piece ∷ p.0)) (sym e);
-        input = a.input;
-        output = a.output;
-      },
-    )
+    add-piece line place to end (Kept bytes text) read (with_piece None text bytes read) after spans here
+    (λ ps s. subst (λ o. Stand line (option_or o (Some text)) to ps) (sym e) s) (λ ps. ap (λ o. command_from o (Kept bytes text ∷ ps)) (sym e))
+    (λ ps. ap (λ o. read.args ++ args_from o (Kept bytes text ∷ ps)) (sym e)) (λ ps. refl) (λ ps. refl) p
 kept-parts line place to end bytes text read after (Some command) e spans here p =
-    let a = p.1 in let piece = Kept bytes text in
-    let R : Option (List ℕ) → Type 0 = λ o. Stand line o to p.0 in
-    let S : Option (List ℕ) → Type 0 = λ o. Stand line (option_or o (Some text)) to p.0 in (
-      piece ∷ p.0,
-      record {
-        joined = joined-more line bytes place to end p.0 spans a.joined;
-        placed = stand-more line read.command place to piece p.0 here spans.1 (subst S (sym e) (subst R e a.placed));
-        command = a.command ∙ ap (λ o. command_from o p.0) e ∙ ap (λ o. command_from o (piece ∷ p.0)) (sym e);
-        args = a.args ∙ ap (λ o. (read.args ++ bytes) ++ args_from o p.0) e ∙ append_assoc read.args bytes _ ∙ ap (λ o. read.args ++ args_from o (piece ∷ p.0)) (sym e);
-        input = a.input;
-        output = a.output;
-      },
-    )
+    add-piece line place to end (Kept bytes text) read (with_piece (Some command) text bytes read) after spans here
+    (λ ps s. subst (λ o. Stand line (option_or o (Some text)) to ps) (sym e) (subst (λ o. Stand line o to ps) e s))
+    (λ ps. ap (λ o. command_from o ps) e ∙ ap (λ o. command_from o (Kept bytes text ∷ ps)) (sym e))
+    (λ ps. ap (λ o. (read.args ++ bytes) ++ args_from o ps) e ∙ append_assoc read.args bytes _ ∙ ap (λ o. read.args ++ args_from o (Kept bytes text ∷ ps)) (sym e))
+    (λ ps. refl) (λ ps. refl) p
 
 -- blanks that are not part of Run's line are kept; before the command they are dropped
 blank-kept : (command bytes : List ℕ) (pieces : List Piece) → is_run (Some command) ≡ false → bytes ++ flat_map (piece_args command) pieces ≡ flat_map (piece_args command) (Blank bytes ∷ pieces)
@@ -125,31 +128,14 @@ blank-kept command bytes pieces other = ap (λ l. l ++ flat_map (piece_args comm
 pub blank-parts : (line : List ℕ) (place to end : ℕ) (bytes : List ℕ) (read after : Cut) (command : Option (List ℕ)) → read.command ≡ command → is_run command ≡ false
     → Spans line place to bytes → IsPieceAt line read.command place (Blank bytes) → Parts line to end (with_blanks command bytes read) after → Parts line place end read after
 blank-parts line place to end bytes read after None e other spans here p =
-    let a = p.1 in let piece = Blank bytes in (
-      piece ∷ p.0,
-      record {
-        joined = joined-more line bytes place to end p.0 spans a.joined;
-        placed = stand-more line read.command place to piece p.0 here spans.1 a.placed;
-        command = a.command ∙ ap (λ o. command_from o p.0) e ∙ ap (λ o. command_from o (piece ∷ p.0)) (sym e);
-        args = a.args ∙ ap (λ o. read.args ++ args_from o p.0) e ∙ ap (λ o. read.args ++ args_from o (piece ∷ p.0)) (sym e);
-        input = a.input;
-        output = a.output;
-      },
-    )
+    add-piece line place to end (Blank bytes) read (with_blanks None bytes read) after spans here (λ ps s. s)
+    (λ ps. ap (λ o. command_from o ps) e ∙ ap (λ o. command_from o (Blank bytes ∷ ps)) (sym e))
+    (λ ps. ap (λ o. read.args ++ args_from o ps) e ∙ ap (λ o. read.args ++ args_from o (Blank bytes ∷ ps)) (sym e)) (λ ps. refl) (λ ps. refl) p
 blank-parts line place to end bytes read after (Some command) e other spans here p =
-    let a = p.1 in let piece = Blank bytes in (
-      piece ∷ p.0,
-      record {
-        joined = joined-more line bytes place to end p.0 spans a.joined;
-        placed = stand-more line read.command place to piece p.0 here spans.1 a.placed;
-        command = a.command ∙ ap (λ o. command_from o p.0) e ∙ ap (λ o. command_from o (piece ∷ p.0)) (sym e);
-        args =
-            a.args ∙ ap (λ o. (read.args ++ bytes) ++ args_from o p.0) e ∙ append_assoc read.args bytes _
-            ∙ ap (λ l. read.args ++ l) (blank-kept command bytes p.0 other) ∙ ap (λ o. read.args ++ args_from o (piece ∷ p.0)) (sym e);
-        input = a.input;
-        output = a.output;
-      },
-    )
+    add-piece line place to end (Blank bytes) read (with_blanks (Some command) bytes read) after spans here (λ ps s. s)
+    (λ ps. ap (λ o. command_from o ps) e ∙ ap (λ o. command_from o (Blank bytes ∷ ps)) (sym e))
+    (λ ps. ap (λ o. (read.args ++ bytes) ++ args_from o ps) e ∙ append_assoc read.args bytes _
+    ∙ ap (λ l. read.args ++ l) (blank-kept command bytes ps other) ∙ ap (λ o. read.args ++ args_from o (Blank bytes ∷ ps)) (sym e)) (λ ps. refl) (λ ps. refl) p
 
 -- blanks before Run's redirections add nothing
 run-blank : (command bytes : List ℕ) (pieces : List Piece) → is_run (Some command) ≡ true → flat_map (piece_args command) pieces ≡ flat_map (piece_args command) (Blank bytes ∷ pieces)
@@ -159,19 +145,10 @@ pub run-blank-parts : (line : List ℕ) (place to end : ℕ) (bytes : List ℕ) 
     → Spans line place to bytes → IsPieceAt line read.command place (Blank bytes) → Parts line to end read after → Parts line place end read after
 run-blank-parts line place to end bytes read after None e runs spans here p = cc
 run-blank-parts line place to end bytes read after (Some command) e runs spans here p =
-    let a = p.1 in let piece = Blank bytes in (
-      piece ∷ p.0,
-      record {
-        joined = joined-more line bytes place to end p.0 spans a.joined;
-        placed = stand-more line read.command place to piece p.0 here spans.1 a.placed;
-        command = a.command ∙ ap (λ o. command_from o p.0) e ∙ ap (λ o. command_from o (piece ∷ p.0)) (sym e);
-        args =
-            a.args ∙ ap (λ o. read.args ++ args_from o p.0) e
-            ∙ ap (λ l. read.args ++ l) (run-blank command bytes p.0 runs) ∙ ap (λ o. read.args ++ args_from o (piece ∷ p.0)) (sym e);
-        input = a.input;
-        output = a.output;
-      },
-    )
+    add-piece line place to end (Blank bytes) read read after spans here (λ ps s. s)
+    (λ ps. ap (λ o. command_from o ps) e ∙ ap (λ o. command_from o (Blank bytes ∷ ps)) (sym e))
+    (λ ps. ap (λ o. read.args ++ args_from o ps) e ∙ ap (λ l. read.args ++ l) (run-blank command bytes ps runs) ∙ ap (λ o. read.args ++ args_from o (Blank bytes ∷ ps)) (sym e))
+    (λ ps. refl) (λ ps. refl) p
 
 -- the rest of Run's line
 pub rest-parts : (line : List ℕ) (place end : ℕ) (bytes : List ℕ) (read after : Cut) (command : Option (List ℕ)) → read.command ≡ command → is_run command ≡ true
@@ -179,17 +156,10 @@ pub rest-parts : (line : List ℕ) (place end : ℕ) (bytes : List ℕ) (read af
     → Parts line place end read after
 rest-parts line place end bytes read after None e runs spans here p = cc
 rest-parts line place end bytes read after (Some command) e runs spans here p =
-    let a = p.1 in let piece = Rest bytes in (
-      piece ∷ p.0,
-      record {
-        joined = joined-more line bytes place (length line) end p.0 spans a.joined;
-        placed = stand-more line read.command place (length line) piece p.0 here spans.1 a.placed;
-        command = a.command ∙ ap (λ o. command_from o p.0) e ∙ ap (λ o. command_from o (piece ∷ p.0)) (sym e);
-        args = a.args ∙ ap (λ o. (read.args ++ bytes) ++ args_from o p.0) e ∙ append_assoc read.args bytes _ ∙ ap (λ o. read.args ++ args_from o (piece ∷ p.0)) (sym e);
-        input = a.input;
-        output = a.output;
-      },
-    )
+    add-piece line place (length line) end (Rest bytes) read (with_rest bytes read) after spans here (λ ps s. s)
+    (λ ps. ap (λ o. command_from o ps) e ∙ ap (λ o. command_from o (Rest bytes ∷ ps)) (sym e))
+    (λ ps. ap (λ o. (read.args ++ bytes) ++ args_from o ps) e ∙ append_assoc read.args bytes _ ∙ ap (λ o. read.args ++ args_from o (Rest bytes ∷ ps)) (sym e))
+    (λ ps. refl) (λ ps. refl) p
 
 none-listed : {A : Type 0} (o : Option A) → is_some o ≡ false → option_to_list o ≡ []
 none-listed None e = refl
@@ -211,38 +181,14 @@ pub name-parts : (line : List ℕ) (place to end : ℕ) (sign : Sign) (tail name
     → Spans line place to (sign_bytes sign ++ tail) → IsPieceAt line read.command place (Redirected sign tail name)
     → Parts line to end (with_name sign name read) after → Parts line place end read after
 name-parts line place to end Input tail name read after free spans here p =
-    let a = p.1 in let piece = Redirected Input tail name in (
-      piece ∷ p.0,
-      record {
-        joined = joined-more line (sign_bytes Input ++ tail) place to end p.0 spans a.joined;
-        placed = stand-more line read.command place to piece p.0 here spans.1 a.placed;
-        command = a.command ∙ passed-command read.command Input tail name p.0;
-        args = a.args ∙ ap (λ l. read.args ++ l) (passed-args read.command Input tail name p.0);
-        input = a.input ∙ ap (λ l. l ++ (name ∷ flat_map inputs p.0)) (sym (none-listed read.input free));
-        output = a.output;
-      },
-    )
+    add-piece line place to end (Redirected Input tail name) read (with_name Input name read) after spans here (λ ps s. s)
+    (passed-command read.command Input tail name) (λ ps. ap (λ l. read.args ++ l) (passed-args read.command Input tail name ps))
+    (λ ps. ap (λ l. l ++ (name ∷ flat_map inputs ps)) (sym (none-listed read.input free))) (λ ps. refl) p
 name-parts line place to end Output tail name read after free spans here p =
-    let a = p.1 in let piece = Redirected Output tail name in (
-      piece ∷ p.0,
-      record {
-        joined = joined-more line (sign_bytes Output ++ tail) place to end p.0 spans a.joined;
-        placed = stand-more line read.command place to piece p.0 here spans.1 a.placed;
-        command = a.command ∙ passed-command read.command Output tail name p.0;
-        args = a.args ∙ ap (λ l. read.args ++ l) (passed-args read.command Output tail name p.0);
-        input = a.input;
-        output = a.output ∙ ap (λ l. l ++ (record { name = name; append = false } ∷ flat_map outputs p.0)) (sym (none-listed read.output free));
-      },
-    )
+    add-piece line place to end (Redirected Output tail name) read (with_name Output name read) after spans here (λ ps s. s)
+    (passed-command read.command Output tail name) (λ ps. ap (λ l. read.args ++ l) (passed-args read.command Output tail name ps))
+    (λ ps. refl) (λ ps. ap (λ l. l ++ (record { name = name; append = false } ∷ flat_map outputs ps)) (sym (none-listed read.output free))) p
 name-parts line place to end Append tail name read after free spans here p =
-    let a = p.1 in let piece = Redirected Append tail name in (
-      piece ∷ p.0,
-      record {
-        joined = joined-more line (sign_bytes Append ++ tail) place to end p.0 spans a.joined;
-        placed = stand-more line read.command place to piece p.0 here spans.1 a.placed;
-        command = a.command ∙ passed-command read.command Append tail name p.0;
-        args = a.args ∙ ap (λ l. read.args ++ l) (passed-args read.command Append tail name p.0);
-        input = a.input;
-        output = a.output ∙ ap (λ l. l ++ (record { name = name; append = true } ∷ flat_map outputs p.0)) (sym (none-listed read.output free));
-      },
-    )
+    add-piece line place to end (Redirected Append tail name) read (with_name Append name read) after spans here (λ ps s. s)
+    (passed-command read.command Append tail name) (λ ps. ap (λ l. read.args ++ l) (passed-args read.command Append tail name ps))
+    (λ ps. refl) (λ ps. ap (λ l. l ++ (record { name = name; append = true } ∷ flat_map outputs ps)) (sym (none-listed read.output free))) p
