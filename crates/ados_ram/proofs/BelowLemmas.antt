@@ -1,8 +1,7 @@
 -- The contents of a directory: for each object in it what is below that, and then the object.
 use Rattle.std.proofs.Common.{◌≡◌, ℕ, ◌<◌, ◌+◌, true, false, T, cond, List, [], ◌∷◌, ◌++◌, Option, Some, None, IsSome, zero, suc, refl, sym, ap, ◌∙◌, subst, append_assoc, length, slice_index_or, drop, drop-cons, add-one}
-use Rattle.std.specs.declared.cmp.Ordering.{Ordering}
-use Rattle.std.specs.declared.cmp.Ordering.TheVariants.{Less, Equal, Greater}
-use Rattle.std.specs.Ordering.{is_eq, is_lt}
+use Rattle.std.specs.declared.cmp.Ordering.TheVariants.{Less}
+use Rattle.std.specs.Ordering.{is_eq}
 use Rattle.std.specs.Cmp.{tied_itself}
 use Rattle.std.specs.FinMap.{is_sorted, find}
 use Rattle.std.specs.FinMap.Entries.{below_all}
@@ -12,15 +11,10 @@ use Rattle.ados_ram.specs.Place.{Key, place_cmp, is_root, is_below, key_suffix, 
 use Rattle.ados_ram.specs.Files.{Rows}
 use Rattle.ados_ram.specs.Contents.{put_after_contents, contents}
 use Rattle.ados_ram.specs.Tree.{Kid, Kids, IsSubtree, AllSubtrees, AreKids, rows_under_name, flatten, rows_of, subtree_rows, with_way, places_of_ways}
-use Rattle.ados_ram.proofs.RowsLemmas.{first, second}
+use Rattle.ados_ram.proofs.RowsLemmas.{first, second, tied as less}
 use Rattle.ados_ram.proofs.RenameLemmas.{after-exact}
 use Rattle.ados_ram.proofs.TreeLemmas.{holds}
 use Rattle.ados_ram.proofs.WalkLemmas.{IsTop, is_top}
-
-less : (o : Ordering) → T (is_lt o) → o ≡ Less
-less Less p = refl
-less Equal p = absurd p
-less Greater p = absurd p
 
 -- two paths from one place
 after-same : (key w q : Key) → key_suffix (key ++ w) (key ++ q) ≡ key_suffix w q

@@ -1,5 +1,5 @@
 -- A name is looked up, put and removed in one block of a directory.
-use Rattle.std.proofs.Common.{◌≡◌, ℕ, zero, suc, ◌+◌, ◌-◌, ◌<◌, ◌≤◌, Bool, true, false, T, cond, ◌&&◌, ◌==◌, List, [], ◌∷◌, ◌++◌, length, take, drop, Option, Some, None, Bor, IsTrue, slice_index_or, slice_get, refl, sym, ap, ◌∙◌, subst, append_assoc, length-append, arith}
+use Rattle.std.proofs.Common.{◌≡◌, ℕ, zero, suc, ◌+◌, ◌-◌, ◌<◌, ◌≤◌, true, false, T, cond, ◌==◌, List, [], ◌∷◌, ◌++◌, length, take, drop, Option, Some, None, Bor, IsTrue, slice_index_or, slice_get, refl, sym, ap, ◌∙◌, subst, append_assoc, length-append, arith}
 use Rattle.std.proofs.lemmas.List.{append-nil, take-append-drop}
 use Rattle.std.proofs.lemmas.Bool.Decides.{nat_tests}
 use Rattle.std.specs.declared.cmp.Ordering.{Ordering}
@@ -16,21 +16,8 @@ use Rattle.ados_text.specs.Name.{Name, name_cmp, name_cmp_total, name_cmp_exact}
 use Rattle.ados_ram.specs.Files.{Rows}
 use Rattle.ados_ram.specs.Tree.{Kid, Kids, replace_kid, remove_kid}
 use Rattle.ados_ram.specs.Blocks.{all_kids, first_is_at_most, AllFull, AreBlocks, AllBefore, IsBlockOf}
-use Rattle.ados_ram.proofs.RowsLemmas.{first, second}
+use Rattle.ados_ram.proofs.RowsLemmas.{both, first, is_true, second, tied as less}
 use Rattle.ados_ram.proofs.TreeLemmas.{holds}
-
-less : (o : Ordering) → T (is_lt o) → o ≡ Less
-less Less p = refl
-less Equal p = absurd p
-less Greater p = absurd p
-
-is_true : (b : Bool) → T b → IsTrue b
-is_true true h = refl
-is_true false h = absurd h
-
-both : (a b : Bool) → T a → T b → T (a && b)
-both true b p q = q
-both false b p q = p
 
 turned : (a b : Name) (r : Ordering) → name_cmp a b ≡ r → name_cmp b a ≡ ordering_reverse r
 turned a b r p = name_cmp_total.antisymm b a ∙ ap ordering_reverse p

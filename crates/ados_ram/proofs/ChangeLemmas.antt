@@ -1,5 +1,5 @@
 -- A change in one object of a directory is a change of the rows at a place and below it.
-use Rattle.std.proofs.Common.{◌≡◌, ℕ, Bool, true, false, T, cond, not, ◌&&◌, ◌==◌, ◌-◌, suc, slice_index_or, IsTrue, IfOk, List, [], ◌∷◌, ◌++◌, Option, Some, None, IsSome, Result, Ok, Err, refl, sym, ap, ◌∙◌, subst, length, arith}
+use Rattle.std.proofs.Common.{◌≡◌, ℕ, Bool, true, false, T, cond, not, ◌==◌, ◌-◌, suc, slice_index_or, IsTrue, IfOk, List, [], ◌∷◌, ◌++◌, Option, Some, None, IsSome, Result, Ok, Err, refl, sym, ap, ◌∙◌, subst, length, arith}
 use Rattle.std.specs.declared.cmp.Ordering.{Ordering}
 use Rattle.std.specs.declared.cmp.Ordering.TheVariants.{Less, Equal, Greater}
 use Rattle.std.specs.Ordering.{is_eq, is_lt, ordering_then, ordering_reverse, eq_by_cmp}
@@ -12,16 +12,8 @@ use Rattle.ados_ram.specs.declared.entries.Entry.{Entry}
 use Rattle.ados_ram.specs.Place.{Key, key_of, place_cmp, key_suffix, is_root, is_same_key, last_name}
 use Rattle.ados_ram.specs.Files.{Rows}
 use Rattle.ados_ram.specs.Tree.{Kid, Kids, IsSubtree, AllSubtrees, AreKids, rows_under_name, flatten, rows_of, with_flat, branch_rows, rows_found, entry_by_way, IsReplaced, IsEntryAt, IsNamed, parent_key, replace_kid, remove_kid}
-use Rattle.ados_ram.proofs.RowsLemmas.{first, second}
+use Rattle.ados_ram.proofs.RowsLemmas.{both, first, is_true, second, tied as less}
 use Rattle.ados_ram.proofs.TreeLemmas.{holds, from-flatten, find-from, from-root}
-
-is_true : (b : Bool) → T b → IsTrue b
-is_true true h = refl
-is_true false h = absurd h
-
-both : (a b : Bool) → T a → T b → T (a && b)
-both true b p q = q
-both false b p q = p
 
 pub if_ok : {X E : Type 0} {P Q : X → Type 0} (r : Result X E) → ((x : X) → P x → Q x) → IfOk r P → IfOk r Q
 if_ok (Ok x) h p = h x p
@@ -126,11 +118,6 @@ find-with x None ks y =
     ∙ turned (eq_by_cmp name_cmp x y) _ _
     ∙ ap (λ b. cond b (rows_in None) (find name_cmp y ks)) (flip x y)
 find-with x (Some k) ks y = find-put name_cmp name_cmp_total y x k.1 ks
-
-less : (o : Ordering) → T (is_lt o) → o ≡ Less
-less Less p = refl
-less Equal p = absurd p
-less Greater p = absurd p
 
 -- the rows of objects in order are in order
 below_append : (q : Key) (a b : Rows) → T (below_all place_cmp q a) → T (below_all place_cmp q b) → T (below_all place_cmp q (a ++ b))

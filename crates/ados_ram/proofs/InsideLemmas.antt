@@ -3,8 +3,9 @@ use Rattle.std.proofs.Common.{◌≡◌, ℕ, Bool, true, false, cond, List, [],
 use Rattle.std.specs.Cmp.{eq_by_cmp_equiv}
 use Rattle.std.specs.FinMap as map
 use Rattle.std.specs.FinMap.{get-insert}
+use Rattle.ados_text.specs.declared.codes.Result2.{Result2}
 use Rattle.ados_ram.specs.declared.entries.Entry.{Entry}
-use Rattle.ados_ram.specs.Place.{Key, place_cmp_total, is_same_key, is_root, key_suffix, has_names, is_below, is_at_or_below}
+use Rattle.ados_ram.specs.Place.{Key, Place, key_of, place_cmp_total, is_same_key, is_root, key_suffix, has_names, is_below, is_at_or_below}
 use Rattle.ados_ram.specs.InUse.{InUse}
 use Rattle.ados_ram.specs.Files.{Files, IsTree, is_some_directory}
 use Rattle.ados_ram.specs.FileOperations.{way_fault, write_target_fault, write_fault, free_fault, make_dir_fault, has_descendants, delete_target_fault, delete_fault, rename_target_fault, rename_fault}
@@ -72,6 +73,16 @@ may_go busy m key files e =
     there : (o : Option Entry) → delete_target_fault busy (map.entries m) key o ≡ None → IsSome o
     there None h = cc
     there (Some e) h = refl
+
+-- what is not refused at names that are lent is not refused at a place with them
+pub free-rename : {refusal : Option Result2} {lent_from lent_to : Place} (busy : InUse) (m : Files) (from to : Place) → lent_from ≡ from → lent_to ≡ to
+    → refusal ≡ rename_fault busy m (key_of lent_from) (key_of lent_to) → refusal ≡ None → rename_fault busy m (key_of from) (key_of to) ≡ None
+free-rename {lent_from = lent_from} busy m from to e f refused none =
+    ap (λ k. rename_fault busy m (key_of k) (key_of to)) (sym e) ∙ ap (λ k. rename_fault busy m (key_of lent_from) (key_of k)) (sym f) ∙ sym refused ∙ none
+
+pub free-write : {refusal : Option Result2} {lent : Place} (is_open : Bool) (m : Files) (place : Place) (name bytes : List ℕ) → lent ≡ place
+    → refusal ≡ write_fault is_open m (key_of lent) name bytes → refusal ≡ None → write_fault is_open m (key_of place) name bytes ≡ None
+free-write is_open m place name bytes e refused none = ap (λ k. write_fault is_open m (key_of k) name bytes) (sym e) ∙ sym refused ∙ none
 
 -- a rename that is not refused
 pub may_move : (busy : InUse) (m : Files) (from to : Key) → IsTree m → rename_fault busy m from to ≡ None → MayMove from to m

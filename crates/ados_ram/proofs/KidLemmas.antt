@@ -2,20 +2,15 @@
 use Rattle.std.proofs.Common.{◌≡◌, ℕ, zero, suc, ◌<◌, ◌≤◌, Bool, T, cond, List, [], ◌∷◌, length, Some, None, Result, Ok, Err, IsTrue, slice_index_or, refl, sym, ap, ◌∙◌, subst, arith}
 use Rattle.std.specs.declared.cmp.Ordering.{Ordering}
 use Rattle.std.specs.declared.cmp.Ordering.TheVariants.{Less, Equal, Greater}
-use Rattle.std.specs.Ordering.{is_eq, is_lt, ordering_reverse, ordering_index}
+use Rattle.std.specs.Ordering.{is_eq, ordering_reverse, ordering_index}
 use Rattle.std.specs.List.{HoldsAt, AllWithin}
 use Rattle.std.specs.List.Sorted.{IsBinarySearchResult, IsNonDecreasingBy, IsSearchInRange}
 use Rattle.std.specs.FinMap.{is_sorted, find, put}
 use Rattle.std.specs.FinMap.Entries.{below_all, by_order}
 use Rattle.ados_ram.specs.Files.{Rows}
 use Rattle.ados_text.specs.Name.{name_cmp, name_cmp_total, name_cmp_exact}
-use Rattle.ados_ram.proofs.RowsLemmas.{first, second}
+use Rattle.ados_ram.proofs.RowsLemmas.{first, second, tied as less}
 use Rattle.ados_ram.specs.Tree.{Kids, remove_kid, IsKid, IsKidGap, IsKidPosition}
-
-less : (o : Ordering) → T (is_lt o) → o ≡ Less
-less Less p = refl
-less Equal p = absurd p
-less Greater p = absurd p
 
 turned : (a b : List ℕ) (r : Ordering) → name_cmp a b ≡ r → name_cmp b a ≡ ordering_reverse r
 turned a b r p = name_cmp_total.antisymm b a ∙ ap ordering_reverse p

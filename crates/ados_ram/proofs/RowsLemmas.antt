@@ -23,6 +23,14 @@ pub first : (a b : Bool) → T (a && b) → T a
 first true b p = tt
 first false b p = p
 
+pub both : (a b : Bool) → T a → T b → T (a && b)
+both true b p q = q
+both false b p q = p
+
+pub is_true : (b : Bool) → T b → IsTrue b
+is_true true h = refl
+is_true false h = absurd h
+
 pub tied : (o : Ordering) → T (is_lt o) → o ≡ Less
 tied Less p = refl
 tied Equal p = absurd p
@@ -84,10 +92,6 @@ length-put_without k v (e ∷ es) h =
       | Equal ↦ λ p. rw (tied_all k e.0 es p (first _ _ h)) (omega arith)
       | Greater ↦ λ p. omega (arith, length-put_without k v es (second _ _ h))
     ] refl
-
-is_true : (b : Bool) → T b → IsTrue b
-is_true true h = refl
-is_true false h = absurd h
 
 pub sorted_put : (k : List (List ℕ)) (v : Entry) (es : Rows) → IsTrue (is_sorted place_cmp es) → IsTrue (is_sorted place_cmp (put place_cmp k v es))
 sorted_put k v es h = is_true _ (is_sorted-put place_cmp place_cmp_total k v es (holds _ h))
@@ -208,6 +212,10 @@ len-beside {m} es key new r =
     let found : one_if (is_some (map.get m key)) ≡ one_if (is_some (find place_cmp key es)) = ap (λ (o : Option Entry). one_if (is_some o)) (get_rows es key r.is r.sorted) in
     let count : map.len (map.insert m key new) ≡ 1 + length (other_rows key es) = len-insert m key new ∙ ap (λ (xs : Rows). 1 + length (other_rows key xs)) (entries_rows es r) in
     omega arith
+
+pub len-beside_found : {m : Files} {found : Option Entry} (es : Rows) (key : List (List ℕ)) (new : Entry) → AreRowsOf es m → map.get m key ≡ found
+    → one_if (is_some found) + map.len (map.insert m key new) ≡ 1 + length es
+len-beside_found es key new r e = rw e at (len-beside es key new r)
 
 -- the rows after a rename
 pub renamed_rows : {m : Files} {es new : Rows} (from to : List (List ℕ)) (name : List ℕ) → AreRowsOf es m → new ≡ sorted_of (moved_rows from to name es) → AreRowsOf new (rename_of m from to name)

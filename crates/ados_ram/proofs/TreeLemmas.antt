@@ -2,7 +2,7 @@
 use Rattle.std.proofs.Common.{◌≡◌, ℕ, Bool, true, false, T, cond, IsTrue, List, [], ◌∷◌, ◌++◌, Option, Some, None, refl, sym, ap, ◌∙◌, subst, length, arith}
 use Rattle.std.specs.declared.cmp.Ordering.{Ordering}
 use Rattle.std.specs.declared.cmp.Ordering.TheVariants.{Less, Equal, Greater}
-use Rattle.std.specs.Ordering.{is_eq, is_lt, ordering_then}
+use Rattle.std.specs.Ordering.{is_eq, ordering_then}
 use Rattle.std.specs.FinMap.{is_sorted, find}
 use Rattle.std.specs.FinMap.Entries.{below_all}
 use Rattle.ados_text.specs.Name.{name_cmp, name_cmp_total}
@@ -10,12 +10,7 @@ use Rattle.ados_ram.specs.declared.entries.Entry.{Entry}
 use Rattle.ados_ram.specs.Place.{Key, key_of, place_cmp, key_suffix}
 use Rattle.ados_ram.specs.Files.{Rows}
 use Rattle.ados_ram.specs.Tree.{Kids, rows_under_name, flatten, rows_of, with_way, subtree_rows, rows_found}
-use Rattle.ados_ram.proofs.RowsLemmas.{first, second}
-
-less : (o : Ordering) → T (is_lt o) → o ≡ Less
-less Less p = refl
-less Equal p = absurd p
-less Greater p = absurd p
+use Rattle.ados_ram.proofs.RowsLemmas.{first, second, tied as less}
 
 pub holds : (b : Bool) → IsTrue b → T b
 holds b h = subst T (sym h) tt

@@ -127,6 +127,14 @@ fewer (k ∷ ks) zero d h = omega (arith, length-append (rows_under_name k.0 k.1
     length-under n (e ∷ es) = omega (arith, length-under n es)
 fewer (k ∷ ks) (suc i) d h = omega (arith, length-append (rows_under_name k.0 k.1) (flatten ks), fewer ks i d (omega arith))
 
+-- so a walk goes down to fewer
+pub fewer-in : {kids : Kids} (ks : Kids) (i : ℕ) (kid : Kid) (rows : Rows) → ks ≡ kids → i < length ks → kid ≡ slice_index_or ks i kid → suc (length (flatten kids)) ≡ length rows
+    → length kid.1 < length rows
+fewer-in ks i kid rows own within is all =
+    let at : length kid.1 ≡ length (slice_index_or ks i kid).1 = ap (λ (k : Kid). length k.1) is in
+    let same = ap (λ (x : Kids). length (flatten x)) own in
+    omega (arith, fewer ks i kid within)
+
 pub subtree-at : (ks : Kids) (i : ℕ) (d : Kid) → AllSubtrees ks → i < length ks → IsSubtree (slice_index_or ks i d).1
 subtree-at [] i d a h = absurd (omega arith)
 subtree-at (k ∷ ks) zero d a h = a.0

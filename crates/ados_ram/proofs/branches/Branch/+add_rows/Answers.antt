@@ -1,23 +1,19 @@
-use Rattle.std.proofs.Common.{suc, ◌≡◌, ◌∙◌, ◌++◌, ◌∷◌, [], ℕ, List, length, slice_index_or, sym, ap, subst, refl, true, Bool, arith}
+use Rattle.std.proofs.Common.{◌≡◌, ◌∙◌, ◌++◌, ◌∷◌, [], ℕ, List, length, sym, ap, subst, refl, true, Bool, arith}
 use Rattle.std.proofs.lemmas.List.{append-nil, map-append}
 use Rattle.ados_text.specs.Text.{folded_text}
 use Rattle.ados_ram.specs.declared.entries.Entry.{Entry}
 use Rattle.ados_ram.specs.Place.{Key, key_of}
-use Rattle.ados_ram.specs.Tree.{Kid, Kids, AllSubtrees, flatten, rows_by_root}
+use Rattle.ados_ram.specs.Tree.{Kid, AllSubtrees, rows_by_root}
 use Rattle.ados_ram.specs.Rows.{inner_rows}
-use Rattle.ados_ram.proofs.WalkLemmas.{gathered, fewer, rows_in}
+use Rattle.ados_ram.proofs.WalkLemmas.{fewer-in, gathered, rows_in}
 use Rattle.ados_ram.proofs.branches.Branch.+add_rows.Goals as goal
 use Rattle.ados_ram.proofs.branches.Branch.+add_rows.Goals.{then-all+in_ok-add_rows, else-all}
 
 pub add_rows-requires : goal.add_rows-requires
 add_rows-requires t c =
-    let ks = c.deref-kid-items.result.now in
-    let own : ks ≡ c.self.inside.node.value.kids = c.deref-kid-items.ensures.value ∙ c.in_ok-each.ensures ∙ rw (c.deref.ensures) refl in
-    let at : length c.kid-item.result.1 ≡ length (slice_index_or ks c.loop-kid.kid-index c.kid-item.result).1 = ap (λ (k : Kid). length k.1) c.kid-item.is in
-    let less = fewer ks c.loop-kid.kid-index c.kid-item.result c.loop-kid-test.true in
-    let same : length (flatten ks) ≡ length (flatten c.self.inside.node.value.kids) = ap (λ (x : Kids). length (flatten x)) own in
-    let all : suc (length (flatten c.self.inside.node.value.kids)) ≡ length c.args.self.now.1 = ap (λ (k : Kid). length k.1) c.self.view_is in
-    omega (arith, c.decreases)
+    let own : c.deref-kid-items.result.now ≡ c.self.inside.node.value.kids = c.deref-kid-items.ensures.value ∙ c.in_ok-each.ensures ∙ rw (c.deref.ensures) refl in
+    let less = fewer-in c.deref-kid-items.result.now c.loop-kid.kid-index c.kid-item.result c.args.self.now.1 own c.loop-kid-test.true c.kid-item.is (ap (λ (k : Kid). length k.1) c.self.view_is) in
+    omega (arith, c.decreases, less)
 
 pub loop-kid-preserved : goal.loop-kid-preserved
 loop-kid-preserved t c =

@@ -1,10 +1,10 @@
-use Rattle.std.proofs.Common.{◌≡◌, ◌++◌, ℕ, List, None, sym, ap, ◌∙◌, subst, length-append}
+use Rattle.std.proofs.Common.{◌++◌, ℕ, List, ap, ◌∙◌, subst, length-append}
 use Rattle.std.specs.FinMap as map
 use Rattle.ados_ram.specs.Place.{key_of, last_name}
 use Rattle.ados_ram.specs.Files.{AreFiles, Files}
-use Rattle.ados_ram.specs.FileOperations.{write_as_of, write_fault}
+use Rattle.ados_ram.specs.FileOperations.{write_as_of}
 use Rattle.ados_ram.proofs.FilesLemmas.{written_files}
-use Rattle.ados_ram.proofs.InsideLemmas.{written-inside}
+use Rattle.ados_ram.proofs.InsideLemmas.{free-write, written-inside}
 use Rattle.ados_ram.proofs.NamedLemmas.{write-as-named}
 use Rattle.ados_ram.proofs.files.Ram.put.Goals as goal
 
@@ -12,9 +12,8 @@ pub with_bytes-requires-clause-files : goal.with_bytes-requires-clause-files
 with_bytes-requires-clause-files c =
     let name = last_name c.args.place.now in
     let bytes = c.args.kept.now ++ c.args.more.now in
-    let free : write_fault c.is_output-open.result c.self.inside.table (key_of c.args.place.now) name bytes ≡ None =
-    ap (λ (k : List (List ℕ)). write_fault c.is_output-open.result c.self.inside.table (key_of k) name bytes) (sym c.names-3.ensures)
-    ∙ sym (c.write_refusal.ensures name bytes (length-append c.args.kept.now c.args.more.now)) ∙ c.in-None.is in
+    let refused = c.write_refusal.ensures name bytes (length-append c.args.kept.now c.args.more.now) in
+    let free = free-write c.is_output-open.result c.self.inside.table c.args.place.now name bytes c.names-3.ensures refused c.in-None.is in
     let files : AreFiles (write_as_of c.self.inside.table (key_of c.args.place.now) name bytes c.args.bits) = record {
       tree = written_files c.is_output-open.result (key_of c.args.place.now) name bytes c.args.bits c.self.invariant.tree free;
       named = write-as-named c.self.inside.table c.args.place.now bytes c.args.bits c.self.invariant.named;
@@ -29,7 +28,6 @@ pub with_bytes-requires-clause-root : goal.with_bytes-requires-clause-root
 with_bytes-requires-clause-root c =
     let name = last_name c.args.place.now in
     let bytes = c.args.kept.now ++ c.args.more.now in
-    let free : write_fault c.is_output-open.result c.self.inside.table (key_of c.args.place.now) name bytes ≡ None =
-    ap (λ (k : List (List ℕ)). write_fault c.is_output-open.result c.self.inside.table (key_of k) name bytes) (sym c.names-3.ensures)
-    ∙ sym (c.write_refusal.ensures name bytes (length-append c.args.kept.now c.args.more.now)) ∙ c.in-None.is in
+    let refused = c.write_refusal.ensures name bytes (length-append c.args.kept.now c.args.more.now) in
+    let free = free-write c.is_output-open.result c.self.inside.table c.args.place.now name bytes c.names-3.ensures refused c.in-None.is in
     written-inside c.self.inside.table c.is_output-open.result (key_of c.args.place.now) name bytes c.self.invariant.tree free
