@@ -1,9 +1,8 @@
 ghost use Rattle.std.specs.Prelude.{◌≡◌};
-ghost use Rattle.ados_text.specs.Text.{is_same};
 ghost use Rattle.ados_readargs.specs.Options.{has_name, is_plain, takes_value, no_qualifiers, option_qualifiers, is_rest};
 ghost use Rattle.std.specs.List.{list_any};
 
-use ados_text::Texts;
+use ados_text::{Texts, same_name};
 
 /// The qualifiers of an option.
 #[derive(Clone, Copy)]
@@ -62,13 +61,6 @@ pub struct TemplateOption {
     pub names: Texts,
     /// What follows the names.
     pub qualifiers: Qualifiers,
-}
-
-/// The two are the same name; case is ignored.
-pub fn same_name(a: &[u8], b: &[u8]) -> bool
-    ensures { result ≡ is_same a.now b.now }
-{
-    a.eq_ignore_ascii_case(b)
 }
 
 impl TemplateOption {

@@ -151,7 +151,10 @@ impl Slots {
         match slot_at(self.slots.as_slice(), place) {
             Some(Slot::Absent) => Ok(Some(Arg::Absent)),
             Some(Slot::On) => Ok(Some(Arg::On)),
-            Some(Slot::One(text)) => Ok(Some(Arg::One(ascii_text(alloc, self.texts.get(text))?))),
+            Some(Slot::One(text)) => Ok(Some(Arg::One(Text::of_ascii(
+                alloc,
+                self.texts.get(text),
+            )?))),
             Some(Slot::Many { .. }) => Ok(Some(Arg::Many(self.made_texts(alloc, place)?))),
             None => Ok(None),
         }
@@ -163,7 +166,7 @@ impl Slots {
     {
         match self.text(place) {
             None => Ok(None),
-            Some(text) => Ok(Some(ascii_text(alloc, text)?)),
+            Some(text) => Ok(Some(Text::of_ascii(alloc, text)?)),
         }
     }
 
@@ -173,7 +176,7 @@ impl Slots {
     {
         let mut texts = Texts::new(alloc);
         for number in 0..self.texts_len(place) {
-            texts.push(ascii_text(alloc, self.text_of(place, number))?)?;
+            texts.push(Text::of_ascii(alloc, self.text_of(place, number))?)?;
         }
         Ok(texts)
     }
@@ -205,16 +208,6 @@ impl Slots {
         self.slots.push(slot_of(q.many, from, to))?;
         Ok(())
     }
-}
-
-// The text of ASCII bytes.
-fn ascii_text(alloc: Global, bytes: &[u8]) -> Result<Text, NoMemory>
-    requires { IsText bytes.now }
-    ensures { IfOk result (λ text. text ≡ bytes.now) }
-{
-    let mut text = Text::new(alloc);
-    text.push_bytes(bytes)?;
-    Ok(text)
 }
 
 // The slot at a place.

@@ -11,8 +11,8 @@ ghost use Rattle.ados_readargs.specs.Template.{IsTemplate, with_letter, with_pie
 use crate::args::Args;
 use crate::errors::ArgFault;
 use crate::option_list::OptionList;
-use crate::options::{Qualifiers, TemplateOption, has_rest, same_name};
-use ados_text::{NoMemory, Text, Texts, fold};
+use crate::options::{Qualifiers, TemplateOption, has_rest};
+use ados_text::{NoMemory, Text, Texts, fold, same_name};
 use std::alloc::{AllocError, Global};
 use std::marker::Model;
 
