@@ -65,8 +65,7 @@ impl Place {
         ensures { IfOk result (λ name. name ≡ last_name self.now) }
     {
         if self.names.is_empty() {
-            let empty = Text::from_bytes(*self.names.allocator(), &[])?;
-            return Ok(Name::new(empty));
+            return Ok(Name::new(Text::new(*self.names.allocator())));
         }
         self.names[self.names.len() - 1].copy()
     }

@@ -1,8 +1,7 @@
 // The table of all objects, in a tree: the files as a map.
-ghost use Rattle.std.specs.Prelude.{◌≡◌, ◌+◌, ◌≤◌, [], false, IfOk, IsSome, map as each};
+ghost use Rattle.std.specs.Prelude.{◌≡◌, ◌+◌, ◌≤◌, [], false, IfOk, IsSome};
 ghost use Rattle.std.specs.Option.{option_copied};
 ghost use Rattle.std.specs.FinMap as map;
-ghost use Rattle.ados_text.specs.Text.{to_ascii};
 ghost use Rattle.ados_ram.specs.declared.entries.Entry.{Entry};
 ghost use Rattle.ados_ram.specs.Place.{key_of, is_root, last_name};
 ghost use Rattle.ados_ram.specs.Entry.{size_of};
@@ -19,7 +18,7 @@ use crate::cursors::Cursor;
 use crate::entries::Entry;
 use crate::places::Place;
 use crate::rows::Row;
-use ados_text::{Name, NoMemory, Result2, Text};
+use ados_text::{Name, NoMemory, Result2};
 use std::alloc::Global;
 use std::marker::Model;
 
@@ -54,9 +53,9 @@ impl Table {
         ensures { IfOk result (λ table. table ≡ first_files) }
     {
         let kids = Children::of(first_kids(alloc)?)?;
-        let root = Entry::directory(alloc, name(alloc, b"")?)?;
+        let root = Entry::directory(alloc, Name::from_bytes(alloc, b"")?)?;
         Ok(Table {
-            root: Branch::new(name(alloc, b"")?, root, kids)?,
+            root: Branch::new(Name::from_bytes(alloc, b"")?, root, kids)?,
             total: 0,
             count: 5,
             alloc,
@@ -249,10 +248,10 @@ fn first_kids(alloc: Global) -> Result<Vec<Branch>, NoMemory>
     ensures { IfOk result (λ kids. kids.items ≡ first_kids) }
 {
     let mut kids = Vec::new(alloc);
-    kids.push(directory(alloc, name(alloc, b"C")?)?)?;
-    kids.push(directory(alloc, name(alloc, b"Env")?)?)?;
-    kids.push(directory(alloc, name(alloc, b"S")?)?)?;
-    kids.push(directory(alloc, name(alloc, b"T")?)?)?;
+    kids.push(directory(alloc, Name::from_bytes(alloc, b"C")?)?)?;
+    kids.push(directory(alloc, Name::from_bytes(alloc, b"Env")?)?)?;
+    kids.push(directory(alloc, Name::from_bytes(alloc, b"S")?)?)?;
+    kids.push(directory(alloc, Name::from_bytes(alloc, b"T")?)?)?;
     Ok(kids)
 }
 
@@ -262,11 +261,4 @@ fn directory(alloc: Global, name: Name) -> Result<Branch, NoMemory>
 {
     let entry = Entry::directory(alloc, name.copy()?)?;
     Branch::leaf(alloc, name, entry)
-}
-
-// The bytes as a name.
-fn name(alloc: Global, bytes: &[u8]) -> Result<Name, NoMemory>
-    ensures { IfOk result (λ name. name ≡ each to_ascii bytes.now) }
-{
-    Ok(Name::new(Text::from_bytes(alloc, bytes)?))
 }
