@@ -1,5 +1,5 @@
 ghost use Rattle.std.specs.Prelude.{◌≡◌, IfOk};
-ghost use Rattle.ados_text.specs.Text.{IsText, is_same};
+ghost use Rattle.ados_text.specs.Text.{IsText};
 ghost use Rattle.ados_subst.specs.Faults.{Gives};
 ghost use Rattle.ados_subst.specs.Directives.{default_of, default_result, directive_result, directive_named, is_remark, key_result, mark_named, mark_result, slots_of_template};
 
@@ -9,7 +9,7 @@ use crate::marks::Mark;
 use crate::slots::Slots;
 use ados_items::{Item, first_word, next_item, rest_of, value};
 use ados_readargs::Template;
-use ados_text::{NoMemory, Text};
+use ados_text::{NoMemory, Text, same_name};
 use std::alloc::Global;
 
 /// What a directive sets, by its word.
@@ -60,19 +60,12 @@ fn is_remark(body: &[u8]) -> bool
     }
 }
 
-// The two are the same word; case is ignored.
-fn is_same(word: &[u8], name: &[u8]) -> bool
-    ensures { result ≡ is_same word.now name.now }
-{
-    word.eq_ignore_ascii_case(name)
-}
-
 fn directive_named(word: &[u8]) -> Option<Directive>
     ensures { result ≡ directive_named word.now }
 {
-    if is_same(word, b"KEY") || is_same(word, b"K") {
+    if same_name(word, b"KEY") || same_name(word, b"K") {
         Some(Directive::Key)
-    } else if is_same(word, b"DEF") {
+    } else if same_name(word, b"DEF") {
         Some(Directive::Default)
     } else {
         mark_named(word).map(Directive::Sets)
@@ -82,13 +75,13 @@ fn directive_named(word: &[u8]) -> Option<Directive>
 fn mark_named(word: &[u8]) -> Option<Mark>
     ensures { result ≡ mark_named word.now }
 {
-    if is_same(word, b"BRA") {
+    if same_name(word, b"BRA") {
         Some(Mark::Bra)
-    } else if is_same(word, b"KET") {
+    } else if same_name(word, b"KET") {
         Some(Mark::Ket)
-    } else if is_same(word, b"DOLLAR") || is_same(word, b"DOL") {
+    } else if same_name(word, b"DOLLAR") || same_name(word, b"DOL") {
         Some(Mark::Dollar)
-    } else if is_same(word, b"DOT") {
+    } else if same_name(word, b"DOT") {
         Some(Mark::Dot)
     } else {
         None
@@ -111,7 +104,7 @@ fn keyed(
     }
     Ok(Above {
         marks: above.marks,
-        slots: Some(slots_for(alloc, &made_text(alloc, text)?, args)?),
+        slots: Some(slots_for(alloc, &Text::of_ascii(alloc, text)?, args)?),
     })
 }
 
@@ -150,7 +143,7 @@ fn default_of(alloc: Global, text: &[u8]) -> Result<Text, NoMemory>
     let item = next_item(text, 0);
     match item {
         Item::Quoted { .. } => value(alloc, text, &item),
-        _ => made_text(alloc, text),
+        _ => Text::of_ascii(alloc, text),
     }
 }
 
@@ -165,14 +158,4 @@ fn marked(above: Above, number: usize, mark: Mark, text: &[u8]) -> Result<Above,
         }),
         _ => Err(SubstFault::BadDirective(number)),
     }
-}
-
-// The text of ASCII bytes.
-fn made_text(alloc: Global, bytes: &[u8]) -> Result<Text, NoMemory>
-    requires { IsText bytes.now }
-    ensures { IfOk result (λ text. text ≡ bytes.now) }
-{
-    let mut text = Text::new(alloc);
-    text.push_bytes(bytes)?;
-    Ok(text)
 }

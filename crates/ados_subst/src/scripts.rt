@@ -12,7 +12,6 @@ use crate::directives::directed;
 use crate::faults::SubstFault;
 use crate::lines::substituted;
 use ados_text::{NoMemory, Text, Texts, lines_of};
-use itoa::Buffer;
 use std::alloc::Global;
 
 /// The lines of a script, from the bytes of its file, with its arguments substituted; `process` is the shell's number.
@@ -31,7 +30,8 @@ pub fn script(alloc: Global, bytes: &[u8], args: &[u8], process: u8) -> Result<T
     if !is_dotted(lines.as_slice()) {
         return Ok(lines);
     }
-    substituted_lines(alloc, args, &digits(alloc, process)?, lines.as_slice())
+    let process = Text::of_number(alloc, process)?;
+    substituted_lines(alloc, args, &process, lines.as_slice())
 }
 
 // The first line begins with a dot.
@@ -79,12 +79,4 @@ fn substituted_lines(
         }
     }
     Ok(texts)
-}
-
-// A number in decimal.
-fn digits(alloc: Global, number: u8) -> Result<Text, NoMemory>
-    ensures { IfOk result (λ text. text ≡ decimal number) }
-{
-    let mut buffer = Buffer::new();
-    Text::from_bytes(alloc, buffer.format(number).as_bytes())
 }

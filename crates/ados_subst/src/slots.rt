@@ -6,7 +6,7 @@ ghost use Rattle.ados_readargs.specs.Template.{options_of};
 ghost use Rattle.ados_subst.specs.Slots.{with_default, given_text, is_named, new_slot, slots_of};
 
 use ados_readargs::{Arg, Args, Template, TemplateOption};
-use ados_text::{NoMemory, Text, Texts};
+use ados_text::{NoMemory, Text, Texts, same_name};
 use std::alloc::Global;
 use std::marker::Model;
 
@@ -42,7 +42,7 @@ impl Slot {
         self.names
             .as_slice()
             .iter()
-            .any(|own| own.as_bytes().eq_ignore_ascii_case(name))
+            .any(|own| same_name(own.as_bytes(), name))
     }
 
     /// What the option stands for: the text that it was given, otherwise its default, otherwise nothing.
