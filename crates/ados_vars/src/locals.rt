@@ -1,13 +1,11 @@
 ghost use Rattle.std.specs.Prelude.{◌≡◌, true, None, IfOk, OnOk, OnErr};
 ghost use Rattle.std.specs.List.{filter};
-ghost use Rattle.std.specs.Fmt.{decimal, signed_decimal};
 ghost use Rattle.ados_text.specs.Text.{IsText};
 ghost use Rattle.ados_vars.specs.Vars.{AreDistinct, set_all, set_pair, value_in};
 ghost use Rattle.ados_vars.specs.Locals.{copied_pairs, is_of_codes, is_other, is_own, own_pairs, shown_pairs, unset_pair, with_codes};
 
 use crate::vars::Vars;
 use ados_text::{Code, Name, NoMemory, Result2, Text};
-use itoa::Buffer;
 use std::alloc::Global;
 use std::marker::Model;
 
@@ -49,7 +47,7 @@ impl Locals {
         ensures { IfOk result (λ locals. locals ≡ own_pairs number) }
     {
         let mut vars = Vars::new(alloc);
-        vars.set(name(alloc, PROCESS)?, digits(alloc, u16::from(number))?)?;
+        vars.set(name(alloc, PROCESS)?, Text::of_number(alloc, number)?)?;
         vars.set(name(alloc, CODE)?, Text::new(alloc))?;
         vars.set(name(alloc, FAULT)?, Text::new(alloc))?;
         Ok(Locals { alloc, vars })
@@ -101,10 +99,10 @@ impl Locals {
         ensures { IfOk result (λ value. value ≡ value_in (shown_pairs self.now code result2) name.now) }
     {
         if name.text().is(FAULT) {
-            return Ok(Some(digits(self.alloc, result2.0)?));
+            return Ok(Some(Text::of_number(self.alloc, result2.0)?));
         }
         if name.text().is(CODE) {
-            return Ok(Some(code_text(self.alloc, code)?));
+            return Ok(Some(Text::of_number(self.alloc, code.0)?));
         }
         match self.vars.get(name) {
             None => Ok(None),
@@ -117,8 +115,8 @@ impl Locals {
     pub fn list(&self, code: Code, result2: Result2) -> Result<Vars, NoMemory>
         ensures { IfOk result (λ vars. vars ≡ shown_pairs self.now code result2) }
     {
-        let code = code_text(self.alloc, code)?;
-        let fault = digits(self.alloc, result2.0)?;
+        let code = Text::of_number(self.alloc, code.0)?;
+        let fault = Text::of_number(self.alloc, result2.0)?;
         with_codes(self.alloc, self.vars.copy()?, code, fault)
     }
 
@@ -176,23 +174,5 @@ fn name(alloc: Global, text: &str) -> Result<Name, NoMemory>
     requires { IsText text.now }
     ensures { IfOk result (λ name. name ≡ text.now) }
 {
-    let mut name = Text::new(alloc);
-    name.push_bytes(text.as_bytes())?;
-    Ok(Name::new(name))
-}
-
-// A code in decimal.
-fn code_text(alloc: Global, code: Code) -> Result<Text, NoMemory>
-    ensures { IfOk result (λ text. text ≡ signed_decimal code.0) }
-{
-    let mut buffer = Buffer::new();
-    Text::from_bytes(alloc, buffer.format(code.0).as_bytes())
-}
-
-// A number in decimal.
-fn digits(alloc: Global, number: u16) -> Result<Text, NoMemory>
-    ensures { IfOk result (λ text. text ≡ decimal number) }
-{
-    let mut buffer = Buffer::new();
-    Text::from_bytes(alloc, buffer.format(number).as_bytes())
+    Ok(Name::new(Text::of_ascii(alloc, text.as_bytes())?))
 }
