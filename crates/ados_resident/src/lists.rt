@@ -1,28 +1,22 @@
 // The two parts of the resident list: internal commands, and the entries that programs were loaded into.
 ghost use Rattle.std.specs.Prelude.{◌≡◌, ◌++◌, IfOk, OnOk, map};
 ghost use Rattle.std.specs.Option.{option_copied};
-ghost use Rattle.ados_text.specs.Text.{is_same};
 ghost use Rattle.ados_resident.specs.Commands.{internal_name};
 ghost use Rattle.ados_resident.specs.Names.{first_with_name};
 ghost use Rattle.ados_resident.specs.Residents.{count_of, enabled_internal, switched_internal, put_entry};
 
 use crate::commands::InternalCommand;
 use crate::residents::{Internal, Resident};
-use ados_text::{NoMemory, Text};
+use ados_text::{NoMemory, Text, same_name};
 use std::alloc::Global;
 
 /// How many of these uses name the entry with a name: as many shells run from it.
 pub fn count(uses: &[Text], name: &Text) -> usize
     ensures { result ≡ count_of uses.now name.now }
 {
-    uses.iter().filter(|entry| is_same(entry, name)).count()
-}
-
-// The two are the same name; case is ignored.
-pub fn is_same(a: &Text, b: &Text) -> bool
-    ensures { result ≡ is_same a.now b.now }
-{
-    a.as_bytes().eq_ignore_ascii_case(b.as_bytes())
+    uses.iter()
+        .filter(|entry| same_name(entry.as_bytes(), name.as_bytes()))
+        .count()
 }
 
 // The commands, each enabled.
@@ -88,7 +82,7 @@ pub fn entry_in<'a>(entries: &'a [Resident], name: &Text) -> Option<&'a Resident
     ensures { option_copied result ≡ first_with_name (λ entry. entry.name) name.now entries.now }
 {
     for entry in entries {
-        if is_same(name, &entry.name) {
+        if same_name(name.as_bytes(), entry.name.as_bytes()) {
             return Some(entry);
         }
     }
@@ -107,7 +101,7 @@ pub fn put_into(
         out.push(entry)?;
         return Ok(());
     };
-    if is_same(&entry.name, &old.name) {
+    if same_name(entry.name.as_bytes(), old.name.as_bytes()) {
         out.push(entry)?;
         return copy_into(out, further);
     }

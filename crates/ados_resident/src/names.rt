@@ -1,11 +1,10 @@
 // The commands by their names.
 ghost use Rattle.std.specs.Prelude.{◌≡◌};
-ghost use Rattle.ados_text.specs.Text.{is_same};
 ghost use Rattle.ados_resident.specs.Commands.{disk_name, internal_name};
 ghost use Rattle.ados_resident.specs.Names.{disk_named, first_with_name, internal_named};
 
 use crate::commands::{DiskCommand, InternalCommand};
-use ados_text::Text;
+use ados_text::{Text, same_name};
 
 impl InternalCommand {
     /// The internal command with this name; case is ignored.
@@ -37,13 +36,6 @@ impl DiskCommand {
     {
         first_disk(name, &DiskCommand::ALL)
     }
-
-    // This is its name; case is ignored.
-    fn is_called(self, name: &[u8]) -> bool
-        ensures { result ≡ is_same name.now (disk_name self) }
-    {
-        name.eq_ignore_ascii_case(self.name().as_bytes())
-    }
 }
 
 // The first of these that has this name.
@@ -51,7 +43,7 @@ fn first_disk(name: &[u8], commands: &[DiskCommand]) -> Option<DiskCommand>
     ensures { result ≡ first_with_name disk_name name.now commands.now }
 {
     for command in commands {
-        if command.is_called(name) {
+        if same_name(name, command.name().as_bytes()) {
             return Some(*command);
         }
     }
