@@ -74,9 +74,8 @@ impl Place {
     pub fn joined(&self, names: &[Name]) -> Result<Place, NoMemory>
         ensures { IfOk result (λ place. place ≡ self.now ++ names.now) }
     {
-        let mut joined = Vec::new(*self.names.allocator());
-        copy_into(&mut joined, &self.names)?;
-        copy_into(&mut joined, names)?;
+        let mut joined = self.names.clone()?;
+        joined.extend_from_slice(names)?;
         Ok(Place { names: joined })
     }
 
@@ -203,14 +202,4 @@ pub fn folded(alloc: Global, name: &Name) -> Result<Name, NoMemory>
         text.push(fold(*byte))?;
     }
     Ok(Name::new(text))
-}
-
-// Appends copies of names to a list.
-fn copy_into(out: &mut Vec<Name>, names: &[Name]) -> Result<(), NoMemory>
-    ensures { OnOk result (out.new.items ≡ out.old.items ++ names.now) }
-{
-    for name in names {
-        out.push(name.copy()?)?;
-    }
-    Ok(())
 }
