@@ -192,6 +192,14 @@ pub fn any_at_or_below(places: &[Place], names: &[Name]) -> bool
     false
 }
 
+/// Appends copies of places to a list.
+pub fn push_places(out: &mut Vec<Place>, places: &[Place]) -> Result<(), NoMemory>
+    ensures { OnOk result (out.new.items ≡ out.old.items ++ places.now) }
+{
+    out.extend_from_slice(places)?;
+    Ok(())
+}
+
 /// A name in lower case.
 pub fn folded(alloc: Global, name: &Name) -> Result<Name, NoMemory>
     ensures { IfOk result (λ low. low ≡ folded_text name.now) }
