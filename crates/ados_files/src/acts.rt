@@ -109,21 +109,6 @@ impl<'a, A: Act<Place>> Act<Text> for Paths<'a, A> {
     }
 }
 
-/// An action on each of the objects that each argument names.
-#[derive(Drop)]
-pub struct Names<'a, A> {
-    pub act: &'a A,
-    pub view: &'a ShellView<'a>,
-}
-
-impl<'a, A: Act<Place>> Act<Text> for Names<'a, A> {
-    ghost act = { λ s. at_names (A.act s.act.now) s.view.now };
-
-    fn act(&self, shared: &Shared, work: &mut Work, item: &Text) -> Result<(), NoMemory> {
-        at_names(self.act, self.view, shared, work, item)
-    }
-}
-
 /// Performs an action on the place to which a path leads.
 pub fn at_path<A: Act<Place>>(
     act: &A,
@@ -144,22 +129,25 @@ pub fn at_path<A: Act<Place>>(
     }
 }
 
-/// Performs an action on each of the objects that an argument names.
-pub fn at_names<A: Act<Place>>(
-    act: &A,
-    view: &ShellView,
-    shared: &Shared,
-    work: &mut Work,
-    text: &Text,
-) -> Result<(), NoMemory>
-    ensures { OnOk result (done_of shared.now work.new ≡ at_names (A.act act.now) view.now (done_of shared.now work.old) text.now) }
-{
-    let alloc = *work.output.allocator();
-    match named(alloc, current(shared, &work.shared), view.directory, text) {
-        Err(refusal) => {
-            work.stopped = Some(refusal.codes()?);
-            Ok(())
+/// An action on each of the objects that each argument names.
+#[derive(Drop)]
+pub struct Names<'a, A> {
+    pub act: &'a A,
+    pub view: &'a ShellView<'a>,
+}
+
+impl<'a, A: Act<Place>> Act<Text> for Names<'a, A> {
+    ghost act = { λ s. at_names (A.act s.act.now) s.view.now };
+
+    fn act(&self, shared: &Shared, work: &mut Work, text: &Text) -> Result<(), NoMemory> {
+        let view = self.view;
+        let alloc = *work.output.allocator();
+        match named(alloc, current(shared, &work.shared), view.directory, text) {
+            Err(refusal) => {
+                work.stopped = Some(refusal.codes()?);
+                Ok(())
+            }
+            Ok(found) => each(self.act, shared, work, found.places()),
         }
-        Ok(found) => each(act, shared, work, found.places()),
     }
 }

@@ -9,7 +9,7 @@ ghost use Rattle.ados_find.specs.Effects.{effect_of};
 ghost use Rattle.ados_files.specs.Copy.{target_directory, copy_to_directory, is_onto, one_entry, copy_found, copy_into_target, copy_row};
 
 use crate::acts::done_with;
-use crate::copy_one::{Copying, make_missing};
+use crate::copy_one::{Copying, MakingMissing};
 use crate::jobs::{all_jobs, jobs_onto, sources_of};
 use crate::names::Found;
 use crate::rename::is_directory;
@@ -63,8 +63,18 @@ pub struct Copy<'a> {
 impl<'a> Act<Place> for Copy<'a> {
     ghost act = { λ s. copy_found s.view.now s.all s.quiet s.found };
 
-    fn act(&self, shared: &Shared, work: &mut Work, item: &Place) -> Result<(), NoMemory> {
-        copy_found(self, shared, work, item)
+    fn act(&self, shared: &Shared, work: &mut Work, to: &Place) -> Result<(), NoMemory> {
+        let alloc = *work.output.allocator();
+        if !is_onto(&current(shared, &work.shared).ram, &self.found, to) {
+            return copy_to_directory(self, shared, work, to);
+        }
+        let jobs = jobs_onto(alloc, self.found.places())?;
+        let act = Copying {
+            view: self.view,
+            quiet: self.quiet,
+            to,
+        };
+        each(&act, shared, work, &jobs)
     }
 }
 
@@ -77,24 +87,6 @@ fn copied_to(alloc: Global, shared: &Shared, copy: &Copy, to: &Text) -> Result<O
         Err(refusal) => Ok(Outcome::answering(alloc, refusal.codes()?)),
         Ok(to) => done_with(alloc, shared, view, copy, slice::from_ref(&to)),
     }
-}
-
-// Copies to TO itself, or into it.
-fn copy_found(copy: &Copy, shared: &Shared, work: &mut Work, to: &Place) -> Result<(), NoMemory>
-    ensures { OnOk result (done_of shared.now work.new ≡
-        copy_found copy.now.view.now copy.now.all copy.now.quiet copy.now.found (done_of shared.now work.old) to.now) }
-{
-    let alloc = *work.output.allocator();
-    if !is_onto(&current(shared, &work.shared).ram, &copy.found, to) {
-        return copy_to_directory(copy, shared, work, to);
-    }
-    let jobs = jobs_onto(alloc, copy.found.places())?;
-    let act = Copying {
-        view: copy.view,
-        quiet: copy.quiet,
-        to,
-    };
-    each(&act, shared, work, &jobs)
 }
 
 // Whether the source is just one file, and TO is not a directory.
@@ -159,5 +151,5 @@ fn target_directory(one: bool, to: &Place, shared: &Shared, work: &mut Work) -> 
         work.stopped = Some(Codes::erred(Result2::DIRECTORY_NOT_FOUND));
         return Ok(());
     }
-    make_missing(shared, work, to)
+    MakingMissing.act(shared, work, to)
 }

@@ -8,7 +8,7 @@ ghost use Rattle.ados_files.specs.Copy.{middle_directories, make_missing, copy_f
 
 use crate::acts::go_on_saying;
 use crate::jobs::Job;
-use crate::make_dir::made;
+use crate::make_dir::Making;
 use ados_find::{Act, Codes, Shared, ShellView, Work, current, each};
 use ados_ram::{Busy, Entry, Place, Ram};
 use ados_text::{Name, NoMemory, Result2};
@@ -25,25 +25,17 @@ pub struct Copying<'a> {
 impl<'a> Act<Job> for Copying<'a> {
     ghost act = { λ s. copy_one s.view.now s.quiet s.to.now };
 
-    fn act(&self, shared: &Shared, work: &mut Work, item: &Job) -> Result<(), NoMemory> {
-        copy_one(self, shared, work, item)
-    }
-}
-
-// Copies one file.
-fn copy_one(copying: &Copying, shared: &Shared, work: &mut Work, job: &Job) -> Result<(), NoMemory>
-    ensures { OnOk result (done_of shared.now work.new ≡
-        copy_one copying.now.view.now copying.now.quiet copying.now.to.now (done_of shared.now work.old) job.now) }
-{
-    let view = copying.view;
-    let target = copying.to.joined(job.names.names())?;
-    let ram = &current(shared, &work.shared).ram;
-    match copy_fault(&view.busy, ram, &job.source, &target) {
-        Some(fault) => {
-            work.stopped = Some(Codes::erred(fault));
-            Ok(())
+    fn act(&self, shared: &Shared, work: &mut Work, job: &Job) -> Result<(), NoMemory> {
+        let view = self.view;
+        let target = self.to.joined(job.names.names())?;
+        let ram = &current(shared, &work.shared).ram;
+        match copy_fault(&view.busy, ram, &job.source, &target) {
+            Some(fault) => {
+                work.stopped = Some(Codes::erred(fault));
+                Ok(())
+            }
+            None => copy_entry(self, shared, work, job, &target),
         }
-        None => copy_entry(copying, shared, work, job, &target),
     }
 }
 
@@ -130,22 +122,15 @@ pub struct MakingMissing;
 impl Act<Place> for MakingMissing {
     ghost act = { λ s. make_missing };
 
-    fn act(&self, shared: &Shared, work: &mut Work, item: &Place) -> Result<(), NoMemory> {
-        make_missing(shared, work, item)
-    }
-}
-
-/// Creates a directory if it is missing.
-pub fn make_missing(shared: &Shared, work: &mut Work, place: &Place) -> Result<(), NoMemory>
-    ensures { OnOk result (done_of shared.now work.new ≡ make_missing (done_of shared.now work.old) place.now) }
-{
-    match current(shared, &work.shared).ram.look(place) {
-        None => made(shared, work, place),
-        Some(entry) => {
-            if !entry.is_directory() {
-                work.stopped = Some(Codes::erred(Result2::WRONG_TYPE));
+    fn act(&self, shared: &Shared, work: &mut Work, place: &Place) -> Result<(), NoMemory> {
+        match current(shared, &work.shared).ram.look(place) {
+            None => Making.act(shared, work, place),
+            Some(entry) => {
+                if !entry.is_directory() {
+                    work.stopped = Some(Codes::erred(Result2::WRONG_TYPE));
+                }
+                Ok(())
             }
-            Ok(())
         }
     }
 }

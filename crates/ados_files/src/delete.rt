@@ -1,5 +1,4 @@
-ghost use Rattle.std.specs.Prelude.{◌≡◌, IfOk, OnOk};
-ghost use Rattle.ados_find.specs.Done.{done_of};
+ghost use Rattle.std.specs.Prelude.{◌≡◌, IfOk};
 ghost use Rattle.ados_find.specs.Effects.{effect_of};
 ghost use Rattle.ados_files.specs.Delete.{delete_one, targets, delete_place, delete_row};
 
@@ -40,8 +39,14 @@ pub struct Deleting<'a> {
 impl<'a> Act<Place> for Deleting<'a> {
     ghost act = { λ s. delete_place s.view.now s.all s.quiet };
 
-    fn act(&self, shared: &Shared, work: &mut Work, item: &Place) -> Result<(), NoMemory> {
-        delete_place(self.view, self.all, self.quiet, shared, work, item)
+    fn act(&self, shared: &Shared, work: &mut Work, place: &Place) -> Result<(), NoMemory> {
+        let alloc = *work.output.allocator();
+        let places = targets(alloc, self.all, &current(shared, &work.shared).ram, place)?;
+        let act = DeletingOne {
+            view: self.view,
+            quiet: self.quiet,
+        };
+        each(&act, shared, work, &places)
     }
 }
 
@@ -55,25 +60,11 @@ pub struct DeletingOne<'a> {
 impl<'a> Act<Place> for DeletingOne<'a> {
     ghost act = { λ s. delete_one s.view.now s.quiet };
 
-    fn act(&self, shared: &Shared, work: &mut Work, item: &Place) -> Result<(), NoMemory> {
-        delete_one(self.view, self.quiet, shared, work, item)
+    fn act(&self, shared: &Shared, work: &mut Work, place: &Place) -> Result<(), NoMemory> {
+        let view = self.view;
+        let change = current(shared, &work.shared).ram.delete(&view.busy, place);
+        go_on_saying(shared, work, change, self.quiet, place, b"  Deleted\n")
     }
-}
-
-// Deletes an object, with ALL after all that is below it.
-fn delete_place(
-    view: &ShellView,
-    all: bool,
-    quiet: bool,
-    shared: &Shared,
-    work: &mut Work,
-    place: &Place,
-) -> Result<(), NoMemory>
-    ensures { OnOk result (done_of shared.now work.new ≡ delete_place view.now all quiet (done_of shared.now work.old) place.now) }
-{
-    let alloc = *work.output.allocator();
-    let places = targets(alloc, all, &current(shared, &work.shared).ram, place)?;
-    each(&DeletingOne { view, quiet }, shared, work, &places)
 }
 
 // The places that are deleted with a place.
@@ -86,18 +77,4 @@ fn targets(alloc: Global, all: bool, ram: &Ram, place: &Place) -> Result<Vec<Pla
     let mut places = ram.contents(place)?;
     places.push(place.copy()?)?;
     Ok(places)
-}
-
-// Deletes one object.
-fn delete_one(
-    view: &ShellView,
-    quiet: bool,
-    shared: &Shared,
-    work: &mut Work,
-    place: &Place,
-) -> Result<(), NoMemory>
-    ensures { OnOk result (done_of shared.now work.new ≡ delete_one view.now quiet (done_of shared.now work.old) place.now) }
-{
-    let change = current(shared, &work.shared).ram.delete(&view.busy, place);
-    go_on_saying(shared, work, change, quiet, place, b"  Deleted\n")
 }

@@ -1,5 +1,4 @@
-ghost use Rattle.std.specs.Prelude.{◌≡◌, IfOk, OnOk};
-ghost use Rattle.ados_find.specs.Done.{done_of};
+ghost use Rattle.std.specs.Prelude.{◌≡◌, IfOk};
 ghost use Rattle.ados_find.specs.Effects.{effect_of};
 ghost use Rattle.ados_files.specs.Filenote.{note_one, note_all, filenote_row};
 
@@ -47,15 +46,10 @@ pub struct Noting<'a> {
 impl<'a> Act<Place> for Noting<'a> {
     ghost act = { λ s. note_one s.comment.now };
 
-    fn act(&self, shared: &Shared, work: &mut Work, item: &Place) -> Result<(), NoMemory> {
-        note_one(self.comment, shared, work, item)
+    fn act(&self, shared: &Shared, work: &mut Work, place: &Place) -> Result<(), NoMemory> {
+        let change = current(shared, &work.shared)
+            .ram
+            .comment(place, self.comment);
+        go_on(shared, work, change)
     }
-}
-
-// Sets the comment of one object.
-fn note_one(comment: &Text, shared: &Shared, work: &mut Work, place: &Place) -> Result<(), NoMemory>
-    ensures { OnOk result (done_of shared.now work.new ≡ note_one comment.now (done_of shared.now work.old) place.now) }
-{
-    let change = current(shared, &work.shared).ram.comment(place, comment);
-    go_on(shared, work, change)
 }

@@ -5,9 +5,9 @@ ghost use Rattle.ados_ram.specs.Place.{key_of};
 ghost use Rattle.ados_ram.specs.Written.{written_place};
 ghost use Rattle.ados_find.specs.Paths.{Gives};
 
-use crate::names::{Found, named, push_places};
+use crate::names::{Found, named};
 use ados_find::{Refusal, Shared};
-use ados_ram::{Entry, Place, Ram};
+use ados_ram::{Entry, Place, Ram, push_places};
 use ados_text::{NoMemory, Text};
 use std::alloc::Global;
 use std::slice;

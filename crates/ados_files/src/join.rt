@@ -42,32 +42,16 @@ pub struct Joining<'a> {
 impl<'a> Act<Text> for Joining<'a> {
     ghost act = { λ s. join_to_target s.view.now s.texts.now };
 
-    fn act(&self, shared: &Shared, work: &mut Work, item: &Text) -> Result<(), NoMemory> {
-        joined_to(self.view, self.texts, shared, work, item)
-    }
-}
-
-// Reads all files, and then writes the target.
-fn joined_to(
-    view: &ShellView,
-    texts: &[Text],
-    shared: &Shared,
-    work: &mut Work,
-    to: &Text,
-) -> Result<(), NoMemory>
-    ensures { OnOk result (done_of shared.now work.new ≡ join_to_target view.now texts.now (done_of shared.now work.old) to.now) }
-{
-    let act = Typing { view: &*view };
-    each(
-        &Paths {
+    fn act(&self, shared: &Shared, work: &mut Work, to: &Text) -> Result<(), NoMemory> {
+        let view = self.view;
+        let act = Typing { view: &*view };
+        let paths = Paths {
             act: &act,
             view: &*view,
-        },
-        shared,
-        work,
-        texts,
-    )?;
-    written_to(view, shared, work, to)
+        };
+        each(&paths, shared, work, self.texts)?;
+        written_to(view, shared, work, to)
+    }
 }
 
 // Writes all that was read, if nothing was refused.
@@ -95,23 +79,10 @@ pub struct Writing<'a> {
 impl<'a> Act<Place> for Writing<'a> {
     ghost act = { λ s. write_one s.view.now s.bytes.now };
 
-    fn act(&self, shared: &Shared, work: &mut Work, item: &Place) -> Result<(), NoMemory> {
-        write_one(self.view, self.bytes, shared, work, item)
+    fn act(&self, shared: &Shared, work: &mut Work, place: &Place) -> Result<(), NoMemory> {
+        let view = self.view;
+        let ram = &current(shared, &work.shared).ram;
+        let change = ram.write(&view.busy, place, self.bytes);
+        go_on(shared, work, change)
     }
-}
-
-// Writes one file.
-fn write_one(
-    view: &ShellView,
-    bytes: &[u8],
-    shared: &Shared,
-    work: &mut Work,
-    place: &Place,
-) -> Result<(), NoMemory>
-    ensures { OnOk result (done_of shared.now work.new ≡ write_one view.now bytes.now (done_of shared.now work.old) place.now) }
-{
-    let change = current(shared, &work.shared)
-        .ram
-        .write(&view.busy, place, bytes);
-    go_on(shared, work, change)
 }

@@ -1,17 +1,17 @@
 ghost use Rattle.std.specs.Prelude.{◌≡◌, ◌++◌, IfOk, OnOk};
 ghost use Rattle.std.specs.Option.{option_copied};
 ghost use Rattle.ados_files.specs.Bases.{entry_at};
-ghost use Rattle.ados_find.specs.Done.{done_of, fresh_work, end_effect};
+ghost use Rattle.ados_find.specs.Done.{fresh_work, end_effect};
 ghost use Rattle.ados_find.specs.Effects.{effect_of};
 ghost use Rattle.ados_find.specs.Paths.{Gives};
 
 use crate::acts::done_with;
 use crate::bases::{all_children, entry_at};
 use crate::lines::{Line, keeps, push_line, push_lines};
-use crate::names::{Found, named_bases, pattern_of, push_places};
+use crate::names::{Found, named_bases, pattern_of};
 use ados_find::{Act, Codes, Outcome, Refusal, Shared, ShellView, Work, current};
 use ados_pattern::Pattern;
-use ados_ram::{Entry, Place, Ram, list_refusal};
+use ados_ram::{Entry, Place, Ram, list_refusal, push_places};
 use ados_readargs::Args;
 use ados_text::{NoMemory, Text};
 use std::alloc::Global;
@@ -92,31 +92,19 @@ pub struct Listing<'a> {
 impl<'a> Act<Text> for Listing<'a> {
     ghost act = { λ s. list_text s.shape.now s.view.now };
 
-    fn act(&self, shared: &Shared, work: &mut Work, item: &Text) -> Result<(), NoMemory> {
-        list_text(self.shape, self.view, shared, work, item)
-    }
-}
-
-// Lists what an argument names.
-fn list_text(
-    shape: &Shape,
-    view: &ShellView,
-    shared: &Shared,
-    work: &mut Work,
-    text: &Text,
-) -> Result<(), NoMemory>
-    ensures { OnOk result (done_of shared.now work.new ≡ list_text shape.now view.now (done_of shared.now work.old) text.now) }
-{
-    let alloc = *work.output.allocator();
-    let now = current(shared, &work.shared);
-    match named_bases(alloc, now, view.directory, text) {
-        Err(refusal) => {
-            work.stopped = Some(refusal.codes()?);
-            Ok(())
-        }
-        Ok(found) => {
-            let places = listed(alloc, &now.ram, &found)?;
-            push_lines(&mut work.output, shape, &now.ram, &places)
+    fn act(&self, shared: &Shared, work: &mut Work, text: &Text) -> Result<(), NoMemory> {
+        let alloc = *work.output.allocator();
+        let view = self.view;
+        let now = current(shared, &work.shared);
+        match named_bases(alloc, now, view.directory, text) {
+            Err(refusal) => {
+                work.stopped = Some(refusal.codes()?);
+                Ok(())
+            }
+            Ok(found) => {
+                let places = listed(alloc, &now.ram, &found)?;
+                push_lines(&mut work.output, self.shape, &now.ram, &places)
+            }
         }
     }
 }
@@ -130,29 +118,17 @@ pub struct ListingAt<'a> {
 impl<'a> Act<Place> for ListingAt<'a> {
     ghost act = { λ s. list_directory s.shape.now };
 
-    fn act(&self, shared: &Shared, work: &mut Work, item: &Place) -> Result<(), NoMemory> {
-        list_directory(self.shape, shared, work, item)
-    }
-}
-
-// Lists a directory.
-fn list_directory(
-    shape: &Shape,
-    shared: &Shared,
-    work: &mut Work,
-    place: &Place,
-) -> Result<(), NoMemory>
-    ensures { OnOk result (done_of shared.now work.new ≡ list_directory shape.now (done_of shared.now work.old) place.now) }
-{
-    let ram = &current(shared, &work.shared).ram;
-    match list_refusal(ram.look(place)) {
-        Some(fault) => {
-            work.stopped = Some(Codes::erred(fault));
-            Ok(())
-        }
-        None => {
-            let places = ram.children(place)?;
-            push_lines(&mut work.output, shape, ram, &places)
+    fn act(&self, shared: &Shared, work: &mut Work, place: &Place) -> Result<(), NoMemory> {
+        let ram = &current(shared, &work.shared).ram;
+        match list_refusal(ram.look(place)) {
+            Some(fault) => {
+                work.stopped = Some(Codes::erred(fault));
+                Ok(())
+            }
+            None => {
+                let places = ram.children(place)?;
+                push_lines(&mut work.output, self.shape, ram, &places)
+            }
         }
     }
 }

@@ -1,5 +1,4 @@
-ghost use Rattle.std.specs.Prelude.{◌≡◌, IfOk, OnOk};
-ghost use Rattle.ados_find.specs.Done.{done_of};
+ghost use Rattle.std.specs.Prelude.{◌≡◌, IfOk};
 ghost use Rattle.ados_find.specs.Effects.{effect_of};
 ghost use Rattle.ados_files.specs.MakeDir.{make_one, make_dir_row};
 
@@ -34,15 +33,8 @@ pub struct Making;
 impl Act<Place> for Making {
     ghost act = { λ s. make_one };
 
-    fn act(&self, shared: &Shared, work: &mut Work, item: &Place) -> Result<(), NoMemory> {
-        made(shared, work, item)
+    fn act(&self, shared: &Shared, work: &mut Work, place: &Place) -> Result<(), NoMemory> {
+        let change = current(shared, &work.shared).ram.make_dir(place);
+        go_on(shared, work, change)
     }
-}
-
-/// Creates a directory.
-pub fn made(shared: &Shared, work: &mut Work, place: &Place) -> Result<(), NoMemory>
-    ensures { OnOk result (done_of shared.now work.new ≡ make_one (done_of shared.now work.old) place.now) }
-{
-    let change = current(shared, &work.shared).ram.make_dir(place);
-    go_on(shared, work, change)
 }

@@ -1,5 +1,5 @@
 // Arguments that name objects.
-ghost use Rattle.std.specs.Prelude.{◌≡◌, ◌∷◌, ◌++◌, [], false, Err, IfOk, OnOk};
+ghost use Rattle.std.specs.Prelude.{◌≡◌, ◌∷◌, [], false, Err, IfOk};
 ghost use Rattle.std.specs.Option.{option_copied};
 ghost use Rattle.ados_files.specs.Bases.{entry_at};
 ghost use Rattle.ados_find.specs.Effects.{if_found};
@@ -203,16 +203,6 @@ pub fn only(alloc: Global, place: &Place) -> Result<Vec<Place>, NoMemory>
     let mut places = Vec::new(alloc);
     places.push(place.copy()?)?;
     Ok(places)
-}
-
-/// Appends places to a list.
-pub fn push_places(out: &mut Vec<Place>, places: &[Place]) -> Result<(), NoMemory>
-    ensures { OnOk result (out.new.items ≡ out.old.items ++ places.now) }
-{
-    for place in places {
-        out.push(place.copy()?)?;
-    }
-    Ok(())
 }
 
 // The objects in directories that match.

@@ -1,6 +1,5 @@
-ghost use Rattle.std.specs.Prelude.{◌≡◌, IfOk, OnOk};
+ghost use Rattle.std.specs.Prelude.{◌≡◌, IfOk};
 ghost use Rattle.std.specs.Option.{option_copied, option_map};
-ghost use Rattle.ados_find.specs.Done.{done_of};
 ghost use Rattle.ados_find.specs.Effects.{effect_of};
 
 use crate::acts::{done_with_named, go_on};
@@ -204,22 +203,10 @@ pub struct Protecting {
 impl Act<Place> for Protecting {
     ghost act = { λ s. protect_one s.change };
 
-    fn act(&self, shared: &Shared, work: &mut Work, item: &Place) -> Result<(), NoMemory> {
-        protect_one(self.change, shared, work, item)
+    fn act(&self, shared: &Shared, work: &mut Work, place: &Place) -> Result<(), NoMemory> {
+        let now = current(shared, &work.shared);
+        let bits = changed_bits(self.change, object_bits(now.ram.look(place)));
+        let protected = now.ram.protect(place, bits);
+        go_on(shared, work, protected)
     }
-}
-
-// Changes the bits of one object.
-fn protect_one(
-    change: Change,
-    shared: &Shared,
-    work: &mut Work,
-    place: &Place,
-) -> Result<(), NoMemory>
-    ensures { OnOk result (done_of shared.now work.new ≡ protect_one change (done_of shared.now work.old) place.now) }
-{
-    let now = current(shared, &work.shared);
-    let bits = changed_bits(change, object_bits(now.ram.look(place)));
-    let protected = now.ram.protect(place, bits);
-    go_on(shared, work, protected)
 }

@@ -1,5 +1,4 @@
-ghost use Rattle.std.specs.Prelude.{◌≡◌, IfOk, OnOk};
-ghost use Rattle.ados_find.specs.Done.{done_of};
+ghost use Rattle.std.specs.Prelude.{◌≡◌, IfOk};
 ghost use Rattle.ados_find.specs.Effects.{effect_of};
 ghost use Rattle.ados_files.specs.TypeFiles.{type_one, type_row};
 
@@ -32,28 +31,17 @@ pub struct Typing<'a> {
 impl<'a> Act<Place> for Typing<'a> {
     ghost act = { λ s. type_one s.view.now };
 
-    fn act(&self, shared: &Shared, work: &mut Work, item: &Place) -> Result<(), NoMemory> {
-        type_one(self.view, shared, work, item)
-    }
-}
-
-// Prints the bytes of one file.
-fn type_one(
-    view: &ShellView,
-    shared: &Shared,
-    work: &mut Work,
-    place: &Place,
-) -> Result<(), NoMemory>
-    ensures { OnOk result (done_of shared.now work.new ≡ type_one view.now (done_of shared.now work.old) place.now) }
-{
-    match current(shared, &work.shared).ram.read(&view.busy, place) {
-        Err(fault) => {
-            work.stopped = Some(Codes::erred(fault));
-            Ok(())
-        }
-        Ok(bytes) => {
-            work.output.extend_from_slice(bytes)?;
-            Ok(())
+    fn act(&self, shared: &Shared, work: &mut Work, place: &Place) -> Result<(), NoMemory> {
+        let view = self.view;
+        match current(shared, &work.shared).ram.read(&view.busy, place) {
+            Err(fault) => {
+                work.stopped = Some(Codes::erred(fault));
+                Ok(())
+            }
+            Ok(bytes) => {
+                work.output.extend_from_slice(bytes)?;
+                Ok(())
+            }
         }
     }
 }
