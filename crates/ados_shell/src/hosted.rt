@@ -114,11 +114,5 @@ impl Draft {
 fn copied(output: Option<&Redirection>) -> Result<Option<Redirection>, NoMemory>
     ensures { IfOk result (λ copy. copy ≡ option_copied output.entry) }
 {
-    match output {
-        None => Ok(None),
-        Some(output) => Ok(Some(Redirection {
-            name: output.name.copy()?,
-            append: output.append,
-        })),
-    }
+    Ok(output.cloned()?)
 }

@@ -6,7 +6,6 @@ ghost use Rattle.ados_machine.specs.Questions.{ask_completion, inquiry, question
 use crate::completions::Completion;
 use crate::drafts::Draft;
 use crate::scenes::Scene;
-use crate::stacks::copy_own;
 use ados_find::Codes;
 use ados_flow::reply_of;
 use ados_machine::{Asking, Question, Wait};
@@ -70,11 +69,7 @@ impl Draft {
 fn copied(question: &Question) -> Result<Question, NoMemory>
     ensures { IfOk result (λ copy. copy ≡ question.now) }
 {
-    Ok(Question {
-        word: question.word.copy()?,
-        prompt: question.prompt.copy()?,
-        output: copy_own(question.output.as_ref())?,
-    })
+    Ok(question.clone()?)
 }
 
 /// Asks for one line after another, up to the first that is a reply; the end of the lines means no.

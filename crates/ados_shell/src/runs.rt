@@ -229,10 +229,7 @@ impl Draft {
 fn with_command(alloc: Global, commands: &[Text], command: Text) -> Result<Texts, NoMemory>
     ensures { IfOk result (λ all. all ≡ commands.now ++ command ∷ []) }
 {
-    let mut all = Vec::with_capacity(alloc, commands.len() + 1)?;
-    for command in commands {
-        all.push(command.copy()?)?;
-    }
+    let mut all = commands.to_vec(alloc)?;
     all.push(command)?;
     Ok(Texts::from_vec(all))
 }

@@ -240,18 +240,12 @@ pub fn has_script(frames: &[Frame]) -> bool
 pub fn copy_own(target: Option<&Target>) -> Result<Option<Target>, NoMemory>
     ensures { IfOk result (λ copy. copy ≡ option_copied target.entry) }
 {
-    match target {
-        None => Ok(None),
-        Some(target) => Ok(Some(copy(target)?)),
-    }
+    Ok(target.cloned()?)
 }
 
 /// The same target.
 pub fn copy(target: &Target) -> Result<Target, NoMemory>
     ensures { IfOk result (λ copy. copy ≡ target.now) }
 {
-    match target {
-        Target::Nil => Ok(Target::Nil),
-        Target::At(place) => Ok(Target::At(place.copy()?)),
-    }
+    Ok(target.clone()?)
 }

@@ -130,11 +130,7 @@ impl ShellDraft {
 fn copied(alloc: Global, kept: &[Octets]) -> Result<Vec<Octets>, NoMemory>
     ensures { IfOk result (λ copy. copy.items ≡ kept.now) }
 {
-    let mut copy = Vec::with_capacity(alloc, kept.len())?;
-    for output in kept {
-        copy.push(output.copy()?)?;
-    }
-    Ok(copy)
+    Ok(kept.to_vec(alloc)?)
 }
 
 /// What a tick keeps that kept these bytes so far, after this output.
