@@ -118,11 +118,7 @@ fn text_option<'a>(alloc: Global, name: &'a str, value: &'a str, help: &'a str) 
 
 // An option with a value, which may be given again.
 fn list_option<'a>(alloc: Global, name: &'a str, value: &'a str, help: &'a str) -> Arg<'a> {
-    Arg::new(alloc, name)
-        .long(name)
-        .value_name(value)
-        .help(help)
-        .action(ArgAction::Append)
+    text_option(alloc, name, value, help).action(ArgAction::Append)
 }
 
 // An option without a value.
