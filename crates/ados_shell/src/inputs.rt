@@ -1,7 +1,8 @@
 // The input of a command, and the arguments that it is asked for.
 ghost use Rattle.std.specs.Prelude.{◌≡◌};
 ghost use Rattle.ados_items.specs.Items.{IsWithin};
-ghost use Rattle.ados_machine.specs.Prompts.{asks, is_question, is_end, lines_in};
+ghost use Rattle.ados_machine.specs.Prompts.{asks, is_question, lines_in};
+ghost use Rattle.ados_flow.specs.Gathering.{is_end};
 ghost use Rattle.ados_find.specs.Targets.{read_by, target_of};
 ghost use Rattle.ados_ram.specs.FileOperations.{read_result};
 ghost use Rattle.ados_text.specs.Stop.{Gives};
