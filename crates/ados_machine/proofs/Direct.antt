@@ -19,14 +19,15 @@ use Rattle.ados_machine.specs.declared.phases.Wait.{Wait}
 use Rattle.ados_machine.specs.declared.phases.Wait.TheVariants.{ForAnswer, ForLines, ForStart, ForPiece, ForEnd}
 use Rattle.ados_machine.specs.Sinks.{newest_sink}
 use Rattle.ados_machine.specs.Completions.{Here, Completion, Passes, Answers, Jumps, Calls, Ticks, Waits, course_of}
+use Rattle.ados_machine.specs.Answers.{answered_completion}
 use Rattle.ados_machine.specs.Lines.{line_completion, parted_completion, answer_completion}
 use Rattle.ados_machine.specs.NewShells.{gathered_completion}
 use Rattle.ados_machine.specs.Items.{broken_codes}
 use Rattle.ados_machine.specs.Breaks.{has_script}
 use Rattle.ados_machine.specs.Settled.{RuleState, RuleResult, after_break, end_at_break, with_limit, finish, pass_line, finish_with_fault, with_fault_line, newest_kept}
 use Rattle.ados_machine.specs.Settle.{here_of, frames_at_line, code_rule_of}
-use Rattle.ados_machine.specs.Whole.{record_at, report_of, report_broken, with_report, after_broken, common_without_flag, Broken, Common, common_after_event, Whole, Done, Late, Short, says, here_at, start_at, after_answer, after_own_answer, after_call, after_tick, after_completion, common_with_tick, common_without_tick, reply_of, completion_of, script_at, tick_at}
-use Rattle.ados_machine.specs.LoneShell.{turn_at, waits, lines}
+use Rattle.ados_machine.specs.Whole.{record_at, report_of, report_broken, with_report, after_broken, common_without_flag, Broken, Common, common_after_event, Whole, Done, Late, Short, remainder, Configuration, configuration, says, here_at, start_at, after_answer, after_own_answer, after_call, after_tick, after_completion, common_with_tick, common_without_tick, reply_of, completion_of, script_at, tick_at}
+use Rattle.ados_machine.specs.LoneShell.{turn_at, waits, at_next_line, lines}
 use Rattle.ados_machine.proofs.Alone.{Go, line_event, start_in, turn_event, Lone, go_by, does, completion_event, exec}
 use Rattle.ados_machine.proofs.DirectStates.{ended, breaking, AgreesBy, at_of, AgreesAt, here-is, weaker, lines-over, there}
 
@@ -34,11 +35,11 @@ use Rattle.ados_machine.proofs.DirectStates.{ended, breaking, AgreesBy, at_of, A
 passed-agrees : (k gas : ℕ) → AgreesAt k gas →
     (n : ℕ) (answers : List Reply) (common : Common) (frame : FrameState) (frames : List FrameState) → n < gas →
     AgreesBy n (go_by k (exec k n answers) common (pass_line (frame ∷ frames) common.said))
-    (lines k gas n answers common (at_of k frame frames) None)
+    (lines gas (remainder n answers) (configuration common (at_of k frame frames)) None)
     (ended k frame frames) (breaking k frame frames) (script_count (frame ∷ frames))
 passed-agrees k gas ih n answers common frame frames lt =
     elim (cases_Bool (is_over frame)) [
-      | inl e ↦ rw (e, lines-over k gas n answers common (at_of k frame frames) lt e) (omega arith, refl)
+      | inl e ↦ rw (e, lines-over gas n answers common (at_of k frame frames) lt e) (omega arith, refl)
       | inr e ↦ rw e (ih n answers common frame frames None lt e)
     ]
 
@@ -47,11 +48,11 @@ answer-agrees : (k gas : ℕ) → AgreesAt k gas →
     (n : ℕ) (answers : List Reply) (common : Common) (frame : FrameState) (frames : List FrameState)
     (word : Text) (answer : Codes) (quits : Bool) → n < gas →
     AgreesBy n (go_by k (exec k n answers) common (finish word answer quits (frame ∷ frames) common.said))
-    (after_answer (lines k gas) n answers common (at_of k frame frames) word answer quits)
+    (after_answer (lines gas) (remainder n answers) (configuration common (at_of k frame frames)) word answer quits)
     (ended k frame frames) (breaking k frame frames) (script_count (frame ∷ frames))
 answer-agrees k gas ih n answers common frame frames word answer quits lt =
     elim (cases_Bool (is_over frame)) [
-      | inl e ↦ rw (e, lines-over k gas n answers (says word answer common) (record (at_of k frame frames) { last = Some (record_at (at_of k frame frames) answer common) }) lt e)
+      | inl e ↦ rw (e, lines-over gas n answers (says word answer common) (record (at_of k frame frames) { last = Some (record_at (at_of k frame frames) answer common) }) lt e)
           (over (is_script frame.kind && (quits || is_reached common.said.parts.limit answer.code)))
       | inr e ↦ elim (cases_Bool (is_script frame.kind && (quits || is_reached common.said.parts.limit answer.code))) [
         | inl f ↦ rw (e, f) (omega arith, refl)
@@ -72,7 +73,7 @@ finished-agrees : (k gas : ℕ) → AgreesAt k gas →
     (n : ℕ) (answers : List Reply) (common : Common) (frame : FrameState) (frames : List FrameState)
     (word : Text) (answer : Codes) (quits : Bool) → n < gas →
     AgreesBy n (go_by k (exec k n answers) common (finish_with_fault word answer quits (frame ∷ frames) common.said))
-    (after_own_answer (lines k gas) n answers common (at_of k frame frames) word answer quits)
+    (after_own_answer (lines gas) (remainder n answers) (configuration common (at_of k frame frames)) word answer quits)
     (ended k frame frames) (breaking k frame frames) (script_count (frame ∷ frames))
 finished-agrees k gas ih n answers common frame frames word answer quits lt =
     answer-agrees k gas ih n answers (record common { said = with_fault_line word answer.result2 common.said }) frame frames word answer quits lt
@@ -82,7 +83,7 @@ jumped-agrees : (k gas : ℕ) → AgreesAt k gas →
     (n : ℕ) (answers : List Reply) (common : Common) (frame : FrameState) (frames : List FrameState)
     (word : Text) (answer : Codes) (line : ℕ) → n < gas →
     AgreesBy n (go_by k (exec k n answers) common (finish_with_fault word answer false (frames_at_line line (frame ∷ frames)) common.said))
-    (after_own_answer (lines k gas) n answers common (at_of k (frame_at_line line frame) frames) word answer false)
+    (after_own_answer (lines gas) (remainder n answers) (configuration common (at_of k (frame_at_line line frame) frames)) word answer false)
     (ended k frame frames) (breaking k frame frames) (script_count (frame ∷ frames))
 jumped-agrees k gas ih n answers common frame frames word answer line lt =
     finished-agrees k gas ih n answers common (frame_at_line line frame) frames word answer false lt
@@ -97,9 +98,9 @@ some-script zero e = cc
 some-script (suc m) e = (m, refl)
 
 turn-agrees : (k n : ℕ) (answers : List Reply) (common : Common) (frame : FrameState) (frames : List FrameState)
-    (work : Common → Lone) (meaning : Common → Whole) →
-    AgreesBy (suc n) (work (common_without_flag common)) (meaning (common_without_flag common)) (ended k frame frames) (breaking k frame frames) (script_count (frame ∷ frames)) →
-    AgreesBy (suc n) (turn_event k (exec k n answers) (frame ∷ frames) common work) (turn_at n answers common (at_of k frame frames) meaning) (ended k frame frames) (breaking k frame frames) (script_count (frame ∷ frames))
+    (work : Common → Lone) (meaning : Configuration → Whole) →
+    AgreesBy (suc n) (work (common_without_flag common)) (meaning (configuration (common_without_flag common) (at_of k frame frames))) (ended k frame frames) (breaking k frame frames) (script_count (frame ∷ frames)) →
+    AgreesBy (suc n) (turn_event k (exec k n answers) (frame ∷ frames) common work) (turn_at (remainder n answers) (configuration common (at_of k frame frames)) meaning) (ended k frame frames) (breaking k frame frames) (script_count (frame ∷ frames))
 turn-agrees k n answers common frame frames work meaning h =
     elim (cases_Bool (common.flagged && has_script (frame ∷ frames))) [
       | inl e ↦ rw e (omega arith, some-script (script_count (frame ∷ frames)) (and_parts common.flagged (has_script (frame ∷ frames)) e).1, refl)
@@ -110,7 +111,7 @@ turn-agrees k n answers common frame frames work meaning h =
 break-agrees : (k gas : ℕ) → AgreesAt k gas → (m n : ℕ) (answers : List Reply) (common : Common) (frame : FrameState) (frames : List FrameState)
     (name word : Text) (limit : Code) → n < gas → script_count (frame ∷ frames) ≡ m →
     AgreesBy n (go_by k (exec k n answers) common (after_break m (Script name word) limit (end_at_break (frame ∷ frames) common.said) (frame ∷ frames) common.said))
-    (after_broken (lines k gas) n answers common (at_of k frame frames) limit word m)
+    (after_broken (lines gas) (remainder n answers) (configuration common (at_of k frame frames)) limit word m)
     (ended k frame frames) (breaking k frame frames) (script_count (frame ∷ frames))
 break-agrees k gas ih zero n answers common frame frames name word limit lt e =
     let limited : Common = record common { said = with_limit (limit_above_frames (frame ∷ frames) limit) common.said } in
@@ -121,15 +122,15 @@ break-agrees k gas ih (suc m) n answers common frame frames name word limit lt e
 call-agrees : (k gas : ℕ) → AgreesAt k gas → (n : ℕ) (exec : Lone) (meaning : Whole) (frame : FrameState) (frames : List FrameState)
     (name word : Text) (commands : List Text) (limit : Code) (output : Option Target) → n < gas →
     AgreesBy n exec meaning (ended k (new_frame (Script name word) commands limit output) (frame ∷ frames)) (breaking k (new_frame (Script name word) commands limit output) (frame ∷ frames)) (script_count (new_frame (Script name word) commands limit output ∷ frame ∷ frames)) →
-    AgreesBy n exec (after_call (lines k gas) (at_of k frame frames) limit name word meaning) (ended k frame frames) (breaking k frame frames) (script_count (frame ∷ frames))
+    AgreesBy n exec (after_call (lines gas) (at_of k frame frames) limit name word meaning) (ended k frame frames) (breaking k frame frames) (script_count (frame ∷ frames))
 call-agrees k gas ih n exec (Late answers) frame frames name word commands limit output lt h = h
 call-agrees k gas ih n exec Short frame frames name word commands limit output lt h = h
 call-agrees k gas ih n exec (Broken left answers last common) frame frames name word commands limit output lt h =
-    rw h.2 (weaker left n _ (after_broken (lines k gas) left answers (with_report (report_broken k name last) common) (at_of k frame frames) limit word (script_count (frame ∷ frames))) (ended k frame frames) (breaking k frame frames) (script_count (frame ∷ frames))
+    rw h.2 (weaker left n _ (after_broken (lines gas) (remainder left answers) (configuration (with_report (report_broken k name last) common) (at_of k frame frames)) limit word (script_count (frame ∷ frames))) (ended k frame frames) (breaking k frame frames) (script_count (frame ∷ frames))
     h.0 (break-agrees k gas ih (script_count (frame ∷ frames)) left answers (with_report (report_broken k name last) common) frame frames name word limit (omega (arith, h.0)) refl))
 call-agrees k gas ih n exec (Done left answers last common) frame frames name word commands limit output lt h =
     let limited : Common = record (with_report (report_of k name last) common) { said = with_limit (limit_above_frames (frame ∷ frames) limit) common.said } in
-    rw h.1 (weaker left n _ (after_answer (lines k gas) left answers limited (at_of k frame frames) word (last_codes last) false)
+    rw h.1 (weaker left n _ (after_answer (lines gas) (remainder left answers) (configuration limited (at_of k frame frames)) word (last_codes last) false)
     (ended k frame frames) (breaking k frame frames) (script_count (frame ∷ frames)) h.0
     (answer-agrees k gas ih left answers limited frame frames word (last_codes last) false (omega (arith, h.0))))
 
@@ -141,7 +142,7 @@ after-some n m kind limit further frames said e = rw e refl
 tick-agrees : (k gas : ℕ) → AgreesAt k gas → (n : ℕ) (exec : Lone) (meaning : Whole) (frame : FrameState) (frames : List FrameState)
     (before after : Text) (commands : List Text) (limit : Code) → n < gas →
     AgreesBy n exec meaning (ended k (new_frame (Tick before after) commands limit None) (frame ∷ frames)) (breaking k (new_frame (Tick before after) commands limit None) (frame ∷ frames)) (script_count (new_frame (Tick before after) commands limit None ∷ frame ∷ frames)) →
-    AgreesBy n exec (after_tick (lines k gas) (at_of k frame frames) before after meaning) (ended k frame frames) (breaking k frame frames) (script_count (frame ∷ frames))
+    AgreesBy n exec (after_tick (lines gas) (at_of k frame frames) before after meaning) (ended k frame frames) (breaking k frame frames) (script_count (frame ∷ frames))
 tick-agrees k gas ih n exec (Late answers) frame frames before after commands limit lt h = h
 tick-agrees k gas ih n exec Short frame frames before after commands limit lt h = h
 tick-agrees k gas ih n exec (Broken left answers last common) frame frames before after commands limit lt h = (
@@ -152,20 +153,20 @@ tick-agrees k gas ih n exec (Broken left answers last common) frame frames befor
 )
 tick-agrees k gas ih n exec (Done left answers last common) frame frames before after commands limit lt h =
     let parted : Parted = record { before = before; output = newest_kept common.said.kept; after = after } in
-    rw h.1 (weaker left n _ (lines k gas left answers (common_without_tick common) (at_of k frame frames) (Some parted)) (ended k frame frames) (breaking k frame frames) (script_count (frame ∷ frames)) h.0
+    rw h.1 (weaker left n _ (lines gas (remainder left answers) (configuration (common_without_tick common) (at_of k frame frames)) (Some parted)) (ended k frame frames) (breaking k frame frames) (script_count (frame ∷ frames)) h.0
     (ih left answers (common_without_tick common) frame frames (Some parted) (omega (arith, h.0)) tt))
 
 -- what the shell waits for
-abbrev WaitsAgree : ℕ → ℕ → List Reply → FrameState → List FrameState → (Common → Wait → Whole) → Type 0
+abbrev WaitsAgree : ℕ → ℕ → List Reply → FrameState → List FrameState → (Configuration → Wait → Whole) → Type 0
 WaitsAgree k n answers frame frames further = (common : Common) (wait : Wait) →
-    AgreesBy n (exec k n answers (frame ∷ frames) (Waiting wait) common) (further common wait) (ended k frame frames) (breaking k frame frames) (script_count (frame ∷ frames))
+    AgreesBy n (exec k n answers (frame ∷ frames) (Waiting wait) common) (further (configuration common (at_of k frame frames)) wait) (ended k frame frames) (breaking k frame frames) (script_count (frame ∷ frames))
 
 -- what any completion does
 completion-agrees : (k gas : ℕ) → AgreesAt k gas →
     (n : ℕ) (answers : List Reply) (common : Common) (frame : FrameState) (frames : List FrameState)
-    (further : Common → Wait → Whole) (completion : Completion) → n < gas → WaitsAgree k n answers frame frames further →
+    (further : Configuration → Wait → Whole) (completion : Completion) → n < gas → WaitsAgree k n answers frame frames further →
     AgreesBy n (go_by k (exec k n answers) common (code_rule_of completion (frame ∷ frames) common.said))
-    (after_completion further (lines k gas) n answers common (at_of k frame frames) completion)
+    (after_completion further (lines gas) (remainder n answers) (configuration common (at_of k frame frames)) completion)
     (ended k frame frames) (breaking k frame frames) (script_count (frame ∷ frames))
 completion-agrees k gas ih n answers common frame frames further (Passes course) lt waits =
     passed-agrees k gas ih n answers common frame frames lt
@@ -177,14 +178,14 @@ completion-agrees k gas ih n answers common frame frames further (Calls word out
     elim (cases_Bool (nat_le frame_limit (length (frame ∷ frames)))) [
       | inl e ↦ rw e (finished-agrees k gas ih n answers common frame frames word (fail_codes TOO_MANY_LEVELS) false lt)
       | inr e ↦ rw e (call-agrees k gas ih n _
-          (lines k gas n answers common (script_at (at_of k frame frames) output script) None) frame frames
+          (lines gas (remainder n answers) (configuration common (script_at (at_of k frame frames) output script)) None) frame frames
           script.name word script.script common.said.parts.limit output lt
           (passed-agrees k gas ih n answers common (new_frame (Script script.name word) script.script common.said.parts.limit output)
           (frame ∷ frames) lt))
     ]
 completion-agrees k gas ih n answers common frame frames further (Ticks before command after course) lt waits =
     tick-agrees k gas ih n _
-    (lines k gas n answers (common_with_tick common) (tick_at (at_of k frame frames) command) None) frame frames
+    (lines gas (remainder n answers) (configuration (common_with_tick common) (tick_at (at_of k frame frames) command)) None) frame frames
     before after (command ∷ []) common.said.parts.limit lt
     (ih n answers (common_with_tick common) (new_frame (Tick before after) (command ∷ []) common.said.parts.limit None)
     (frame ∷ frames) None lt refl)
@@ -193,21 +194,21 @@ completion-agrees k gas ih n answers common frame frames further (Waits wait cou
 -- an event that results in a completion
 event-agrees : (k gas : ℕ) → AgreesAt k gas →
     (n : ℕ) (answers : List Reply) (common : Common) (frame : FrameState) (frames : List FrameState)
-    (further : Common → Wait → Whole) (completion : Completion) → n < gas → WaitsAgree k n answers frame frames further →
+    (further : Configuration → Wait → Whole) (completion : Completion) → n < gas → WaitsAgree k n answers frame frames further →
     AgreesBy (suc n) (does k (exec k n answers) (frame ∷ frames) common completion)
-    (completion_of further (lines k gas) n answers common (at_of k frame frames) completion)
+    (completion_of further (lines gas) (remainder n answers) (configuration common (at_of k frame frames)) completion)
     (ended k frame frames) (breaking k frame frames) (script_count (frame ∷ frames))
 event-agrees k gas ih n answers common frame frames further completion lt waits =
     let later = common_after_event common (course_of completion) in
-    weaker n (suc n) _ (after_completion further (lines k gas) n answers later (at_of k frame frames) completion) (ended k frame frames) (breaking k frame frames) (script_count (frame ∷ frames))
+    weaker n (suc n) _ (after_completion further (lines gas) (remainder n answers) (configuration later (at_of k frame frames)) completion) (ended k frame frames) (breaking k frame frames) (script_count (frame ∷ frames))
     (omega arith) (completion-agrees k gas ih n answers later frame frames further completion lt waits)
 
 -- an event that results in the completion of a line
 work-agrees : (k gas : ℕ) → AgreesAt k gas →
     (n : ℕ) (answers : List Reply) (common : Common) (frame : FrameState) (frames : List FrameState)
-    (further : Common → Wait → Whole) (work : Here → Completion) → n < gas → WaitsAgree k n answers frame frames further →
+    (further : Configuration → Wait → Whole) (work : Here → Completion) → n < gas → WaitsAgree k n answers frame frames further →
     AgreesBy (suc n) (does k (exec k n answers) (frame ∷ frames) common (work (here_of (frame ∷ frames))))
-    (completion_of further (lines k gas) n answers common (at_of k frame frames) (work (here_at (at_of k frame frames))))
+    (completion_of further (lines gas) (remainder n answers) (configuration common (at_of k frame frames)) (work (here_at (at_of k frame frames))))
     (ended k frame frames) (breaking k frame frames) (script_count (frame ∷ frames))
 work-agrees k gas ih n answers common frame frames further work lt waits =
     rw (here-is k frame frames)
@@ -216,41 +217,45 @@ work-agrees k gas ih n answers common frame frames further work lt waits =
 -- what an answer does
 reply-agrees : (k gas : ℕ) → AgreesAt k gas →
     (n : ℕ) (answers : List Reply) (common : Common) (frame : FrameState) (frames : List FrameState)
-    (further : Common → Wait → Whole) (completion : Option Completion) → n < gas → WaitsAgree k n answers frame frames further →
+    (further : Configuration → Wait → Whole) (completion : Option Completion) → n < gas → WaitsAgree k n answers frame frames further →
     AgreesBy (suc n) (completion_event k (exec k n answers) (frame ∷ frames) common completion)
-    (reply_of (completion_of further (lines k gas) n answers common (at_of k frame frames)) completion)
+    (reply_of (completion_of further (lines gas) (remainder n answers) (configuration common (at_of k frame frames))) completion)
     (ended k frame frames) (breaking k frame frames) (script_count (frame ∷ frames))
 reply-agrees k gas ih n answers common frame frames further None lt waits = refl
 reply-agrees k gas ih n answers common frame frames further (Some completion) lt waits =
     event-agrees k gas ih n answers common frame frames further completion lt waits
 
+-- what an answer is for it
+abbrev replied : ℕ → Common → FrameState → List FrameState → Wait → Reply → Option Completion
+replied k common frame frames wait reply = answered_completion (newest_sink (frame ∷ frames)) (start_at (configuration common (at_of k frame frames)) (Some wait)) wait reply
+
 -- what the shell waits for, one event each
 waits-agree : (k gas : ℕ) → AgreesAt k gas → (n : ℕ) (answers : List Reply) (frame : FrameState) (frames : List FrameState) → n < gas →
-    WaitsAgree k n answers frame frames (waits k (lines k gas) (at_of k frame frames) n answers)
+    WaitsAgree k n answers frame frames (waits (lines gas) n answers)
 waits-agree k gas ih zero answers frame frames lt common wait = refl
 waits-agree k gas ih (suc n) answers frame frames lt common (ForAnswer asking) =
     turn-agrees k n answers common frame frames
     (λ now. does k (exec k n answers) (frame ∷ frames) now (answer_completion [] asking (here_of (frame ∷ frames)) (start_in k (frame ∷ frames) (Waiting (ForAnswer asking)) now)))
-    (λ now. completion_of (waits k (lines k gas) (at_of k frame frames) n answers) (lines k gas) n answers now (at_of k frame frames) (answer_completion [] asking (here_at (at_of k frame frames)) (start_at k (at_of k frame frames) (Some (ForAnswer asking)) now)))
-    (work-agrees k gas ih n answers (common_without_flag common) frame frames (waits k (lines k gas) (at_of k frame frames) n answers)
-    (λ here. answer_completion [] asking here (start_at k (at_of k frame frames) (Some (ForAnswer asking)) (common_without_flag common))) (omega arith)
+    (λ here. completion_of (waits (lines gas) n answers) (lines gas) (remainder n answers) here (answer_completion [] asking (here_at here.at) (start_at here (Some (ForAnswer asking)))))
+    (work-agrees k gas ih n answers (common_without_flag common) frame frames (waits (lines gas) n answers)
+    (λ here. answer_completion [] asking here (start_at (configuration (common_without_flag common) (at_of k frame frames)) (Some (ForAnswer asking)))) (omega arith)
     (waits-agree k gas ih n answers frame frames (omega arith)))
 waits-agree k gas ih (suc n) answers frame frames lt common (ForLines gathering) =
     turn-agrees k n answers common frame frames
     (λ now. does k (exec k n answers) (frame ∷ frames) now (gathered_completion gathering (newest_sink (frame ∷ frames)) (start_in k (frame ∷ frames) (Waiting (ForLines gathering)) now)))
-    (λ now. completion_of (waits k (lines k gas) (at_of k frame frames) n answers) (lines k gas) n answers now (at_of k frame frames) (gathered_completion gathering (at_of k frame frames).sink (start_at k (at_of k frame frames) (Some (ForLines gathering)) now)))
-    (event-agrees k gas ih n answers (common_without_flag common) frame frames (waits k (lines k gas) (at_of k frame frames) n answers)
-    (gathered_completion gathering (newest_sink (frame ∷ frames)) (start_at k (at_of k frame frames) (Some (ForLines gathering)) (common_without_flag common))) (omega arith)
+    (λ here. completion_of (waits (lines gas) n answers) (lines gas) (remainder n answers) here (gathered_completion gathering here.at.sink (start_at here (Some (ForLines gathering)))))
+    (event-agrees k gas ih n answers (common_without_flag common) frame frames (waits (lines gas) n answers)
+    (gathered_completion gathering (newest_sink (frame ∷ frames)) (start_at (configuration (common_without_flag common) (at_of k frame frames)) (Some (ForLines gathering)))) (omega arith)
     (waits-agree k gas ih n answers frame frames (omega arith)))
 waits-agree k gas ih (suc n) [] frame frames lt common (ForStart starting) = refl
 waits-agree k gas ih (suc n) [] frame frames lt common (ForPiece child) = refl
 waits-agree k gas ih (suc n) [] frame frames lt common (ForEnd child) = refl
 waits-agree k gas ih (suc n) (reply ∷ answers) frame frames lt common (ForStart starting) =
-    reply-agrees k gas ih n answers common frame frames _ _ (omega arith) (waits-agree k gas ih n answers frame frames (omega arith))
+    reply-agrees k gas ih n answers common frame frames (waits (lines gas) n answers) (replied k common frame frames (ForStart starting) reply) (omega arith) (waits-agree k gas ih n answers frame frames (omega arith))
 waits-agree k gas ih (suc n) (reply ∷ answers) frame frames lt common (ForPiece child) =
-    reply-agrees k gas ih n answers common frame frames _ _ (omega arith) (waits-agree k gas ih n answers frame frames (omega arith))
+    reply-agrees k gas ih n answers common frame frames (waits (lines gas) n answers) (replied k common frame frames (ForPiece child) reply) (omega arith) (waits-agree k gas ih n answers frame frames (omega arith))
 waits-agree k gas ih (suc n) (reply ∷ answers) frame frames lt common (ForEnd child) =
-    reply-agrees k gas ih n answers common frame frames _ _ (omega arith) (waits-agree k gas ih n answers frame frames (omega arith))
+    reply-agrees k gas ih n answers common frame frames (waits (lines gas) n answers) (replied k common frame frames (ForEnd child) reply) (omega arith) (waits-agree k gas ih n answers frame frames (omega arith))
 
 -- by the bound: the next line, or the one that continues
 pub agrees : (k gas : ℕ) → AgreesAt k gas
@@ -260,16 +265,16 @@ agrees k (suc gas) zero answers common frame frames None lt next = rw (there fra
 agrees k (suc gas) (suc n) answers common frame frames (Some parted) lt next =
     turn-agrees k n answers common frame frames
     (λ now. does k (exec k n answers) (frame ∷ frames) now (parted_completion parted (here_of (frame ∷ frames)) (start_in k (frame ∷ frames) (GoingOn parted) now)))
-    (λ now. completion_of (waits k (lines k gas) (at_of k frame frames) n answers) (lines k gas) n answers now (at_of k frame frames) (parted_completion parted (here_at (at_of k frame frames)) (start_at k (at_of k frame frames) None now)))
-    (work-agrees k gas (agrees k gas) n answers (common_without_flag common) frame frames (waits k (lines k gas) (at_of k frame frames) n answers)
-    (λ here. parted_completion parted here (start_at k (at_of k frame frames) None (common_without_flag common))) (omega arith)
+    (λ here. completion_of (waits (lines gas) n answers) (lines gas) (remainder n answers) here (parted_completion parted (here_at here.at) (start_at here None)))
+    (work-agrees k gas (agrees k gas) n answers (common_without_flag common) frame frames (waits (lines gas) n answers)
+    (λ here. parted_completion parted here (start_at (configuration (common_without_flag common) (at_of k frame frames)) None)) (omega arith)
     (waits-agree k gas (agrees k gas) n answers frame frames (omega arith)))
 agrees k (suc gas) (suc n) answers common frame frames None lt next =
     let line = get_or frame.lines frame.position [] in
     rw (there frame.lines frame.position next)
     (turn-agrees k n answers common frame frames
     (λ now. line_event k (exec k n answers) frame frames now (Some line))
-    (λ now. completion_of (waits k (lines k gas) (at_of k (advanced_frame frame) frames) n answers) (lines k gas) n answers now (at_of k (advanced_frame frame) frames) (line_completion line (here_at (at_of k (advanced_frame frame) frames)) (start_at k (at_of k frame frames) None now)))
-    (work-agrees k gas (agrees k gas) n answers (common_without_flag common) (advanced_frame frame) frames (waits k (lines k gas) (at_of k (advanced_frame frame) frames) n answers)
-    (λ here. line_completion line here (start_at k (at_of k frame frames) None (common_without_flag common))) (omega arith)
+    (λ here. completion_of (waits (lines gas) n answers) (lines gas) (remainder n answers) (at_next_line here) (line_completion line (here_at (at_next_line here).at) (start_at here None)))
+    (work-agrees k gas (agrees k gas) n answers (common_without_flag common) (advanced_frame frame) frames (waits (lines gas) n answers)
+    (λ here. line_completion line here (start_at (configuration (common_without_flag common) (at_of k frame frames)) None)) (omega arith)
     (waits-agree k gas (agrees k gas) n answers (advanced_frame frame) frames (omega arith))))

@@ -15,7 +15,7 @@ use Rattle.ados_machine.specs.Names.{name_in}
 use Rattle.ados_machine.specs.Settled.{end_at_break, with_limit, after_end, finish}
 use Rattle.ados_machine.specs.Settle.{here_of}
 use Rattle.ados_flow.specs.declared.records.Record.{Record}
-use Rattle.ados_machine.specs.Whole.{Broken, Common, At, Whole, Done, Late, Short, here_at}
+use Rattle.ados_machine.specs.Whole.{Broken, Common, At, Whole, Done, Late, Short, remainder, configuration, here_at}
 use Rattle.ados_machine.specs.LoneShell.{lines}
 use Rattle.ados_machine.proofs.Alone.{with_end, Lone, Going, Unfed, go_by, exec}
 
@@ -76,7 +76,7 @@ abbrev pub AgreesAt : ℕ → ℕ → Type 0
 AgreesAt k gas = (n : ℕ) (answers : List Reply) (common : Common) (frame : FrameState) (frames : List FrameState) (parted : Option Parted) →
     n < gas → HasNext parted frame →
     AgreesBy n (exec k n answers (frame ∷ frames) (phase_of parted) common)
-    (lines k gas n answers common (at_of k frame frames) parted)
+    (lines gas (remainder n answers) (configuration common (at_of k frame frames)) parted)
     (ended k frame frames) (breaking k frame frames) (script_count (frame ∷ frames))
 
 -- a line of the newest frame knows just what one of these lines knows
@@ -97,10 +97,10 @@ weaker m n x (Done left answers last common) next breaks scripts le h = (omega (
 weaker m n x (Broken left answers last common) next breaks scripts le h = (omega (arith, h.0), h.1, h.2)
 
 -- if no line is left that costs nothing
-pub lines-over : (k gas n : ℕ) (answers : List Reply) (common : Common) (at : At) → n < gas → nat_le (length at.lines) at.position ≡ true →
-    lines k gas n answers common at None ≡ Done n answers at.last common
-lines-over k zero n answers common at lt e = absurd (omega arith)
-lines-over k (suc gas) n answers common at lt e = rw (slice_get_past at.lines at.position (leb-true (length at.lines) at.position e)) refl
+pub lines-over : (gas n : ℕ) (answers : List Reply) (common : Common) (at : At) → n < gas → nat_le (length at.lines) at.position ≡ true →
+    lines gas (remainder n answers) (configuration common at) None ≡ Done n answers at.last common
+lines-over zero n answers common at lt e = absurd (omega arith)
+lines-over (suc gas) n answers common at lt e = rw (slice_get_past at.lines at.position (leb-true (length at.lines) at.position e)) refl
 
 pub there : (xs : List Text) (i : ℕ) → nat_le (length xs) i ≡ false → slice_get xs i ≡ Some (get_or xs i [])
 there xs i e = slice_get-get_or xs i [] (leb-false (length xs) i e)

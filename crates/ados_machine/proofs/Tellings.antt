@@ -31,7 +31,7 @@ use Rattle.std.proofs.lemmas.Bool.{cases_Bool, lt-leb}
 use Rattle.std.proofs.Common.{length}
 use Rattle.ados_machine.specs.declared.outs.EndReport.{EndReport}
 use Rattle.ados_machine.specs.Items.{Began, Answered, Ended, Broke, broken_codes, reports_of}
-use Rattle.ados_machine.specs.Whole.{Whole, Done, Broken, Late, Short}
+use Rattle.ados_machine.specs.Whole.{Whole, remainder, configuration, Done, Broken, Late, Short}
 use Rattle.ados_machine.specs.LoneShell.{lines, at_bottom, opened_shell, world_with_opened, first_common}
 use Rattle.ados_machine.specs.Course.{Course, shared_after_event, with_bytes_printed}
 use Rattle.ados_machine.specs.LoneReports.{reports_onto, collect_reports_after, collect_reports_of_reply, collect_next_reports, collect_reports, TellsReports, AloneTellsReports}
@@ -201,6 +201,6 @@ alone-tells n k w command commands answers free =
     let stands : Stands k common = record { above = above; shell = shell; is = opened-stands w k (command ∷ commands) free } in
     let steps : collect_reports k n answers (world_with_opened w k (command ∷ commands)) [] ≡ told_by (exec k n answers (frame ∷ []) Ready common) =
     rw (set-set w.shells (k - 1) (Some shell) (Some shell)) at (told-exec k w n answers (frame ∷ []) Ready common stands) in
-    rw steps (bottom-tells k n frame (lines k (suc n) n answers common (at_bottom k (command ∷ commands)) None)
+    rw steps (bottom-tells k n frame (lines (suc n) (remainder n answers) (configuration common (at_bottom k (command ∷ commands))) None)
     (exec k n answers (frame ∷ []) Ready common) refl
     (agrees k (suc n) n answers common frame [] None (omega arith) (lt-leb (length (command ∷ commands)) 0 (omega arith))))

@@ -12,47 +12,49 @@ use Rattle.ados_machine.specs.Lines.{line_completion, parted_completion, answer_
 use Rattle.ados_machine.specs.NewShells.{gathered_completion}
 use Rattle.ados_machine.specs.Answers.{answered_completion}
 use Rattle.ados_machine.specs.World.{WorldState}
-use Rattle.ados_machine.specs.Whole.{Common, At, Whole, Meaning, here_at, start_at, completion_of, reply_of, common_without_flag, breaks_at, common_after_break, Done, Broken, Late, Short}
+use Rattle.ados_machine.specs.Whole.{Common, At, Whole, Remainder, remainder, Configuration, configuration, Meaning, here_at, start_at, completion_of, reply_of, common_without_flag, breaks_at, common_after_break, Done, Broken, Late, Short}
 
 -- a turn does this, unless it finds the flag in a script
-abbrev pub turn_at : ℕ → List Reply → Common → At → (Common → Whole) → Whole
-turn_at n answers common at work = if breaks_at common at then Broken n answers at.last (common_after_break common) else work (common_without_flag common)
+abbrev pub turn_at : Remainder → Configuration → (Configuration → Whole) → Whole
+turn_at left now work =
+    if breaks_at now then Broken left.events left.answers now.at.last (common_after_break now.common)
+    else work (configuration (common_without_flag now.common) now.at)
 
 -- what it means to wait, one event each: a prompt takes the end of input (and so would a Run that asks for more lines, as none
 -- does in lines); of a program the next answer is taken
-abbrev pub waits : ℕ → Meaning → At → ℕ → List Reply → Common → Wait → Whole
-waits k go at zero answers common wait = Late answers
-waits k go at (suc n) answers common (ForAnswer asking) =
-    turn_at n answers common at
-    (λ now. completion_of (waits k go at n answers) go n answers now at (answer_completion [] asking (here_at at) (start_at k at (Some (ForAnswer asking)) now)))
-waits k go at (suc n) answers common (ForLines gathering) =
-    turn_at n answers common at
-    (λ now. completion_of (waits k go at n answers) go n answers now at (gathered_completion gathering at.sink (start_at k at (Some (ForLines gathering)) now)))
-waits k go at (suc n) [] common wait = Short
-waits k go at (suc n) (reply ∷ answers) common wait =
-    reply_of (completion_of (waits k go at n answers) go n answers common at)
-    (answered_completion at.sink (start_at k at (Some wait) common) wait reply)
+abbrev pub waits : Meaning → ℕ → List Reply → Configuration → Wait → Whole
+waits go zero answers now wait = Late answers
+waits go (suc n) answers now (ForAnswer asking) =
+    turn_at (remainder n answers) now
+    (λ here. completion_of (waits go n answers) go (remainder n answers) here (answer_completion [] asking (here_at here.at) (start_at here (Some (ForAnswer asking)))))
+waits go (suc n) answers now (ForLines gathering) =
+    turn_at (remainder n answers) now
+    (λ here. completion_of (waits go n answers) go (remainder n answers) here (gathered_completion gathering here.at.sink (start_at here (Some (ForLines gathering)))))
+waits go (suc n) [] now wait = Short
+waits go (suc n) (reply ∷ answers) now wait =
+    reply_of (completion_of (waits go n answers) go (remainder n answers) now)
+    (answered_completion now.at.sink (start_at now (Some wait)) wait reply)
 
 -- the place moves on before the command runs
-abbrev pub at_next_line : At → At
-at_next_line at = record at { position = at.position + 1; line = at.position + 1 }
+abbrev pub at_next_line : Configuration → Configuration
+at_next_line now = configuration now.common (record now.at { position = now.at.position + 1; line = now.at.position + 1 })
 
 -- the next line, or the one that continues after its command substitution, takes an event; if no line is left that costs nothing
-abbrev pub next_of : ℕ → Meaning → ℕ → List Reply → Common → At → Option Parted → Option Text → Whole
-next_of k go n answers common at None None = Done n answers at.last common
-next_of k go zero answers common at parted line = Late answers
-next_of k go (suc n) answers common at (Some parted) line =
-    turn_at n answers common at
-    (λ now. completion_of (waits k go at n answers) go n answers now at (parted_completion parted (here_at at) (start_at k at None now)))
-next_of k go (suc n) answers common at None (Some line) =
-    turn_at n answers common at
-    (λ now. completion_of (waits k go (at_next_line at) n answers) go n answers now (at_next_line at)
-    (line_completion line (here_at (at_next_line at)) (start_at k at None now)))
+abbrev pub next_of : Meaning → ℕ → List Reply → Configuration → Option Parted → Option Text → Whole
+next_of go n answers now None None = Done n answers now.at.last now.common
+next_of go zero answers now parted line = Late answers
+next_of go (suc n) answers now (Some parted) line =
+    turn_at (remainder n answers) now
+    (λ here. completion_of (waits go n answers) go (remainder n answers) here (parted_completion parted (here_at here.at) (start_at here None)))
+next_of go (suc n) answers now None (Some line) =
+    turn_at (remainder n answers) now
+    (λ here. completion_of (waits go n answers) go (remainder n answers) (at_next_line here)
+    (line_completion line (here_at (at_next_line here).at) (start_at here None)))
 
--- what lines mean in the shell of a number, by a bound on how deep the calls go, which the events left never exceed
-abbrev pub lines : ℕ → ℕ → Meaning
-lines k zero n answers common at parted = Late answers
-lines k (suc gas) n answers common at parted = next_of k (lines k gas) n answers common at parted (slice_get at.lines at.position)
+-- what lines mean, by a bound on how deep the calls go, which the events left never exceed
+abbrev pub lines : ℕ → Meaning
+lines zero left now parted = Late left.answers
+lines (suc gas) left now parted = next_of (lines gas) left.events left.answers now parted (slice_get now.at.lines now.at.position)
 
 -- where the lines of a shell begin
 abbrev pub at_bottom : ℕ → List Text → At
@@ -91,4 +93,4 @@ first_common w k commands = record {
 
 -- the direct meaning of lines in a shell that is opened in a world and runs alone, with n events and these answers
 abbrev pub whole : ℕ → ℕ → WorldState → List Text → List Reply → Whole
-whole n k w commands answers = lines k (suc n) n answers (first_common w k commands) (at_bottom k commands) None
+whole n k w commands answers = lines (suc n) (remainder n answers) (configuration (first_common w k commands) (at_bottom k commands)) None

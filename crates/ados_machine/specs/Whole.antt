@@ -1,5 +1,6 @@
--- The meaning of lines that run alone in a shell, by direct recursion: no frames, no phases.
-use Rattle.std.specs.Prelude.{nat_lt, ℕ, zero, suc, ◌-◌, List, [], ◌∷◌, ◌++◌, Bool, true, false, ◌&&◌, ◌||◌, nat_le, Option, Some, None, slice_set, codes, if◌then◌else◌}
+-- The meaning of lines that run alone in a shell, by direct recursion: no frames, no phases. Where a function takes `go`, that is
+-- what the lines mean from here on.
+use Rattle.std.specs.Prelude.{nat_lt, ℕ, zero, suc, ◌-◌, List, [], ◌∷◌, ◌++◌, Bool, true, false, ◌&&◌, ◌||◌, nat_le, Option, Some, None, slice_set, if◌then◌else◌}
 use Rattle.ados_text.specs.Text.{Text}
 use Rattle.ados_text.specs.declared.codes.Code.{Code}
 use Rattle.ados_text.specs.declared.codes.TheConstants.Result2.{TOO_MANY_LEVELS}
@@ -65,12 +66,26 @@ pub data Whole : Type 0 where
   Late : (answers : List Reply) → Whole
   Short : Whole
 
--- it depends on the events left, the answers, what is passed on, where the lines are, and a line that continues after its
--- command substitution. The functions below take these in this order, as `n`, `answers`, `common` and `at`, after `go`: what the lines
--- mean from here on. `go` is the recursion, given as an argument, with a bound on its depth that the events left never exceed
--- (`lines` in LoneShell).
+-- what is left of a run: this many events, and these answers
+pub record Remainder : Type 0 where
+  pub events : ℕ
+  pub answers : List Reply
+
+abbrev pub remainder : ℕ → List Reply → Remainder
+remainder n answers = record { events = n; answers = answers }
+
+-- where lines are, and what they pass on
+pub record Configuration : Type 0 where
+  pub common : Common
+  pub at : At
+
+abbrev pub configuration : Common → At → Configuration
+configuration common at = record { common = common; at = at }
+
+-- what lines mean, also by a line that continues after its command substitution. As `go` it is the recursion, given as an argument,
+-- with a bound on its depth that the events left never exceed (`lines` in LoneShell).
 abbrev pub Meaning : Type 0
-Meaning = ℕ → List Reply → Common → At → Option Parted → Whole
+Meaning = Remainder → Configuration → Option Parted → Whole
 
 -- no lines may be deeper
 abbrev pub is_deepest : At → Bool
@@ -110,19 +125,19 @@ seen_at at wait directory = record {
   name = name_at at.name wait;
 }
 
--- an event of the shell of a number begins, which waits for something or for nothing
-abbrev pub start_at : ℕ → At → Option Wait → Common → Course
-start_at k at wait common = record {
-  parts = common.said.parts;
-  kept = common.said.kept;
-  shared = common.shared;
-  seen = slice_set (seen_shells common.shells) (k - 1) (Some (seen_at at wait common.said.parts.directory));
+-- an event of the shell begins, which waits for something or for nothing
+abbrev pub start_at : Configuration → Option Wait → Course
+start_at now wait = record {
+  parts = now.common.said.parts;
+  kept = now.common.said.kept;
+  shared = now.common.shared;
+  seen = slice_set (seen_shells now.common.shells) (now.at.shell - 1) (Some (seen_at now.at wait now.common.said.parts.directory));
   printed = [];
   renamed = None;
   begun = None;
   used = [];
   breaking = None;
-  flagged = common.flagged;
+  flagged = now.common.flagged;
 }
 
 -- a current directory moves with what was moved, if anything was
@@ -154,15 +169,16 @@ abbrev pub record_at : At → Codes → Common → Record
 record_at at answer common = record { line = at.line; codes = answer; limit = common.said.parts.limit }
 
 -- a command of these lines returned: a script ends here at its limit, or if it quits; other lines continue
-abbrev pub after_answer : Meaning → ℕ → List Reply → Common → At → Text → Codes → Bool → Whole
-after_answer go n answers common at word answer quits =
-    if at.in_script && (quits || is_reached common.said.parts.limit answer.code) then Done n answers (Some (record_at at answer common)) (says word answer common)
-    else go n answers (says word answer common) (record at { last = Some (record_at at answer common) }) None
+abbrev pub after_answer : Meaning → Remainder → Configuration → Text → Codes → Bool → Whole
+after_answer go left now word answer quits =
+    if now.at.in_script && (quits || is_reached now.common.said.parts.limit answer.code)
+    then Done left.events left.answers (Some (record_at now.at answer now.common)) (says word answer now.common)
+    else go left (configuration (says word answer now.common) (record now.at { last = Some (record_at now.at answer now.common) })) None
 
 -- the same if the command did its work itself: the text of its fault is printed first, which that of a script was already
-abbrev pub after_own_answer : Meaning → ℕ → List Reply → Common → At → Text → Codes → Bool → Whole
-after_own_answer go n answers common at word answer quits =
-    after_answer go n answers (record common { said = with_fault_line word answer.result2 common.said }) at word answer quits
+abbrev pub after_own_answer : Meaning → Remainder → Configuration → Text → Codes → Bool → Whole
+after_own_answer go left now word answer quits =
+    after_answer go left (configuration (record now.common { said = with_fault_line word answer.result2 now.common.said }) now.at) word answer quits
 
 -- where a script's lines begin, and those of a command substitution
 abbrev pub script_at : At → Option Target → Called → At
@@ -218,19 +234,21 @@ with_report report common = record common { reports = report ∷ common.reports 
 
 -- after a script that ended at a break, with this many scripts at or below these lines: after the outermost one the command
 -- that called it returns 10 and 304, and otherwise these lines end too, at the same break
-abbrev pub after_broken : Meaning → ℕ → List Reply → Common → At → Code → Text → ℕ → Whole
-after_broken go n answers common at limit word zero =
-    after_answer go n answers (record common { said = with_limit (limit_above_scripts at.scripts limit) common.said }) at word broken_codes false
-after_broken go n answers common at limit word (suc scripts) = Broken n answers at.last common
+abbrev pub after_broken : Meaning → Remainder → Configuration → Code → Text → ℕ → Whole
+after_broken go left now limit word zero =
+    after_answer go left (configuration (record now.common { said = with_limit (limit_above_scripts now.at.scripts limit) now.common.said }) now.at)
+    word broken_codes false
+after_broken go left now limit word (suc scripts) = Broken left.events left.answers now.at.last now.common
 
 -- after a script: it is reported, the limit of its beginning is restored, or 10 if no script is left; its last codes are
 -- the return of the command that called it
 abbrev pub after_call : Meaning → At → Code → Text → Text → Whole → Whole
 after_call go at limit name word (Done n answers last common) =
-    after_answer go n answers (record (with_report (report_of at.shell name last) common) { said = with_limit (limit_above_scripts at.scripts limit) common.said })
-    at word (last_codes last) false
+    after_answer go (remainder n answers)
+    (configuration (record (with_report (report_of at.shell name last) common) { said = with_limit (limit_above_scripts at.scripts limit) common.said }) at)
+    word (last_codes last) false
 after_call go at limit name word (Broken n answers last common) =
-    after_broken go n answers (with_report (report_broken at.shell name last) common) at limit word at.scripts
+    after_broken go (remainder n answers) (configuration (with_report (report_broken at.shell name last) common) at) limit word at.scripts
 after_call go at limit name word (Late answers) = Late answers
 after_call go at limit name word Short = Short
 
@@ -243,27 +261,29 @@ common_without_tick common = record common { said = without_tick common.said }
 
 abbrev pub after_tick : Meaning → At → Text → Text → Whole → Whole
 after_tick go at before after (Done n answers last common) =
-    go n answers (common_without_tick common) at (Some (record { before = before; output = newest_kept common.said.kept; after = after }))
+    go (remainder n answers) (configuration (common_without_tick common) at)
+    (Some (record { before = before; output = newest_kept common.said.kept; after = after }))
 after_tick go at before after (Broken n answers last common) = Broken n answers at.last (common_without_tick common)
 after_tick go at before after (Late answers) = Late answers
 after_tick go at before after Short = Short
 
 -- what a completion means after its event; `further` is what it means to wait
-abbrev pub after_completion : (Common → Wait → Whole) → Meaning → ℕ → List Reply → Common → At → Completion → Whole
-after_completion further go n answers common at (Passes course) = go n answers common at None
-after_completion further go n answers common at (Answers word answer quits course) = after_own_answer go n answers common at word answer quits
-after_completion further go n answers common at (Jumps word answer line course) =
-    after_own_answer go n answers common (record at { position = line - 1 }) word answer false
-after_completion further go n answers common at (Calls word output called course) =
-    if is_deepest at then after_own_answer go n answers common at word (fail_codes TOO_MANY_LEVELS) false
-    else after_call go at common.said.parts.limit called.name word (go n answers common (script_at at output called) None)
-after_completion further go n answers common at (Ticks before command after course) =
-    after_tick go at before after (go n answers (common_with_tick common) (tick_at at command) None)
-after_completion further go n answers common at (Waits wait course) = further common wait
+abbrev pub after_completion : (Configuration → Wait → Whole) → Meaning → Remainder → Configuration → Completion → Whole
+after_completion further go left now (Passes course) = go left now None
+after_completion further go left now (Answers word answer quits course) = after_own_answer go left now word answer quits
+after_completion further go left now (Jumps word answer line course) =
+    after_own_answer go left (configuration now.common (record now.at { position = line - 1 })) word answer false
+after_completion further go left now (Calls word output called course) =
+    if is_deepest now.at then after_own_answer go left now word (fail_codes TOO_MANY_LEVELS) false
+    else after_call go now.at now.common.said.parts.limit called.name word (go left (configuration now.common (script_at now.at output called)) None)
+after_completion further go left now (Ticks before command after course) =
+    after_tick go now.at before after (go left (configuration (common_with_tick now.common) (tick_at now.at command)) None)
+after_completion further go left now (Waits wait course) = further now wait
 
 -- what a completion means
-abbrev pub completion_of : (Common → Wait → Whole) → Meaning → ℕ → List Reply → Common → At → Completion → Whole
-completion_of further go n answers common at completion = after_completion further go n answers (common_after_event common (course_of completion)) at completion
+abbrev pub completion_of : (Configuration → Wait → Whole) → Meaning → Remainder → Configuration → Completion → Whole
+completion_of further go left now completion =
+    after_completion further go left (configuration (common_after_event now.common (course_of completion)) now.at) completion
 
 -- an answer of another kind is treated as missing
 abbrev pub reply_of : (Completion → Whole) → Option Completion → Whole
@@ -275,8 +295,8 @@ abbrev pub common_without_flag : Common → Common
 common_without_flag common = record common { flagged = false }
 
 -- a turn that finds the flag in a script
-abbrev pub breaks_at : Common → At → Bool
-breaks_at common at = common.flagged && nat_lt 0 at.scripts
+abbrev pub breaks_at : Configuration → Bool
+breaks_at now = now.common.flagged && nat_lt 0 now.at.scripts
 
 abbrev pub common_after_break : Common → Common
 common_after_break common = record common { said = record common.said { printed = common.said.printed ++ break_text }; flagged = false }
