@@ -1,7 +1,6 @@
 -- A turn asks a launcher only for a start, and passes its course on.
 use Rattle.std.proofs.Common.{◌≡◌, ℕ, List, [], ◌∷◌, Bool, true, false, Option, Some, None, refl, inl, inr, slice_get, ◌&&◌, if◌then◌else◌}
 use Rattle.std.proofs.lemmas.Bool.{cases_Bool}
-use Rattle.ados_line.specs.declared.lines.Expanded.TheVariants.{Ready}
 use Rattle.ados_line.specs.Expansion.{expand_raw_line, resume_line}
 use Rattle.ados_flow.specs.Gathering.{before_plus}
 use Rattle.ados_flow.specs.Frames.{FrameState, advanced_frame}

@@ -2,7 +2,6 @@
 use Rattle.std.proofs.Common.{ℕ, List, Option, Some, None, Result, Ok, Err, refl, inl, inr}
 use Rattle.std.proofs.lemmas.Bool.{cases_Bool}
 use Rattle.ados_text.specs.declared.codes.Result2.{Result2}
-use Rattle.ados_line.specs.declared.lines.Expanded.TheVariants.{Ready}
 use Rattle.ados_find.specs.declared.codes.Codes.{Codes}
 use Rattle.ados_find.specs.Parts.{Parts}
 use Rattle.ados_machine.specs.Course.{Course}
