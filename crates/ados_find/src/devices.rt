@@ -43,7 +43,7 @@ impl Shared {
     ) -> Result<(), NoMemory>
         ensures { OnOk result (used.new.items ≡ used.old.items ++ flat_map (reached_devices self.now.assigns) (each to_ascii name.now ∷ [])) }
     {
-        let device = Name::new(Text::from_bytes(alloc, name)?);
+        let device = Name::from_bytes(alloc, name)?;
         self.assigns.push_reached(used, device)
     }
 
