@@ -5,7 +5,6 @@ ghost use Rattle.ados_env.specs.Resident.{entry_line, internal_line, list_line, 
 
 use ados_resident::{Internal, Resident, Residents, count};
 use ados_text::{NoMemory, Text, push_left, push_right};
-use itoa::Buffer;
 use std::alloc::Global;
 
 // The minimum widths of a name and of its state, which is printed after it.
@@ -74,8 +73,7 @@ fn push_entry(
 {
     let name = entry.name.as_bytes();
     if !entry.is_system {
-        let mut buffer = Buffer::new();
-        let state = buffer.format(count(uses, &entry.name));
+        let state = Text::of_number(*output.allocator(), count(uses, &entry.name))?;
         return push_line(output, name, state.as_bytes());
     }
     if !system {
