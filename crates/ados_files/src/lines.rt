@@ -8,8 +8,7 @@ ghost use Rattle.ados_ram.specs.declared.entries.Entry.{Entry};
 ghost use Rattle.ados_files.specs.Lines.{say, keeps, entry_lines, size_text, comment_line, list_line};
 
 use ados_ram::{Bits, Body, Entry, Place, Ram};
-use ados_text::{NoMemory, push_left, push_right};
-use itoa::Buffer;
+use ados_text::{NoMemory, Text, push_left, push_right};
 
 /// Appends a text between two others.
 pub fn put_between(
@@ -92,8 +91,8 @@ fn push_size(output: &mut Vec<u8>, body: &Body) -> Result<(), NoMemory>
     match body {
         Body::Directory => push_right(output, 7, b"Dir"),
         Body::File(bytes) => {
-            let mut buffer = Buffer::new();
-            push_right(output, 7, buffer.format(bytes.as_bytes().len()).as_bytes())
+            let size = Text::of_number(*output.allocator(), bytes.as_bytes().len())?;
+            push_right(output, 7, size.as_bytes())
         }
     }
 }
