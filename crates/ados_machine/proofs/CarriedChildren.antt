@@ -1,9 +1,9 @@
 -- Renames, breaks and shells that begin change neither what a shell asks of a launcher nor its child.
-use Rattle.std.proofs.Common.{◌≡◌, ◌≢◌, ◌∙◌, ℕ, List, Bool, true, false, Option, Some, None, refl, ap, arith, inl, inr}
+use Rattle.std.proofs.Common.{◌≡◌, ◌≢◌, ◌∙◌, ℕ, List, Option, Some, None, refl, ap, arith, inl, inr}
 use Rattle.std.proofs.lemmas.Bool.{cases_eq, cases_Bool}
 use Rattle.ados_find.specs.declared.outcomes.Breaks.{Breaks}
 use Rattle.ados_find.specs.declared.outcomes.Renamed.{Renamed}
-use Rattle.ados_machine.specs.Breaks.{marked_if, shells_after_break}
+use Rattle.ados_machine.specs.Breaks.{shells_after_break}
 use Rattle.ados_machine.specs.declared.children.ChildState.TheVariants.{Closed}
 use Rattle.ados_machine.specs.Phases.{Phase}
 use Rattle.ados_machine.specs.Phases as phase
@@ -18,7 +18,8 @@ use Rattle.ados_machine.specs.Settle.{TurnResult}
 use Rattle.ados_machine.specs.Shells.{ShellStart, begun_shell, ShellState}
 use Rattle.ados_machine.specs.Step.{shell_of_turn, with_begun, is_done, shell_after_turn}
 use Rattle.ados_machine.specs.World.{request_of_shell}
-use Rattle.ados_machine.proofs.Shells.{shells_after, broken_maybe, broken_for, found-broken, found, IsFree, free-number, carried-free, carried_found, found-carried, found-set_other, runs_pos}
+use Rattle.ados_machine.proofs.Shells.{broken-same, carried-same, shells_after, broken_maybe, broken_for, found-broken, found, IsFree, free-number, carried-free, carried_found, found-carried, found-set_other, runs_pos}
+use Rattle.ados_machine.proofs.Marks.{marked-same}
 use Rattle.ados_machine.proofs.Moves.{placed-at}
 use Rattle.ados_machine.proofs.Rests.{IsIdle}
 use Rattle.ados_machine.proofs.AskedTurns.{HandsIn}
@@ -44,18 +45,14 @@ handed-asked from course (phase.Waiting (ForEnd child)) hands = absurd hands
 
 -- carrying keeps what a shell asks for
 pub carried-pending : (renamed : Option Renamed) (o : Option ShellState) → request_of_shell (carried_found renamed o) ≡ request_of_shell o
-carried-pending None o = refl
-carried-pending (Some renamed) None = refl
-carried-pending (Some renamed) (Some shell) = refl
+carried-pending = carried-same request_of_shell (λ moved shell. refl)
 
 pub carried_by-pending : (renamed : Option Renamed) (shell : ShellState) → request_of_shell (Some (carried_or_same renamed shell)) ≡ request_of_shell (Some shell)
 carried_by-pending None shell = refl
 carried_by-pending (Some renamed) shell = refl
 
 carried-child : (renamed : Option Renamed) (o : Option ShellState) → child_of_shell (carried_found renamed o) ≡ child_of_shell o
-carried-child None o = refl
-carried-child (Some renamed) None = refl
-carried-child (Some renamed) (Some shell) = refl
+carried-child = carried-same child_of_shell (λ moved shell. refl)
 
 pub carried_by-child : (renamed : Option Renamed) (shell : ShellState) → child_of_shell (Some (carried_or_same renamed shell)) ≡ child_of_shell (Some shell)
 carried_by-child None shell = refl
@@ -74,35 +71,11 @@ begun-same f fresh shells (Some begun) (Some n) j free =
     ]
 
 -- a break keeps what a shell asks for
-marked-request : (marks : Bool) (n : ℕ) (now : Phase) → request_of n (marked_if marks now) ≡ request_of n now
-marked-request false n now = refl
-marked-request true n phase.Ready = refl
-marked-request true n (phase.GoingOn parted) = refl
-marked-request true n (phase.Waiting (ForAnswer asking)) = refl
-marked-request true n (phase.Waiting (ForLines gathering)) = refl
-marked-request true n (phase.Waiting (ForStart starting)) = refl
-marked-request true n (phase.Waiting (ForPiece child)) = refl
-marked-request true n (phase.Waiting (ForEnd child)) = refl
-
 pub broken-pending : (breaks : Option Breaks) (o : Option ShellState) → request_of_shell (broken_maybe breaks o) ≡ request_of_shell o
-broken-pending None o = refl
-broken-pending (Some breaks) None = refl
-broken-pending (Some breaks) (Some shell) = marked-request breaks.marks shell.parts.number shell.phase
-
-marked-child : (marks : Bool) (now : Phase) → child_during (marked_if marks now) ≡ child_during now
-marked-child false now = refl
-marked-child true phase.Ready = refl
-marked-child true (phase.GoingOn parted) = refl
-marked-child true (phase.Waiting (ForAnswer asking)) = refl
-marked-child true (phase.Waiting (ForLines gathering)) = refl
-marked-child true (phase.Waiting (ForStart starting)) = refl
-marked-child true (phase.Waiting (ForPiece child)) = refl
-marked-child true (phase.Waiting (ForEnd child)) = refl
+broken-pending = broken-same request_of_shell (λ breaks shell. marked-same (request_of shell.parts.number) (λ starting. refl) (λ child. refl) breaks.marks shell.phase)
 
 pub broken-child : (breaks : Option Breaks) (o : Option ShellState) → child_of_shell (broken_maybe breaks o) ≡ child_of_shell o
-broken-child None o = refl
-broken-child (Some breaks) None = refl
-broken-child (Some breaks) (Some shell) = marked-child breaks.marks shell.phase
+broken-child = broken-same child_of_shell (λ breaks shell. marked-same child_during (λ starting. refl) (λ child. refl) breaks.marks shell.phase)
 
 -- what a turn, or an answer, keeps of the other shells
 others-same : {X : Type 0} (f : Option ShellState → X) → ((n : ℕ) (begun : ShellStart) → f (Some (begun_shell n begun)) ≡ f None) →

@@ -30,7 +30,7 @@ use Rattle.ados_machine.specs.Kept.{codes_after_trace, HasAllCodes}
 use Rattle.ados_machine.proofs.Follows.{back, Follows}
 use Rattle.ados_machine.proofs.Turns.{Goes}
 use Rattle.ados_machine.proofs.Turnings.{TurningGoes, flagged-goes, answering-goes}
-use Rattle.ados_machine.proofs.Shells.{broken_maybe, broken_for, found-broken, found, IsFree, free-number, carried-free, carried_found, found-carried, carried-runs, found-set_same, found-set_other, found-left, own-append, own-of_shell_same, own-of_shell_other, place_before, place_within, not_before, runs_pos, slice_get-set_other, slice_get-set_same}
+use Rattle.ados_machine.proofs.Shells.{broken-same, carried-same, broken_maybe, broken_for, found-broken, found, IsFree, free-number, carried-free, carried_found, found-carried, carried-runs, found-set_same, found-set_other, found-left, own-append, own-of_shell_same, own-of_shell_other, place_before, place_within, not_before, runs_pos, slice_get-set_other, slice_get-set_same}
 use Rattle.ados_machine.proofs.Moves.{placed-at, begun-silent}
 use Rattle.ados_machine.proofs.StepCases.{of-step}
 
@@ -83,14 +83,10 @@ carried_by-codes None shell = refl
 carried_by-codes (Some renamed) shell = refl
 
 carried-codes : (renamed : Option Renamed) (o : Option ShellState) (codes : Codes) → shell_codes (carried_found renamed o) codes ≡ shell_codes o codes
-carried-codes None o codes = refl
-carried-codes (Some renamed) None codes = refl
-carried-codes (Some renamed) (Some shell) codes = refl
+carried-codes renamed o codes = carried-same (λ x. shell_codes x codes) (λ moved shell. refl) renamed o
 
 broken-codes : (breaks : Option Breaks) (o : Option ShellState) (codes : Codes) → shell_codes (broken_maybe breaks o) codes ≡ shell_codes o codes
-broken-codes None o codes = refl
-broken-codes (Some breaks) None codes = refl
-broken-codes (Some breaks) (Some shell) codes = refl
+broken-codes breaks o codes = broken-same (λ x. shell_codes x codes) (λ breaks shell. refl) breaks o
 
 begun-codes : (shells : List (Option ShellState)) (begun : Option ShellStart) (n : Option ℕ) (j : ℕ) (codes : Codes) → IsFree shells n →
     shell_codes (found (with_begun begun n shells) j) codes ≡ codes_after_trace (shell_codes (found shells j) codes) (own j (begun_items begun n))

@@ -29,14 +29,13 @@ use Rattle.ados_machine.specs.Settle.{here_of, frames_at_line, code_rule_of}
 use Rattle.ados_machine.specs.Whole.{record_at, report_of, report_broken, with_report, after_broken, common_without_flag, Broken, Common, common_after_event, Whole, Done, Late, Short, remainder, Configuration, configuration, says, here_at, start_at, after_answer, after_own_answer, after_call, after_tick, after_completion, common_with_tick, common_without_tick, reply_of, completion_of, script_at, tick_at}
 use Rattle.ados_machine.specs.LoneShell.{turn_at, waits, at_next_line, lines}
 use Rattle.ados_machine.proofs.Alone.{Go, line_event, start_in, turn_event, Lone, go_by, does, completion_event, exec}
-use Rattle.ados_machine.proofs.DirectStates.{ended, breaking, AgreesBy, at_of, AgreesAt, here-is, weaker, lines-over, there}
+use Rattle.ados_machine.proofs.DirectStates.{ended, breaking, AgreesBy, AgreesHere, at_of, AgreesAt, here-is, weaker, lines-over, there}
 
 -- the newest frame continues, or ends if no line is left
 passed-agrees : (k gas : ℕ) → AgreesAt k gas →
     (n : ℕ) (answers : List Reply) (common : Common) (frame : FrameState) (frames : List FrameState) → n < gas →
-    AgreesBy n (go_by k (exec k n answers) common (pass_line (frame ∷ frames) common.said))
+    AgreesHere k frame frames n (go_by k (exec k n answers) common (pass_line (frame ∷ frames) common.said))
     (lines gas (remainder n answers) (configuration common (at_of k frame frames)) None)
-    (ended k frame frames) (breaking k frame frames) (script_count (frame ∷ frames))
 passed-agrees k gas ih n answers common frame frames lt =
     elim (cases_Bool (is_over frame)) [
       | inl e ↦ rw (e, lines-over gas n answers common (at_of k frame frames) lt e) (omega arith, refl)
@@ -47,9 +46,8 @@ passed-agrees k gas ih n answers common frame frames lt =
 answer-agrees : (k gas : ℕ) → AgreesAt k gas →
     (n : ℕ) (answers : List Reply) (common : Common) (frame : FrameState) (frames : List FrameState)
     (word : Text) (answer : Codes) (quits : Bool) → n < gas →
-    AgreesBy n (go_by k (exec k n answers) common (finish word answer quits (frame ∷ frames) common.said))
+    AgreesHere k frame frames n (go_by k (exec k n answers) common (finish word answer quits (frame ∷ frames) common.said))
     (after_answer (lines gas) (remainder n answers) (configuration common (at_of k frame frames)) word answer quits)
-    (ended k frame frames) (breaking k frame frames) (script_count (frame ∷ frames))
 answer-agrees k gas ih n answers common frame frames word answer quits lt =
     elim (cases_Bool (is_over frame)) [
       | inl e ↦ rw (e, lines-over gas n answers (says word answer common) (record (at_of k frame frames) { last = Some (record_at (at_of k frame frames) answer common) }) lt e)
@@ -62,19 +60,17 @@ answer-agrees k gas ih n answers common frame frames word answer quits lt =
     ]
   where
     over : (early : Bool) →
-        AgreesBy n (ended k frame frames n answers (Some (record_at (at_of k frame frames) answer common)) (says word answer common))
+        AgreesHere k frame frames n (ended k frame frames n answers (Some (record_at (at_of k frame frames) answer common)) (says word answer common))
         (if early then Done n answers (Some (record_at (at_of k frame frames) answer common)) (says word answer common)
         else Done n answers (Some (record_at (at_of k frame frames) answer common)) (says word answer common))
-        (ended k frame frames) (breaking k frame frames) (script_count (frame ∷ frames))
     over true = (omega arith, refl)
     over false = (omega arith, refl)
 
 finished-agrees : (k gas : ℕ) → AgreesAt k gas →
     (n : ℕ) (answers : List Reply) (common : Common) (frame : FrameState) (frames : List FrameState)
     (word : Text) (answer : Codes) (quits : Bool) → n < gas →
-    AgreesBy n (go_by k (exec k n answers) common (finish_with_fault word answer quits (frame ∷ frames) common.said))
+    AgreesHere k frame frames n (go_by k (exec k n answers) common (finish_with_fault word answer quits (frame ∷ frames) common.said))
     (after_own_answer (lines gas) (remainder n answers) (configuration common (at_of k frame frames)) word answer quits)
-    (ended k frame frames) (breaking k frame frames) (script_count (frame ∷ frames))
 finished-agrees k gas ih n answers common frame frames word answer quits lt =
     answer-agrees k gas ih n answers (record common { said = with_fault_line word answer.result2 common.said }) frame frames word answer quits lt
 
@@ -82,9 +78,8 @@ finished-agrees k gas ih n answers common frame frames word answer quits lt =
 jumped-agrees : (k gas : ℕ) → AgreesAt k gas →
     (n : ℕ) (answers : List Reply) (common : Common) (frame : FrameState) (frames : List FrameState)
     (word : Text) (answer : Codes) (line : ℕ) → n < gas →
-    AgreesBy n (go_by k (exec k n answers) common (finish_with_fault word answer false (frames_at_line line (frame ∷ frames)) common.said))
+    AgreesHere k frame frames n (go_by k (exec k n answers) common (finish_with_fault word answer false (frames_at_line line (frame ∷ frames)) common.said))
     (after_own_answer (lines gas) (remainder n answers) (configuration common (at_of k (frame_at_line line frame) frames)) word answer false)
-    (ended k frame frames) (breaking k frame frames) (script_count (frame ∷ frames))
 jumped-agrees k gas ih n answers common frame frames word answer line lt =
     finished-agrees k gas ih n answers common (frame_at_line line frame) frames word answer false lt
 
@@ -99,8 +94,8 @@ some-script (suc m) e = (m, refl)
 
 turn-agrees : (k n : ℕ) (answers : List Reply) (common : Common) (frame : FrameState) (frames : List FrameState)
     (work : Common → Lone) (meaning : Configuration → Whole) →
-    AgreesBy (suc n) (work (common_without_flag common)) (meaning (configuration (common_without_flag common) (at_of k frame frames))) (ended k frame frames) (breaking k frame frames) (script_count (frame ∷ frames)) →
-    AgreesBy (suc n) (turn_event k (exec k n answers) (frame ∷ frames) common work) (turn_at (remainder n answers) (configuration common (at_of k frame frames)) meaning) (ended k frame frames) (breaking k frame frames) (script_count (frame ∷ frames))
+    AgreesHere k frame frames (suc n) (work (common_without_flag common)) (meaning (configuration (common_without_flag common) (at_of k frame frames))) →
+    AgreesHere k frame frames (suc n) (turn_event k (exec k n answers) (frame ∷ frames) common work) (turn_at (remainder n answers) (configuration common (at_of k frame frames)) meaning)
 turn-agrees k n answers common frame frames work meaning h =
     elim (cases_Bool (common.flagged && has_script (frame ∷ frames))) [
       | inl e ↦ rw e (omega arith, some-script (script_count (frame ∷ frames)) (and_parts common.flagged (has_script (frame ∷ frames)) e).1, refl)
@@ -110,9 +105,8 @@ turn-agrees k n answers common frame frames work meaning h =
 -- after a script that ended at a break
 break-agrees : (k gas : ℕ) → AgreesAt k gas → (m n : ℕ) (answers : List Reply) (common : Common) (frame : FrameState) (frames : List FrameState)
     (name word : Text) (limit : Code) → n < gas → script_count (frame ∷ frames) ≡ m →
-    AgreesBy n (go_by k (exec k n answers) common (after_break m (Script name word) limit (end_at_break (frame ∷ frames) common.said) (frame ∷ frames) common.said))
+    AgreesHere k frame frames n (go_by k (exec k n answers) common (after_break m (Script name word) limit (end_at_break (frame ∷ frames) common.said) (frame ∷ frames) common.said))
     (after_broken (lines gas) (remainder n answers) (configuration common (at_of k frame frames)) limit word m)
-    (ended k frame frames) (breaking k frame frames) (script_count (frame ∷ frames))
 break-agrees k gas ih zero n answers common frame frames name word limit lt e =
     let limited : Common = record common { said = with_limit (limit_above_frames (frame ∷ frames) limit) common.said } in
     answer-agrees k gas ih n answers limited frame frames word broken_codes false lt
@@ -122,7 +116,7 @@ break-agrees k gas ih (suc m) n answers common frame frames name word limit lt e
 call-agrees : (k gas : ℕ) → AgreesAt k gas → (n : ℕ) (exec : Lone) (meaning : Whole) (frame : FrameState) (frames : List FrameState)
     (name word : Text) (commands : List Text) (limit : Code) (output : Option Target) → n < gas →
     AgreesBy n exec meaning (ended k (new_frame (Script name word) commands limit output) (frame ∷ frames)) (breaking k (new_frame (Script name word) commands limit output) (frame ∷ frames)) (script_count (new_frame (Script name word) commands limit output ∷ frame ∷ frames)) →
-    AgreesBy n exec (after_call (lines gas) (at_of k frame frames) limit name word meaning) (ended k frame frames) (breaking k frame frames) (script_count (frame ∷ frames))
+    AgreesHere k frame frames n exec (after_call (lines gas) (at_of k frame frames) limit name word meaning)
 call-agrees k gas ih n exec (Late answers) frame frames name word commands limit output lt h = h
 call-agrees k gas ih n exec Short frame frames name word commands limit output lt h = h
 call-agrees k gas ih n exec (Broken left answers last common) frame frames name word commands limit output lt h =
@@ -142,7 +136,7 @@ after-some n m kind limit further frames said e = rw e refl
 tick-agrees : (k gas : ℕ) → AgreesAt k gas → (n : ℕ) (exec : Lone) (meaning : Whole) (frame : FrameState) (frames : List FrameState)
     (before after : Text) (commands : List Text) (limit : Code) → n < gas →
     AgreesBy n exec meaning (ended k (new_frame (Tick before after) commands limit None) (frame ∷ frames)) (breaking k (new_frame (Tick before after) commands limit None) (frame ∷ frames)) (script_count (new_frame (Tick before after) commands limit None ∷ frame ∷ frames)) →
-    AgreesBy n exec (after_tick (lines gas) (at_of k frame frames) before after meaning) (ended k frame frames) (breaking k frame frames) (script_count (frame ∷ frames))
+    AgreesHere k frame frames n exec (after_tick (lines gas) (at_of k frame frames) before after meaning)
 tick-agrees k gas ih n exec (Late answers) frame frames before after commands limit lt h = h
 tick-agrees k gas ih n exec Short frame frames before after commands limit lt h = h
 tick-agrees k gas ih n exec (Broken left answers last common) frame frames before after commands limit lt h = (
@@ -159,15 +153,14 @@ tick-agrees k gas ih n exec (Done left answers last common) frame frames before 
 -- what the shell waits for
 abbrev WaitsAgree : ℕ → ℕ → List Reply → FrameState → List FrameState → (Configuration → Wait → Whole) → Type 0
 WaitsAgree k n answers frame frames further = (common : Common) (wait : Wait) →
-    AgreesBy n (exec k n answers (frame ∷ frames) (Waiting wait) common) (further (configuration common (at_of k frame frames)) wait) (ended k frame frames) (breaking k frame frames) (script_count (frame ∷ frames))
+    AgreesHere k frame frames n (exec k n answers (frame ∷ frames) (Waiting wait) common) (further (configuration common (at_of k frame frames)) wait)
 
 -- what any completion does
 completion-agrees : (k gas : ℕ) → AgreesAt k gas →
     (n : ℕ) (answers : List Reply) (common : Common) (frame : FrameState) (frames : List FrameState)
     (further : Configuration → Wait → Whole) (completion : Completion) → n < gas → WaitsAgree k n answers frame frames further →
-    AgreesBy n (go_by k (exec k n answers) common (code_rule_of completion (frame ∷ frames) common.said))
+    AgreesHere k frame frames n (go_by k (exec k n answers) common (code_rule_of completion (frame ∷ frames) common.said))
     (after_completion further (lines gas) (remainder n answers) (configuration common (at_of k frame frames)) completion)
-    (ended k frame frames) (breaking k frame frames) (script_count (frame ∷ frames))
 completion-agrees k gas ih n answers common frame frames further (Passes course) lt waits =
     passed-agrees k gas ih n answers common frame frames lt
 completion-agrees k gas ih n answers common frame frames further (Answers word answer quits course) lt waits =
@@ -195,9 +188,8 @@ completion-agrees k gas ih n answers common frame frames further (Waits wait cou
 event-agrees : (k gas : ℕ) → AgreesAt k gas →
     (n : ℕ) (answers : List Reply) (common : Common) (frame : FrameState) (frames : List FrameState)
     (further : Configuration → Wait → Whole) (completion : Completion) → n < gas → WaitsAgree k n answers frame frames further →
-    AgreesBy (suc n) (does k (exec k n answers) (frame ∷ frames) common completion)
+    AgreesHere k frame frames (suc n) (does k (exec k n answers) (frame ∷ frames) common completion)
     (completion_of further (lines gas) (remainder n answers) (configuration common (at_of k frame frames)) completion)
-    (ended k frame frames) (breaking k frame frames) (script_count (frame ∷ frames))
 event-agrees k gas ih n answers common frame frames further completion lt waits =
     let later = common_after_event common (course_of completion) in
     weaker n (suc n) _ (after_completion further (lines gas) (remainder n answers) (configuration later (at_of k frame frames)) completion) (ended k frame frames) (breaking k frame frames) (script_count (frame ∷ frames))
@@ -207,9 +199,8 @@ event-agrees k gas ih n answers common frame frames further completion lt waits 
 work-agrees : (k gas : ℕ) → AgreesAt k gas →
     (n : ℕ) (answers : List Reply) (common : Common) (frame : FrameState) (frames : List FrameState)
     (further : Configuration → Wait → Whole) (work : Here → Completion) → n < gas → WaitsAgree k n answers frame frames further →
-    AgreesBy (suc n) (does k (exec k n answers) (frame ∷ frames) common (work (here_of (frame ∷ frames))))
+    AgreesHere k frame frames (suc n) (does k (exec k n answers) (frame ∷ frames) common (work (here_of (frame ∷ frames))))
     (completion_of further (lines gas) (remainder n answers) (configuration common (at_of k frame frames)) (work (here_at (at_of k frame frames))))
-    (ended k frame frames) (breaking k frame frames) (script_count (frame ∷ frames))
 work-agrees k gas ih n answers common frame frames further work lt waits =
     rw (here-is k frame frames)
     (event-agrees k gas ih n answers common frame frames further (work (here_at (at_of k frame frames))) lt waits)
@@ -218,9 +209,8 @@ work-agrees k gas ih n answers common frame frames further work lt waits =
 reply-agrees : (k gas : ℕ) → AgreesAt k gas →
     (n : ℕ) (answers : List Reply) (common : Common) (frame : FrameState) (frames : List FrameState)
     (further : Configuration → Wait → Whole) (completion : Option Completion) → n < gas → WaitsAgree k n answers frame frames further →
-    AgreesBy (suc n) (completion_event k (exec k n answers) (frame ∷ frames) common completion)
+    AgreesHere k frame frames (suc n) (completion_event k (exec k n answers) (frame ∷ frames) common completion)
     (reply_of (completion_of further (lines gas) (remainder n answers) (configuration common (at_of k frame frames))) completion)
-    (ended k frame frames) (breaking k frame frames) (script_count (frame ∷ frames))
 reply-agrees k gas ih n answers common frame frames further None lt waits = refl
 reply-agrees k gas ih n answers common frame frames further (Some completion) lt waits =
     event-agrees k gas ih n answers common frame frames further completion lt waits

@@ -48,6 +48,10 @@ AgreesBy n exec (Broken left answers last common) next breaks scripts = (left �
 AgreesBy n exec (Late answers) next breaks scripts = IsRunning answers exec
 AgreesBy n exec Short next breaks scripts = exec ≡ Unfed
 
+-- the shell does it in this frame, above these
+abbrev pub AgreesHere : ℕ → FrameState → List FrameState → ℕ → Lone → Whole → Type 0
+AgreesHere k frame frames n exec meaning = AgreesBy n exec meaning (ended k frame frames) (breaking k frame frames) (script_count (frame ∷ frames))
+
 -- where the lines of the newest frame are
 abbrev pub at_of : ℕ → FrameState → List FrameState → At
 at_of k frame frames = record {
@@ -75,9 +79,8 @@ HasNext (Some parted) frame = Unit {0}
 abbrev pub AgreesAt : ℕ → ℕ → Type 0
 AgreesAt k gas = (n : ℕ) (answers : List Reply) (common : Common) (frame : FrameState) (frames : List FrameState) (parted : Option Parted) →
     n < gas → HasNext parted frame →
-    AgreesBy n (exec k n answers (frame ∷ frames) (phase_of parted) common)
+    AgreesHere k frame frames n (exec k n answers (frame ∷ frames) (phase_of parted) common)
     (lines gas (remainder n answers) (configuration common (at_of k frame frames)) parted)
-    (ended k frame frames) (breaking k frame frames) (script_count (frame ∷ frames))
 
 -- a line of the newest frame knows just what one of these lines knows
 script-line : (kind : Kind) (frame : FrameState) →

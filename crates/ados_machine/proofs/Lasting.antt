@@ -29,7 +29,7 @@ use Rattle.ados_machine.specs.World.{WorldState, numbered_shell, input_of}
 use Rattle.ados_machine.proofs.AskedTurns.{flagged-refused}
 use Rattle.ados_machine.proofs.Moves.{placed-at}
 use Rattle.ados_machine.proofs.Rests.{IsIdle, passed-rests, finished-rests, called-rests, ticked-rests}
-use Rattle.ados_machine.proofs.Shells.{shells_after, broken_maybe, broken_for, found-broken, found, IsFree, free-number, carried-free, carried_found, found-carried, found-set_same, found-set_other, found-left, runs_pos}
+use Rattle.ados_machine.proofs.Shells.{broken-same, carried-same, shells_after, broken_maybe, broken_for, found-broken, found, IsFree, free-number, carried-free, carried_found, found-carried, found-set_same, found-set_other, found-left, runs_pos}
 use Rattle.ados_machine.proofs.StepCases.{of-step}
 
 -- if a completion waits on, the same is seen above these frames
@@ -62,14 +62,10 @@ never : false ≡ true → ⊥
 never e = cc
 
 carried-seen : {X : Type 0} (s : Watch X) (renamed : Option Renamed) (o : Option ShellState) → seen_by s (carried_found renamed o) ≡ seen_by s o
-carried-seen s None o = refl
-carried-seen s (Some renamed) None = refl
-carried-seen s (Some renamed) (Some shell) = refl
+carried-seen s = carried-same (seen_by s) (λ moved shell. refl)
 
 carried-held : {X : Type 0} (s : Watch X) (renamed : Option Renamed) (o : Option ShellState) → is_held s (carried_found renamed o) ≡ is_held s o
-carried-held s None o = refl
-carried-held s (Some renamed) None = refl
-carried-held s (Some renamed) (Some shell) = refl
+carried-held s = carried-same (is_held s) (λ moved shell. refl)
 
 own-seen : {X : Type 0} (s : Watch X) (renamed : Option Renamed) (shell : ShellState) → seen_by s (Some (carried_or_same renamed shell)) ≡ s.look shell.frames shell.phase
 own-seen s None shell = refl
@@ -80,9 +76,7 @@ own-held s None shell = refl
 own-held s (Some renamed) shell = refl
 
 broken-seen : {X : Type 0} (s : Watch X) (breaks : Option Breaks) (o : Option ShellState) → seen_by s (broken_maybe breaks o) ≡ seen_by s o
-broken-seen s None o = refl
-broken-seen s (Some breaks) None = refl
-broken-seen s (Some breaks) (Some shell) = s.marked shell.frames breaks.marks shell.phase
+broken-seen s = broken-same (seen_by s) (λ breaks shell. s.marked shell.frames breaks.marks shell.phase)
 
 -- a shell begins at a number that has none
 begun-seen : {X : Type 0} (s : Watch X) (shells : List (Option ShellState)) (begun : Option ShellStart) (n : Option ℕ) (j : ℕ) → IsFree shells n →

@@ -1,12 +1,11 @@
 -- A break changes neither which turns are accepted nor which shells want a line.
-use Rattle.std.proofs.Common.{◌≡◌, ◌∙◌, ap, ℕ, List, Bool, true, false, ◌&&◌, not, Option, Some, None, refl, inl, inr}
+use Rattle.std.proofs.Common.{◌≡◌, ◌∙◌, ap, ℕ, ◌&&◌, not, Option, Some, None, refl, inl, inr}
 use Rattle.std.proofs.lemmas.Bool.{cases_Bool}
 use Rattle.ados_flow.specs.Frames.{FrameState}
+use Rattle.ados_flow.specs.declared.kinds.Kind.{Kind}
 use Rattle.ados_machine.specs.declared.events.Event.TheVariants.{Break}
 use Rattle.ados_machine.specs.declared.events.Kind as by
-use Rattle.ados_machine.specs.Phases.{Phase, Ready, GoingOn, Waiting}
-use Rattle.ados_machine.specs.declared.phases.Wait.TheVariants.{ForAnswer, ForLines, ForStart, ForPiece, ForEnd}
-use Rattle.ados_machine.specs.Breaks.{kind_breaks, marked_if}
+use Rattle.ados_machine.specs.Breaks.{kind_breaks}
 use Rattle.ados_find.specs.declared.outcomes.Breaks.{Breaks}
 use Rattle.ados_machine.specs.Laws.{KeepsWhatComes, BreaksKeepWhatComes}
 use Rattle.ados_machine.specs.Shells.{ShellState}
@@ -14,38 +13,14 @@ use Rattle.ados_machine.specs.Step.{Response, Refused, Accepted, break_response,
 use Rattle.ados_machine.specs.Turning.{Input}
 use Rattle.ados_machine.specs.World.{WorldState, can_take, can_turn, has_input, numbered_shell, is_over, input_of, request_of_shell, takes_input, wants_input}
 use Rattle.ados_machine.proofs.CarriedChildren.{broken-pending}
-use Rattle.ados_machine.proofs.Shells.{found, broken_maybe, broken_for, found-broken}
-
--- a mark changes nothing of what a shell takes next
-marked-takes : (marks : Bool) (input : Input) (frames : List FrameState) (phase : Phase) → can_take input frames (marked_if marks phase) ≡ can_take input frames phase
-marked-takes false input frames phase = refl
-marked-takes true input frames Ready = refl
-marked-takes true input frames (GoingOn parted) = refl
-marked-takes true input frames (Waiting (ForAnswer asking)) = refl
-marked-takes true input frames (Waiting (ForLines gathering)) = refl
-marked-takes true input frames (Waiting (ForStart starting)) = refl
-marked-takes true input frames (Waiting (ForPiece child)) = refl
-marked-takes true input frames (Waiting (ForEnd child)) = refl
-
-marked-wants : (marks : Bool) (frames : List FrameState) (phase : Phase) → takes_input frames (marked_if marks phase) ≡ takes_input frames phase
-marked-wants false frames phase = refl
-marked-wants true frames Ready = refl
-marked-wants true frames (GoingOn parted) = refl
-marked-wants true frames (Waiting (ForAnswer asking)) = refl
-marked-wants true frames (Waiting (ForLines gathering)) = refl
-marked-wants true frames (Waiting (ForStart starting)) = refl
-marked-wants true frames (Waiting (ForPiece child)) = refl
-marked-wants true frames (Waiting (ForEnd child)) = refl
+use Rattle.ados_machine.proofs.Marks.{marked-same}
+use Rattle.ados_machine.proofs.Shells.{broken-same, found, broken_maybe, broken_for, found-broken}
 
 broken-turns : (input : Input) (breaks : Option Breaks) (o : Option ShellState) → can_turn input (broken_maybe breaks o) ≡ can_turn input o
-broken-turns input None o = refl
-broken-turns input (Some breaks) None = refl
-broken-turns input (Some breaks) (Some shell) = marked-takes breaks.marks input shell.frames shell.phase
+broken-turns input = broken-same (can_turn input) (λ breaks shell. marked-same (can_take input shell.frames) (λ starting. refl) (λ child. refl) breaks.marks shell.phase)
 
 broken-wants : (breaks : Option Breaks) (o : Option ShellState) → wants_input (broken_maybe breaks o) ≡ wants_input o
-broken-wants None o = refl
-broken-wants (Some breaks) None = refl
-broken-wants (Some breaks) (Some shell) = marked-wants breaks.marks shell.frames shell.phase
+broken-wants = broken-same wants_input (λ breaks shell. marked-same (takes_input shell.frames) (λ starting. refl) (λ child. refl) breaks.marks shell.phase)
 
 abbrev KeepsBy : WorldState → Response → Type 0
 KeepsBy w (Refused why) = Unit {0}

@@ -36,6 +36,7 @@ use Rattle.ados_machine.specs.Step.{Response, Refused, Accepted, shell_of_turn, 
 use Rattle.ados_machine.specs.Turning.{turning_of_completion}
 use Rattle.ados_machine.specs.World.{WorldState, flatten, numbered_shell, is_over, input_of, request_of_shell, pending_of}
 use Rattle.ados_machine.proofs.Shells.{found-left}
+use Rattle.ados_machine.proofs.Marks.{break-same, next-same, piece-same}
 use Rattle.ados_machine.proofs.Rests.{Rests, passed-rests, finished-rests, called-rests, ticked-rests}
 use Rattle.ados_machine.proofs.CarriedChildren.{same_some, idle-asked, carried_by-child, others-pending, others-child, left-child}
 
@@ -51,22 +52,13 @@ MovesBy marked (Some request) answer None = fits request answer ≡ false
 MovesBy marked (Some request) answer (Some completion) = (fits request answer ≡ true) × (child_after completion ≡ child_after_answer marked request answer)
 
 next-while : (child : Child) → child_while (next_wait child) ≡ read_unless child.marked
-next-while child =
-    elim (cases_Bool child.marked) [
-      | inl e ↦ rw e refl
-      | inr e ↦ rw e refl
-    ]
+next-while child = next-same child_while child (read_unless child.marked) (λ e. rw e refl) (λ e. rw e refl)
 
 break-marked : (child : Child) → (with_break child).marked ≡ child.marked
-break-marked child =
-    elim (cases_Bool child.marked) [
-      | inl e ↦ rw e refl
-      | inr e ↦ rw e refl
-    ]
+break-marked child = break-same (λ c. c.marked) child (λ fault. refl)
 
 piece-marked : (child : Child) (fault : Option Result2) → (child_after_piece child fault).marked ≡ child.marked
-piece-marked child None = refl
-piece-marked child (Some fault) = refl
+piece-marked child fault = piece-same (λ c. c.marked) child fault (λ fault. refl)
 
 started-moves : (starting : Starting) (course : Course) (opened : Result OpenedOutput Result2) →
     child_after (started_completion starting course opened) ≡ read_unless starting.marked

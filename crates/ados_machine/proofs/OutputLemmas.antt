@@ -17,7 +17,7 @@ use Rattle.ados_machine.specs.Phases.{Phase}
 use Rattle.ados_machine.specs.Phases as phase
 use Rattle.ados_machine.specs.declared.phases.Starting.{Starting}
 use Rattle.ados_machine.specs.declared.phases.Wait.{Wait}
-use Rattle.ados_machine.specs.declared.phases.Wait.TheVariants.{ForAnswer, ForLines, ForStart, ForPiece, ForEnd}
+use Rattle.ados_machine.specs.declared.phases.Wait.TheVariants.{ForStart, ForPiece, ForEnd}
 use Rattle.ados_machine.specs.Answers.{child_of, next_wait, with_break, started_completion, child_after_piece, output_fault, piece_completion, is_piece, ended_completion, answered_completion, answered_in}
 use Rattle.ados_machine.specs.Breaks.{marked_if}
 use Rattle.ados_machine.specs.Children.{child_during, child_of_shell}
@@ -32,6 +32,7 @@ use Rattle.ados_machine.specs.Step.{Response, Refused, Accepted, shell_after_tur
 use Rattle.ados_machine.specs.Turning.{turning_of_completion}
 use Rattle.ados_machine.specs.World.{WorldState, numbered_shell, is_over, input_of}
 use Rattle.ados_machine.proofs.Lasting.{Watch, SeenAfter, Keeps, seen_by, is_held, step-keeps, waits-keeps}
+use Rattle.ados_machine.proofs.Marks.{break-same, marked-same, next-same, piece-same}
 use Rattle.ados_machine.proofs.Rests.{IsIdle}
 use Rattle.ados_machine.proofs.Shells.{found, found-left, shells_after}
 
@@ -43,14 +44,7 @@ never : false ≡ true → ⊥
 never e = cc
 
 marked-held : (frames : List FrameState) (marks : Bool) (now : Phase) → held_above frames (marked_if marks now) ≡ held_above frames now
-marked-held frames false now = refl
-marked-held frames true phase.Ready = refl
-marked-held frames true (phase.GoingOn parted) = refl
-marked-held frames true (phase.Waiting (ForAnswer asking)) = refl
-marked-held frames true (phase.Waiting (ForLines gathering)) = refl
-marked-held frames true (phase.Waiting (ForStart starting)) = refl
-marked-held frames true (phase.Waiting (ForPiece child)) = refl
-marked-held frames true (phase.Waiting (ForEnd child)) = refl
+marked-held frames = marked-same (held_above frames) (λ starting. refl) (λ child. refl)
 
 -- the program of a shell in a phase runs
 abbrev runs_in : Phase → Bool
@@ -63,22 +57,13 @@ idle-runs (phase.Waiting wait) idle = absurd idle
 
 -- an answer that does not end a program keeps its output
 next-held : (child : Child) → held_while (next_wait child) ≡ open_places child.output
-next-held child =
-    elim (cases_Bool child.marked) [
-      | inl e ↦ rw e refl
-      | inr e ↦ rw e refl
-    ]
+next-held child = next-same held_while child (open_places child.output) (λ e. refl) (λ e. refl)
 
 break-held : (child : Child) → open_places (with_break child).output ≡ open_places child.output
-break-held child =
-    elim (cases_Bool child.marked) [
-      | inl e ↦ rw e refl
-      | inr e ↦ rw e refl
-    ]
+break-held child = break-same (λ c. open_places c.output) child (λ fault. refl)
 
 put-held : (child : Child) (fault : Option Result2) → open_places (child_after_piece child fault).output ≡ open_places child.output
-put-held child None = refl
-put-held child (Some fault) = refl
+put-held child fault = piece-same (λ c. open_places c.output) child fault (λ fault. refl)
 
 piece-held : (frames : List FrameState) (child : Child) (bytes : Bytes) (sink : Sink) (course : Course) (fault : Option Result2) →
     SeenAfter held_above frames (frame_outputs frames ++ open_places child.output) (Some (piece_completion child bytes sink course fault))

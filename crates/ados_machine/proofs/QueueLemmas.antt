@@ -8,24 +8,21 @@ use Rattle.ados_machine.specs.declared.events.Event.{Event}
 use Rattle.ados_machine.specs.declared.events.Event.TheVariants.{Turn, Answer}
 use Rattle.ados_machine.specs.declared.outs.Out.{Out}
 use Rattle.ados_machine.specs.declared.refusals.Refusal.{Refusal}
-use Rattle.ados_machine.specs.Phases.{Phase, Ready, GoingOn, Waiting}
-use Rattle.ados_machine.specs.declared.phases.Wait.TheVariants.{ForAnswer, ForLines, ForStart, ForPiece, ForEnd}
+use Rattle.ados_machine.specs.Phases.{Phase, Ready}
 use Rattle.ados_machine.specs.Answers.{answered_in}
 use Rattle.ados_machine.specs.Breaks.{has_script}
 use Rattle.ados_machine.specs.Course.{Course}
 use Rattle.ados_machine.specs.Completions.{Completion}
-use Rattle.ados_machine.specs.Lines.{answer_completion}
-use Rattle.ados_machine.specs.NewShells.{gathered_completion, joined_completion}
 use Rattle.ados_machine.specs.Runs.{resulting_world, IsAnswer}
-use Rattle.ados_machine.specs.Settle.{here_of}
 use Rattle.ados_machine.specs.Shells.{ShellState}
 use Rattle.ados_machine.specs.Sinks.{newest_sink}
-use Rattle.ados_machine.specs.Step.{Response, Refused, Accepted, start, course_without_flag, turning_response, turn_response, answer_response, step_of}
-use Rattle.ados_machine.specs.Turning.{Input, Turning, Refuses, Ends, Takes, console_turning, input_turning, turning_in_phase, turning_at_break, flagged_turning, turning_of_completion}
+use Rattle.ados_machine.specs.Step.{Response, Refused, Accepted, start, course_without_flag, turning_response, turn_response, answer_response, step_of, typing_response}
+use Rattle.ados_machine.specs.Turning.{Input, Turning, Refuses, Ends, Takes, console_turning, input_turning, turning_in_phase, turning_at_break, flagged_turning, turning_of_completion, ready_turning}
 use Rattle.ados_machine.specs.World.{WorldState, numbered_shell, input_of, takes_input, wants_input}
 use Rattle.ados_machine.specs.Laws.{is_breakable}
 use Rattle.ados_machine.specs.Given.{lines_taken, lines_typed, all_lines_typed, all_lines_taken, TypedLinesAreTakenInOrder}
 use Rattle.ados_machine.proofs.StepCases.{of-step}
+use Rattle.ados_machine.proofs.TurnCases.{each-turning}
 
 -- a turn takes the first line that waits, if its shell takes a line of its input, and leaves these
 abbrev Takes_of : Bool → List (List ℕ) → Turning → Type 0
@@ -44,18 +41,15 @@ input-takes [] true frames by_line by_end = refl
 input-takes [] false frames by_line by_end = tt
 input-takes (line ∷ rest) is_ended frames by_line by_end = refl
 
+ready-takes : (input : Input) (frames : List FrameState) (course : Course) → Takes_of (takes_input frames Ready) input.queue (ready_turning input frames course)
+ready-takes input [] course = console-takes input.queue input.is_ended course
+ready-takes input (frame ∷ frames) course = refl
+
 turning-takes : (input : Input) (frames : List FrameState) (course : Course) (now : Phase) →
     Takes_of (takes_input frames now) input.queue (turning_in_phase input frames course now)
-turning-takes input [] course Ready = console-takes input.queue input.is_ended course
-turning-takes input (frame ∷ frames) course Ready = refl
-turning-takes input frames course (GoingOn parted) = refl
-turning-takes input frames course (Waiting (ForAnswer asking)) =
-    input-takes input.queue input.is_ended frames (λ line. answer_completion line asking (here_of frames) course) (answer_completion [] asking (here_of frames) course)
-turning-takes input frames course (Waiting (ForLines gathering)) =
-    input-takes input.queue input.is_ended frames (λ line. joined_completion gathering line (here_of frames).sink course) (gathered_completion gathering (here_of frames).sink course)
-turning-takes input frames course (Waiting (ForStart starting)) = tt
-turning-takes input frames course (Waiting (ForPiece child)) = tt
-turning-takes input frames course (Waiting (ForEnd child)) = tt
+turning-takes input frames course =
+    each-turning (λ now. Takes_of (takes_input frames now) input.queue) input frames course (ready-takes input frames course) (λ parted completion. refl)
+    (λ asking. input-takes input.queue input.is_ended frames) (λ gathering. input-takes input.queue input.is_ended frames) (λ starting. tt) (λ child. tt) (λ child. tt)
 
 -- a turn that finds the flag in a script takes no line
 in_place-takes : (now : Turning) (input : Input) (frames : List FrameState) (course : Course) →

@@ -4,20 +4,17 @@ use Rattle.std.specs.Prelude.{nat_lt}
 use Rattle.std.proofs.lemmas.Bool.{cases_Bool, lt-ltb}
 use Rattle.ados_find.specs.declared.codes.Codes.{Codes}
 use Rattle.ados_flow.specs.Frames.{FrameState}
-use Rattle.ados_machine.specs.Phases.{Phase, Ready, GoingOn, Waiting}
-use Rattle.ados_machine.specs.declared.phases.Wait.TheVariants.{ForAnswer, ForLines, ForStart, ForPiece, ForEnd}
+use Rattle.ados_machine.specs.Phases.{Phase, Ready}
 use Rattle.ados_machine.specs.Breaks.{has_script}
 use Rattle.ados_machine.specs.Course.{Course}
 use Rattle.ados_machine.specs.Completions.{Completion}
-use Rattle.ados_machine.specs.Lines.{answer_completion}
-use Rattle.ados_machine.specs.NewShells.{gathered_completion, joined_completion}
-use Rattle.ados_machine.specs.Settle.{here_of}
 use Rattle.ados_machine.specs.Shells.{ShellState}
 use Rattle.ados_machine.specs.Step.{is_accepted, start, course_without_flag, turning_response, turn_response}
-use Rattle.ados_machine.specs.Turning.{Input, Turning, Refuses, Ends, Takes, console_turning, input_turning, turning_in_phase, turning_at_break, flagged_turning}
+use Rattle.ados_machine.specs.Turning.{Input, Turning, Refuses, Ends, Takes, console_turning, input_turning, ready_turning, turning_in_phase, turning_at_break, flagged_turning}
 use Rattle.ados_machine.specs.World.{WorldState, numbered_shell, is_over, input_of, can_take, can_turn}
 use Rattle.ados_machine.specs.Given.{ReadyShellsAreTurned}
 use Rattle.ados_machine.proofs.MovedChildren.{over-none}
+use Rattle.ados_machine.proofs.TurnCases.{each-turning}
 
 abbrev accepts : Turning → Bool
 accepts (Refuses why) = false
@@ -44,18 +41,15 @@ input-accepts [] true frames by_line by_end = refl
 input-accepts [] false frames by_line by_end = refl
 input-accepts (line ∷ rest) is_ended frames by_line by_end = rw (some-waits (length rest)) refl
 
+ready-accepts : (input : Input) (frames : List FrameState) (course : Course) → accepts (ready_turning input frames course) ≡ can_take input frames Ready
+ready-accepts input [] course = console-accepts input.queue input.is_ended course
+ready-accepts input (frame ∷ frames) course = refl
+
 turning-accepts : (input : Input) (frames : List FrameState) (course : Course) (now : Phase) →
     accepts (turning_in_phase input frames course now) ≡ can_take input frames now
-turning-accepts input [] course Ready = console-accepts input.queue input.is_ended course
-turning-accepts input (frame ∷ frames) course Ready = refl
-turning-accepts input frames course (GoingOn parted) = refl
-turning-accepts input frames course (Waiting (ForAnswer asking)) =
-    input-accepts input.queue input.is_ended frames (λ line. answer_completion line asking (here_of frames) course) (answer_completion [] asking (here_of frames) course)
-turning-accepts input frames course (Waiting (ForLines gathering)) =
-    input-accepts input.queue input.is_ended frames (λ line. joined_completion gathering line (here_of frames).sink course) (gathered_completion gathering (here_of frames).sink course)
-turning-accepts input frames course (Waiting (ForStart starting)) = refl
-turning-accepts input frames course (Waiting (ForPiece child)) = refl
-turning-accepts input frames course (Waiting (ForEnd child)) = refl
+turning-accepts input frames course =
+    each-turning (λ now turning. accepts turning ≡ can_take input frames now) input frames course (ready-accepts input frames course) (λ parted completion. refl)
+    (λ asking. input-accepts input.queue input.is_ended frames) (λ gathering. input-accepts input.queue input.is_ended frames) (λ starting. refl) (λ child. refl) (λ child. refl)
 
 in_place-accepts : (now : Turning) (input : Input) (frames : List FrameState) (course : Course) →
     accepts (turning_at_break now input frames course) ≡ accepts now

@@ -1,5 +1,5 @@
 -- A resident entry stays in use from the start of a program to the answer that ends it.
-use Rattle.std.proofs.Common.{◌≡◌, ◌∙◌, sym, ℕ, List, Bool, true, false, Option, Some, None, Result, Ok, Err, is_some, refl, inl, inr}
+use Rattle.std.proofs.Common.{◌≡◌, ◌∙◌, sym, ℕ, List, Bool, false, Option, Some, None, Result, Ok, Err, is_some, refl, inl, inr}
 use Rattle.std.specs.Prelude.{option_map}
 use Rattle.std.proofs.lemmas.Bool.{cases_Bool}
 use Rattle.ados_text.specs.Text.{Bytes, Text}
@@ -26,6 +26,7 @@ use Rattle.ados_machine.specs.Sinks.{Sink, sink_or}
 use Rattle.ados_machine.specs.Step.{Accepted}
 use Rattle.ados_machine.specs.World.{numbered_shell, request_of_shell}
 use Rattle.ados_machine.proofs.Lasting.{Watch, SeenAfter, Keeps, seen_by, is_held, step-keeps}
+use Rattle.ados_machine.proofs.Marks.{break-same, marked-same, next-same, piece-same}
 use Rattle.ados_machine.proofs.Rests.{IsIdle}
 
 -- the entry from which a shell runs in a phase, whatever its frames are
@@ -37,14 +38,7 @@ abbrev asks_in : Phase → Bool
 asks_in now = is_some (request_of 0 now)
 
 marked-entry : (frames : List FrameState) (marks : Bool) (now : Phase) → entry_above frames (marked_if marks now) ≡ entry_above frames now
-marked-entry frames false now = refl
-marked-entry frames true phase.Ready = refl
-marked-entry frames true (phase.GoingOn parted) = refl
-marked-entry frames true (phase.Waiting (ForAnswer asking)) = refl
-marked-entry frames true (phase.Waiting (ForLines gathering)) = refl
-marked-entry frames true (phase.Waiting (ForStart starting)) = refl
-marked-entry frames true (phase.Waiting (ForPiece child)) = refl
-marked-entry frames true (phase.Waiting (ForEnd child)) = refl
+marked-entry frames = marked-same (entry_above frames) (λ starting. refl) (λ child. refl)
 
 idle-asks : (now : Phase) → IsIdle now → asks_in now ≡ false
 idle-asks phase.Ready idle = refl
@@ -53,18 +47,10 @@ idle-asks (phase.Waiting wait) idle = absurd idle
 
 -- an answer: if its completion waits on, it waits with the same entry
 next-entry : (child : Child) → entry_while (next_wait child) ≡ child.entry
-next-entry child =
-    elim (cases_Bool child.marked) [
-      | inl e ↦ rw e refl
-      | inr e ↦ rw e refl
-    ]
+next-entry child = next-same entry_while child child.entry (λ e. refl) (λ e. refl)
 
 break-entry : (child : Child) → (with_break child).entry ≡ child.entry
-break-entry child =
-    elim (cases_Bool child.marked) [
-      | inl e ↦ rw e refl
-      | inr e ↦ rw e refl
-    ]
+break-entry child = break-same (λ c. c.entry) child (λ fault. refl)
 
 started-entry : (frames : List FrameState) (starting : Starting) (course : Course) (opened : Result OpenedOutput Result2) →
     SeenAfter entry_above frames starting.entry (Some (started_completion starting course opened))
@@ -72,8 +58,7 @@ started-entry frames starting course (Err fault) = next-entry (child_of starting
 started-entry frames starting course (Ok opened) = next-entry (child_of starting opened.target None)
 
 put-entry : (child : Child) (fault : Option Result2) → (child_after_piece child fault).entry ≡ child.entry
-put-entry child None = refl
-put-entry child (Some fault) = refl
+put-entry child fault = piece-same (λ c. c.entry) child fault (λ fault. refl)
 
 piece-entry : (frames : List FrameState) (child : Child) (bytes : Bytes) (sink : Sink) (course : Course) (fault : Option Result2) →
     SeenAfter entry_above frames child.entry (Some (piece_completion child bytes sink course fault))

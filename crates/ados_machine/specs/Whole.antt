@@ -24,7 +24,7 @@ use Rattle.ados_machine.specs.Sinks.{Sink, Kept, sink_or, held_while}
 use Rattle.ados_machine.specs.Names.{waiting_word}
 use Rattle.ados_machine.specs.Shells.{ShellState, SeenShell, entry_while}
 use Rattle.ados_machine.specs.Breaks.{break_text}
-use Rattle.ados_machine.specs.Course.{Course}
+use Rattle.ados_machine.specs.Course.{Course, new_course}
 use Rattle.ados_machine.specs.Items.{broken_codes}
 use Rattle.ados_machine.specs.Completions.{Here, Completion, Passes, Answers, Jumps, Calls, Ticks, Waits, course_of}
 use Rattle.ados_machine.specs.Settled.{RuleState, with_fault_line, with_answer, with_limit, newest_kept, with_tick, without_tick}
@@ -127,18 +127,9 @@ seen_at at wait directory = record {
 
 -- an event of the shell begins, which waits for something or for nothing
 abbrev pub start_at : Configuration → Option Wait → Course
-start_at now wait = record {
-  parts = now.common.said.parts;
-  kept = now.common.said.kept;
-  shared = now.common.shared;
-  seen = slice_set (seen_shells now.common.shells) (now.at.shell - 1) (Some (seen_at now.at wait now.common.said.parts.directory));
-  printed = [];
-  renamed = None;
-  begun = None;
-  used = [];
-  breaking = None;
-  flagged = now.common.flagged;
-}
+start_at now wait =
+    new_course now.common.said.parts now.common.said.kept now.common.shared
+    (slice_set (seen_shells now.common.shells) (now.at.shell - 1) (Some (seen_at now.at wait now.common.said.parts.directory))) now.common.flagged
 
 -- a current directory moves with what was moved, if anything was
 abbrev pub directory_after_move : Option Renamed → Place → Place
@@ -220,14 +211,7 @@ report_of k name last = record {
 
 -- a script ended at a break: the line of its last record or 0, and 10
 abbrev pub report_broken : ℕ → Text → Option Record → EndReport
-report_broken k name last = record {
-  shell = k;
-  name = name;
-  last_line = last_line last;
-  code = broken_codes.code;
-  early = false;
-  broken = true;
-}
+report_broken k name last = record (report_of k name last) { code = broken_codes.code; early = false; broken = true }
 
 abbrev pub with_report : EndReport → Common → Common
 with_report report common = record common { reports = report ∷ common.reports }
