@@ -21,7 +21,7 @@ pub data Action : Type 0 where
 abbrev pub codes_action : SharedState → Codes → Action
 codes_action shared codes = Does (codes_effect shared codes)
 
--- what an action is to the shared parts as they were
+-- the action of the definitions for one of the code: its outcome is applied to the shared state before it
 abbrev pub action_effect : SharedState → code.Action → Action
 action_effect shared (made.Does outcome) = Does (effect_of shared outcome)
 action_effect shared (made.Quits codes) = Quits codes

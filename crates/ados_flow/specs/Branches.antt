@@ -15,7 +15,7 @@ use Rattle.ados_flow.specs.Actions.{Action, Jumps, Quits, codes_action}
 use Rattle.ados_flow.specs.Frames.{ScriptLine}
 use Rattle.ados_flow.specs.Tests.{if_test}
 
--- a script continues where its jump leads, with 5 after an EndSkip; if nothing is found it ends
+-- a script continues where its jump leads, with 5 after an EndSkip; if nothing is found the script ends with 20 and 205
 abbrev pub jump_action : Jump → Action
 jump_action (To line) = Jumps line went_well
 jump_action (EndSkip line) = Jumps line (warning_codes NONE)
@@ -40,8 +40,8 @@ if_row shared script_line view args =
 abbrev pub else_row : SharedState → Option ScriptLine → Action
 else_row shared script_line = in_script shared script_line (λ here. jump_action (after_else here.lines here.line))
 
--- Skip jumps after the Lab with its LABEL, looked for below it or with BACK from the first line on, or after an EndSkip that
--- comes before that
+-- Skip jumps after the Lab with its LABEL, or any Lab without one, looked for below it or with BACK from the first line on, or
+-- after an EndSkip that comes before that
 abbrev pub skip_row : SharedState → Option ScriptLine → List Arg → Action
 skip_row shared script_line args =
     in_script shared script_line (λ here. jump_action (skip here.lines here.line (option_text args 0) (has_switch args 1)))

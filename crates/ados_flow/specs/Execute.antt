@@ -1,6 +1,6 @@
 -- Execute: the call of a script.
 use Rattle.std.specs.Prelude.{List, [], ◌++◌, not, ◌&&◌, Result, Ok, Err, codes, is_none, unwrap_or, if◌then◌else◌}
-use Rattle.std.specs.FinMap as finite
+use Rattle.std.specs.FinMap as map
 use Rattle.std.specs.Fmt.{decimal}
 use Rattle.ados_text.specs.Lines.{lines_of}
 use Rattle.ados_text.specs.Text.{Bytes, Text}
@@ -24,15 +24,16 @@ use Rattle.ados_subst.specs.Faults.{result2_of}
 use Rattle.ados_subst.specs.Scripts.{script_of}
 use Rattle.ados_flow.specs.Actions.{Action, Calls, codes_action}
 
--- S: is searched for a script if its name is not a path and nothing has it
+-- where Execute looks: at the place of its word, or in S: if the word is not a path and there is no object at that place
 abbrev pub script_place : SharedState → Place → Text → Place → Result Place Codes
 script_place shared directory word place =
-    if not (is_path word) && is_none (finite.get shared.files (key_of place)) then place_of shared directory (codes "S:" ++ word) else Ok place
+    if not (is_path word) && is_none (map.get shared.files (key_of place)) then place_of shared directory (codes "S:" ++ word) else Ok place
 
--- the answer to a fault of arguments, or of substitution; neither is ever out of memory, which has no number
+-- the action for a fault of arguments or of substitution: the command returns 20 with the fault's number. The definitions never
+-- run out of memory: the case of it only makes the function total, and gives 103.
 abbrev pub fault_answer : SharedState → Result Result2 NoMemory → Action
 fault_answer shared (Ok number) = codes_action shared (fail_codes number)
-fault_answer shared (Err none) = codes_action shared (fail_codes NO_FREE_STORE)
+fault_answer shared (Err no_memory) = codes_action shared (fail_codes NO_FREE_STORE)
 
 -- the call of a script with its arguments substituted in its lines
 abbrev pub call_of_lines : SharedState → Text → Result (List Text) SubstFault → Action

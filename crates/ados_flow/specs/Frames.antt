@@ -16,8 +16,9 @@ is_script (Script name command) = true
 is_script Lines = false
 is_script (Tick before after) = false
 
--- a frame that runs: what it is, its lines, the place of the next one, the line at which its command began, the limit
--- in force at its beginning, its own output, which is open until it ends, and its last record
+-- a frame that runs: what it is; its lines; the index of the next one, from 0; the number, from 1, of the line at which its
+-- command began, and 0 before the first; the fail limit in force at its beginning, which is so again after the end of a script
+-- in a script; its own output, which is open until it ends; and its last record
 pub record FrameState : Type 0 where
   pub kind : Kind
   pub lines : List Text
@@ -93,18 +94,19 @@ current_line (frame ∷ frames) = frame.line
 -- the line of a frame's last record, and what it returned: 0, and success, if it has none
 abbrev pub last_line : Option Record → ℕ
 last_line None = 0
-last_line (Some entry) = entry.line
+last_line (Some last) = last.line
 
 abbrev pub last_codes : Option Record → Codes
 last_codes None = went_well
-last_codes (Some entry) = entry.codes
+last_codes (Some last) = last.codes
 
--- the last record was at its limit
+-- the code of the last record reached the limit in force after its command
 abbrev pub is_at_limit : Option Record → Bool
 is_at_limit None = false
-is_at_limit (Some entry) = is_reached entry.limit entry.codes.code
+is_at_limit (Some last) = is_reached last.limit last.codes.code
 
--- only a script ends early
+-- it is a script whose last record reached the limit: such an end is reported as early, also if that command was Quit or stood
+-- on the last line
 abbrev pub is_early : Kind → Option Record → Bool
 is_early kind last = is_script kind && is_at_limit last
 
@@ -120,7 +122,7 @@ answered_frame frame frames answered limit = record frame { last = Some (new_rec
 abbrev pub is_ended : Bool → Codes → Code → FrameState → Bool
 is_ended quits answered limit frame = is_over frame || (is_script frame.kind && (quits || is_reached limit answered.code))
 
--- the word of the command that made a script; other frames are made by no command
+-- the word of the command that called a script; the commands of a Run and a command substitution have none
 abbrev pub caller_word : Kind → Text
 caller_word (Script name command) = command
 caller_word Lines = []

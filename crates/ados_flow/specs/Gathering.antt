@@ -1,4 +1,4 @@
--- What a Run takes: the commands of its shell, from its own text and the lines after it.
+-- What a Run takes: the commands of the new shell, from its own text and the lines after it.
 use Rattle.std.specs.Prelude.{ℕ, zero, suc, List, [], ◌∷◌, ◌++◌, Bool, true, false, ◌==◌, ◌&&◌, Option, Some, None, is_some, unwrap_or, codes, if◌then◌else◌}
 use Rattle.std.specs.Fmt.{decimal}
 use Rattle.std.specs.List.{list_all}
@@ -49,6 +49,6 @@ run_gathering zero text lines = single_gathered text
 run_gathering (suc room) text [] = single_gathered text
 run_gathering (suc room) text (line ∷ lines) = if has_plus text then prepended_gathered text (run_gathering room line lines) else single_gathered text
 
--- what Run prints: the number of its shell
+-- what Run prints: the number of the new shell
 abbrev pub number_line : ℕ → Bytes
 number_line number = codes "[CLI " ++ decimal number ++ codes "]" ++ 10 ∷ []

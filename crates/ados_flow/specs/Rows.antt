@@ -1,4 +1,4 @@
--- What each command does, by the shared parts, its line in a script, its shell's view and its arguments.
+-- What each command does, by the shared state, its line in a script, its shell's view and its arguments.
 use Rattle.std.specs.Prelude.{List, [], Option, codes}
 use Rattle.ados_text.specs.Text.{Text}
 use Rattle.ados_readargs.specs.declared.args.Arg.{Arg}

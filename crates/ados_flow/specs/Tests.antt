@@ -1,6 +1,7 @@
--- The tests of If: which one is asked for, and whether it holds.
+-- The conditions of If: which one is asked for, and whether it holds. A number is the index of an option in If's template
+-- (`template_of` in Rows), from 0: 0 is NOT, 4 the word without a name, 8 VAL.
 use Rattle.std.specs.Prelude.{ℕ, ℤ, List, [], ◌∷◌, filter, Bool, true, false, Option, Some, None, is_some, Result, Ok, Err, if◌then◌else◌}
-use Rattle.std.specs.FinMap as finite
+use Rattle.std.specs.FinMap as map
 use Rattle.std.specs.declared.cmp.Ordering.{Ordering}
 use Rattle.std.specs.declared.cmp.Ordering.TheVariants as order
 use Rattle.std.specs.Ordering.{int_cmp}
@@ -24,7 +25,7 @@ use Rattle.ados_flow.specs.declared.tests.Test.{Test}
 use Rattle.ados_flow.specs.declared.tests.Test.TheVariants.{Warn, Error, Fail, Equal, Greater, GreaterOrEqual, Exists}
 use Rattle.ados_flow.specs.declared.tests.TheConstants.Test.{ALL}
 
--- the arguments ask for a test
+-- the arguments ask for a test, by WARN, ERROR, FAIL, EQ, GT, GE or EXISTS
 abbrev pub is_given : List Arg → Test → Bool
 is_given args Warn = has_switch args 1
 is_given args Error = has_switch args 2
@@ -77,13 +78,13 @@ order_if_both by_value None right = Err (fail_codes ARGUMENT_MISSING)
 order_if_both by_value (Some left) None = Err (fail_codes ARGUMENT_MISSING)
 order_if_both by_value (Some left) (Some right) = order_of by_value left right
 
--- the order of the unnamed word and the value of the option at a place
+-- the order of the unnamed word and the value of the option with this index
 abbrev pub argument_order : List Arg → ℕ → Result Ordering Codes
-argument_order args place = order_if_both (has_switch args 8) (option_text args 4) (option_text args place)
+argument_order args index = order_if_both (has_switch args 8) (option_text args 4) (option_text args index)
 
 abbrev pub place_exists : SharedState → Result Place Codes → Bool
 place_exists shared (Err codes) = false
-place_exists shared (Ok place) = is_some (finite.get shared.files (key_of place))
+place_exists shared (Ok place) = is_some (map.get shared.files (key_of place))
 
 -- a path leads to an object
 abbrev pub exists : SharedState → View → Option Text → Bool

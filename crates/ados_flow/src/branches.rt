@@ -55,8 +55,8 @@ pub fn pass_block(alloc: Global, frame: Option<&Frame>) -> Action
     }
 }
 
-/// Skip jumps after the Lab with its LABEL, looked for below it or with BACK from the first line on, or after an EndSkip that
-/// comes before that.
+/// Skip jumps after the Lab with its LABEL, or any Lab without one, looked for below it or with BACK from the first line on, or
+/// after an EndSkip that comes before that.
 ///
 /// 212 if the newest frame is not a script.
 pub fn skip(alloc: Global, frame: Option<&Frame>, args: &Args) -> Action
@@ -85,7 +85,7 @@ fn script_line(frame: Option<&Frame>) -> Option<(&Script, usize)>
     }
 }
 
-// A script continues where its jump leads, with 5 after an EndSkip; if nothing is found it ends.
+// A script continues where its jump leads, with 5 after an EndSkip; if nothing is found it ends with 20 and 205.
 fn jumped(jump: Jump) -> Action
     ensures { (shared : SharedState) → action_effect shared result ≡ jump_action jump }
 {

@@ -17,8 +17,8 @@ use ados_script::Script;
 use ados_text::{NoMemory, Result2, Text};
 use std::alloc::Global;
 
-/// Execute calls the script FILE with ARGS. Its path is looked up; if that is a name alone, and nothing has it, S: is
-/// searched.
+/// Execute calls the script FILE with ARGS. Its path is looked up; if that is a name alone, and no object is there, S:
+/// is searched.
 ///
 /// What finding, reading and substituting refuse: 202 for an open output, 204, 205, 210, 212, 218, 224 with 10; 114 to
 /// 119 with 20.
@@ -70,7 +70,7 @@ fn call_found(
     }
 }
 
-/// Where a script is: in S: if its name is not a path and nothing has it.
+/// Where a script is looked for: at the place of its word, or in S: if the word is not a path and no object is there.
 fn script_place(
     alloc: Global,
     shared: &Shared,

@@ -187,7 +187,7 @@ impl Frame {
         matches!(self.fixed.kind, Kind::Script { .. })
     }
 
-    /// The limit in force at its beginning.
+    /// The fail limit in force at its beginning.
     pub fn limit(&self) -> Code
         ensures { result ≡ self.now.limit }
     {
@@ -207,7 +207,7 @@ impl Frame {
     {
         match self.last {
             None => 0,
-            Some(entry) => entry.line,
+            Some(last) => last.line,
         }
     }
 
@@ -217,17 +217,18 @@ impl Frame {
     {
         match self.last {
             None => Codes::NONE,
-            Some(entry) => entry.codes,
+            Some(last) => last.codes,
         }
     }
 
-    /// It is a script whose last record was at its limit: when it ends, it ends early.
+    /// It is a script whose last record reached the limit in force after the command: such an end is reported as early, also
+    /// if that command was Quit or stood on the last line.
     pub fn is_early(&self) -> bool
         ensures { result ≡ is_early self.now.kind self.now.last }
     {
         match self.last {
             None => false,
-            Some(entry) => self.is_script() && is_reached(entry.limit, entry.codes.code),
+            Some(last) => self.is_script() && is_reached(last.limit, last.codes.code),
         }
     }
 }

@@ -1,4 +1,4 @@
-// What a Run takes: the commands of its shell.
+// What a Run takes: the commands of the new shell.
 ghost use Rattle.std.specs.Prelude.{◌≡◌, ◌≤◌, ◌+◌, ◌-◌, ◌++◌, [], ◌∷◌, length, IfOk, OnOk};
 ghost use Rattle.std.specs.Option.{option_map};
 ghost use Rattle.ados_flow.specs.Gathering.{asks_nothing, before_plus, run_gathering, number_line, run_limit, without_plus};
@@ -89,7 +89,7 @@ fn push_front(alloc: Global, commands: &mut Texts, text: &Text) -> Result<(), No
     commands.push(front)
 }
 
-/// What Run prints: the number of its shell, `[CLI n]`, and a newline.
+/// What Run prints: the number of the new shell, `[CLI n]`, and a newline.
 pub fn number_line(alloc: Global, number: u8) -> Result<Octets, NoMemory>
     ensures { IfOk result (λ bytes. bytes ≡ number_line number) }
 {

@@ -7,7 +7,7 @@ pub enum Kind {
     Script {
         /// The full path of its file.
         name: Text,
-        /// The word of the command that made it.
+        /// The word of the command that called it.
         command: Text,
     },
     /// The commands of a Run: the lines of its shell.

@@ -9,7 +9,7 @@ ghost use Rattle.ados_flow.specs.Rows.{row_of};
 
 use ados_resident::FlowCommand;
 
-/// Whether a command reads what is in use.
+/// Whether a command needs the list of what is in use: Execute does, since it refuses a script that is an open output (202).
 #[tactic(auto, using(crate::proofs::InUseLemmas::ignores))]
 pub fn reads_in_use(command: FlowCommand) -> bool
     ensures value { result ≡ reads_in_use command }

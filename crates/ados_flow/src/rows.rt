@@ -46,7 +46,7 @@ pub fn template(command: FlowCommand) -> &'static str
     }
 }
 
-/// What a command does, by the shared parts, the newest frame, its shell's view, and the arguments that its template
+/// What a command does, by the shared state, the newest frame, its shell's view, and the arguments that its template
 /// gave. It reads neither the names of the shells nor what they run from.
 #[tactic(auto, using(crate::proofs::ShellsLemmas::ignores_shells))]
 pub fn run(

@@ -1,4 +1,4 @@
-// The tests of If.
+// The conditions of If. A number is the index of an option in If's template (src/rows.rt), from 0.
 ghost use Rattle.std.specs.Prelude.{◌≡◌, ◌++◌, Err, IfOk, filter, option_to_list};
 ghost use Rattle.std.specs.Option.{option_map};
 ghost use Rattle.ados_text.specs.Name.{name_cmp};
@@ -131,11 +131,11 @@ fn code_reaches(level: Code, view: &ShellView) -> bool
     is_reached(level, view.codes.code)
 }
 
-// The order of the unnamed word and the value of the option at a place.
-fn argument_order(args: &Args, place: usize) -> Result<Ordering, Refusal>
-    ensures { Gives result (argument_order args.now place) }
+// The order of the unnamed word and the value of the option with this index.
+fn argument_order(args: &Args, index: usize) -> Result<Ordering, Refusal>
+    ensures { Gives result (argument_order args.now index) }
 {
-    order_by(args.has_switch(8), args.text(4), args.text(place))
+    order_by(args.has_switch(8), args.text(4), args.text(index))
 }
 
 fn order_by(by_value: bool, left: Option<&[u8]>, right: Option<&[u8]>) -> Result<Ordering, Refusal>
