@@ -25,7 +25,7 @@ abbrev pub SpelledPathsLeadBack : Type 0
 SpelledPathsLeadBack = (files : Files) (place : Place) → IsTree files → IsThere files place →
     length (spelled_path place) ≤ path_limit → LeadsTo files (spelled_path place) place
 
--- a place as it is written in the files is the same place
+-- a place with its names as they are written in the files is the same place
 abbrev pub WrittenPlacesAreTheirs : Type 0
 WrittenPlacesAreTheirs = (files : Files) (place : Place) → AreNamed files → key_of (written_place files place) ≡ key_of place
 

@@ -1,4 +1,4 @@
--- The outcome of each command, given the shared parts, its shell's view and its arguments.
+-- The outcome of each command, given the shared state, its shell's view and its arguments.
 use Rattle.std.specs.Prelude.{List, codes}
 use Rattle.ados_text.specs.Text.{Text}
 use Rattle.ados_readargs.specs.declared.args.Arg.{Arg}

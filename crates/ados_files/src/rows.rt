@@ -51,7 +51,7 @@ pub fn template(command: FilesCommand) -> &'static str
     }
 }
 
-/// The outcome of a command, given the shared parts, its shell's view, and the arguments by its template.
+/// The outcome of a command, given the shared state, its shell's view, and the arguments by its template.
 pub fn run(
     alloc: Global,
     command: FilesCommand,

@@ -7,7 +7,7 @@ use Rattle.ados_ram.specs.Place.{Place, key_of}
 use Rattle.ados_ram.specs.Files.{Files}
 use Rattle.ados_ram.specs.declared.entries.Entry.{Entry}
 
--- the name of the object at a place, as it is written there; otherwise as it is given
+-- the name as it is written in the files, if this object is there; otherwise as it is given
 abbrev pub spelled_name : Option Entry → Name → Name
 spelled_name None name = name
 spelled_name (Some e) name = e.name
@@ -31,7 +31,7 @@ abbrev pub slash_joined : Place → Text
 slash_joined [] = []
 slash_joined (name ∷ rest) = name ++ slash_before rest ++ slash_joined rest
 
--- a place as a path, with its names as they are spelled
+-- a place as a path, with its names as they are given
 abbrev pub spelled_path : Place → Text
 spelled_path place = codes "RAM:" ++ slash_joined place
 
