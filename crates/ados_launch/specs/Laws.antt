@@ -11,7 +11,7 @@ use Rattle.ados_launch.specs.Asked.{AreNoStarts}
 use Rattle.ados_launch.specs.Taken.{TakenItem, taken_events, taken_outs}
 use Rattle.ados_launch.specs.Session.{Session}
 
--- in each shell each script ends early exactly at its first command whose code reaches its limit
+-- in each shell each script ends at its first command whose code reaches the limit in force after it, and is early exactly then
 abbrev pub SessionsObeyLimits : Type 0
 SessionsObeyLimits = (w : WorldState) (left : Option (List ℕ)) (breaks : List BreakAt) (calls : List Call) (is_full : Bool) (listed : List Call) (taken : List TakenItem) (last : WorldState) →
     Session w left breaks calls is_full listed taken last → IsSane w → LimitsHold w (taken_events taken) (taken_outs taken)

@@ -6,7 +6,7 @@ use ados_machine::{
 };
 
 /// In every session, however it ends, of a world in which no script runs on after a failure: in every shell each
-/// script ends early exactly at its first command whose code reaches the limit after it. The reports of every
+/// script ends at its first command whose code reaches the limit in force after it, and is early exactly then. The reports of every
 /// session are the ends of its scripts, one each and in order. Each frame ends once, by the name under which it began.
 pub fn sessions_obey_the_laws()
     ensures limits { SessionsObeyLimits }
