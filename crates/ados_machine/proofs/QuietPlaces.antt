@@ -51,7 +51,7 @@ pub own-ended_with : (j : ℕ) (xs ys : List Codes) (done : Bool) (codes : Codes
 own-ended_with j xs ys true codes pos alike = own-ended j xs ys codes pos alike
 own-ended_with j xs ys false codes pos alike = alike
 
--- nothing has moved if the shared parts are the same
+-- nothing has moved if the shared state is the same
 there-or-not : {X : Type 0} (o : Option X) → (is_some o && is_none o) ≡ false
 there-or-not None = refl
 there-or-not (Some x) = refl

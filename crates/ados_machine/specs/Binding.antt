@@ -26,7 +26,7 @@ pub record IsBound (used : List Text) (files : Files) (before : List Assign) (na
   pub stands_for : option_map (λ a. a.binding) now ≡ Some (Dirs (place ∷ []))
   pub directory : is_some_directory (map.get files (key_of place)) ≡ true
 
--- each assign is as it was, except for Defers among these devices, which are bound to directories that are there
+-- each assign is as it was, except for Defers among these devices, which may have been bound to directories that are there
 abbrev pub BindsOnly : List Text → Files → AssignMap → AssignMap → Type 0
 BindsOnly used files before after = (name : Text) → (map.get after name ≡ map.get before name) ⊎ IsBound used files (map.values before) name (map.get after name)
 

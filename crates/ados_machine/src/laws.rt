@@ -81,7 +81,7 @@ pub fn failed_starts_change_the_codes()
 {}
 
 /// A shell whose events each leave what is seen of it as it was can be taken out of every run: without its events the
-/// others are answered the same, and what all share, the other shells and their codes are left the same. What is seen of
+/// others get the same results, and what all share, the other shells and their codes are left the same. What is seen of
 /// a shell is its directory, its open outputs, the resident entry that it runs from and its name, which numbers have a
 /// shell, the flags and marks of breaks in the other shells, and what all share.
 pub fn quiet_shells_are_invisible()

@@ -21,7 +21,7 @@ pub record ReportsBreak (scene : Scene) (before after : Draft) (frame : FrameSta
   pub same : after ≡ record before { reports = after.reports }
   pub reports : (depth : ℕ) → after.reports.items ≡ before.reports.items ++ reports_of scene.number (break_of depth frame ∷ [])
 
--- the output of a frame that ended at a break was dropped, if the frame is a tick's, and nothing else was done
+-- the output of a frame that ended at a break was dropped, if the frame is that of a command substitution, and nothing else was done
 pub record GivesUp (scene : Scene) (before after : Draft) (frame : FrameState) : Type 0 where
   pub frames : after.shell.frames ≡ before.shell.frames
   pub course : course_of scene after ≡ record (course_of scene before) { kept = kept_after_break frame.kind (course_of scene before).kept }

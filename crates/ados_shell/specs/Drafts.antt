@@ -37,7 +37,7 @@ use Rattle.ados_shell.specs.Stacks.{drafted_frames}
 abbrev pub drafted_phase : ShellDraft → Phase
 drafted_phase draft = phase_of (option_map (λ p. p.value) draft.phase)
 
--- the output of the ticks, if that changed
+-- the output of the command substitutions, if that changed
 abbrev pub drafted_outputs : ShellDraft → Option (List Bytes)
 drafted_outputs draft = option_map (λ k. reverse k.items) draft.kept
 
@@ -69,7 +69,7 @@ out_of draft = event_out draft.printed.items draft.request draft.reports.items
 abbrev pub frames_of : Scene → Draft → List FrameState
 frames_of scene draft = drafted_frames scene.shell.now draft.shell.frames
 
--- the place of the next line of the newest frame
+-- what the next line of the newest frame knows of the frames
 abbrev pub next_line_place : Scene → Draft → Here
 next_line_place scene draft = here_of (frames_of scene draft)
 
@@ -202,14 +202,14 @@ pub record IsReported (scene : Scene) (before after : Draft) (name : Text) (fram
   pub printed : after.printed.items ≡ before.printed.items
   pub reports : after.reports.items ≡ before.reports.items ++ report_of scene.number name frame ∷ []
 
--- the end of a tick left its line to go on, with its output
+-- the end of a command substitution left its line to go on, with its output
 pub record IsTicked (scene : Scene) (mid after : Draft) (front tail : Text) : Type 0 where
   pub frames : after.shell.frames ≡ mid.shell.frames
   pub phase : drafted_phase after.shell ≡ GoingOn (record { before = front; output = newest_kept (course_of scene mid).kept; after = tail })
   pub course : course_of scene after ≡ record (course_of scene mid) { kept = drop 1 (course_of scene mid).kept }
   pub reports : after.reports.items ≡ mid.reports.items
 
--- what a command made was moved in
+-- the draft holds what a command made
 pub record HoldsEffect (number : ℕ) (before after : Draft) (change : Option Change) (shared : Option SharedState) (renamed : Option Renamed) (breaking : Option Breaking) : Type 0 where
   pub frames : after.shell.frames ≡ before.shell.frames
   pub parts_are : (shell : ShellState) → (drafted_shell after.shell shell).parts ≡ parts_after_command change (drafted_shell before.shell shell).parts

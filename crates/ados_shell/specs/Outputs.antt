@@ -22,7 +22,7 @@ use Rattle.ados_shell.specs.declared.scenes.Scene.{Scene}
 use Rattle.ados_shell.specs.declared.drafts.Draft.{Draft}
 use Rattle.ados_shell.specs.Drafts.{course_of}
 
--- an output was opened: a file, with the shared parts after its opening, or another output, for which nothing changes
+-- an output was opened: a file, with the shared state after its opening, or another output, for which nothing changes
 abbrev pub IsOpened : SharedState → Result Opened Stop → Result line.OpenedOutput Result2 → Type 0
 IsOpened shared (Ok Nothing) (Ok opened) = opened ≡ record { shared = shared; target = None }
 IsOpened shared (Ok Nil) (Ok opened) = opened ≡ record { shared = shared; target = Some Null }
@@ -31,7 +31,7 @@ IsOpened shared (Err (Refused fault)) (Err other) = fault ≡ other
 IsOpened shared (Err NoMemory) opened = Unit {0}
 IsOpened shared _ _ = ⊥
 
--- a turn after what a line's redirection opens was opened: it leads there, and the shared parts are new ones; if it
+-- a turn after what a line's redirection opens was opened: it leads there, and the shared state is a new one; if it
 -- was refused, nothing changed
 pub record LeadsTo (scene : Scene) (before after : Draft) (target : Option Target) (opened : line.OpenedOutput) (course : Course) : Type 0 where
   pub frames : after.shell.frames ≡ before.shell.frames
@@ -65,7 +65,7 @@ pub record IsPut (scene : Scene) (before after : Draft) (codes : Codes) (done : 
   pub course : course_of scene after ≡ done.course
   pub reports : after.reports.items ≡ before.reports.items
 
--- what a command's effect leaves, whose output leads there: it is moved in, and its output is put
+-- what a command's effect leaves, whose output leads there: the draft holds it, and its output is put
 abbrev pub effect_put : Option Target → Effect → Here → Course → course.Put
 effect_put target effect here before = course.put (sink_or target here.sink) effect.output effect.codes (with_effect effect before)
 

@@ -39,7 +39,7 @@ sink_by_way ways.Below below = below
 sink_by_way ways.Kept below = Kept
 sink_by_way (ways.To target) below = To target.now
 
--- the newest frame's next line has a number
+-- the number of the newest frame's next line fits into a usize
 abbrev pub HasRoom : List FrameState → Type 0
 HasRoom [] = Unit {0}
 HasRoom (frame ∷ frames) = frame.position + 1 < 2 ^ 64

@@ -14,7 +14,7 @@ pub record HasUsed (scene : Scene) (before after : Draft) (course : Course) : Ty
   pub setting : after.shell.setting ≡ before.shell.setting
   pub reports : after.reports.items ≡ before.reports.items
 
--- these are the shared parts with the assigns that it used bound, or none, if they stay as they are
+-- this is the shared state with the assigns that it used bound, or none, if that stays as it is
 abbrev pub IsBound : Scene → Draft → Option SharedState → Type 0
 IsBound scene draft new =
     version (course_of scene draft).shared new ≡ with_assigns (course_of scene draft).shared

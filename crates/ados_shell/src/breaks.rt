@@ -104,7 +104,7 @@ impl Draft {
         Ok(())
     }
 
-    /// Drops the output of a frame that was popped, if it is a tick's.
+    /// Drops the output of a frame that was popped, if it is that of a command substitution.
     fn give_up(&mut self, scene: &Scene, frame: &Frame) -> Result<(), NoMemory>
         ensures { OnOk result (GivesUp scene.now self.old self.new frame.now) }
     {

@@ -47,7 +47,7 @@ impl Draft {
         self.act(scene, &line.command, target, None, action)
     }
 
-    /// What the call of a script does whose output leads there, with the shell and the shared parts as they are now.
+    /// What the call of a script does whose output leads there, with the shell and the shared state as it is now.
     fn script(
         &self,
         scene: &Scene,

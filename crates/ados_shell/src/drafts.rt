@@ -1,4 +1,4 @@
-// What a turn has changed so far, to be committed ("moved in").
+// What a turn has changed so far, to be committed.
 ghost use Rattle.std.specs.Prelude.{◌≡◌, [], None, false, OnOk, option_map};
 ghost use Rattle.ados_find.specs.Shared.{version};
 ghost use Rattle.ados_machine.specs.Step.{event_out};
@@ -22,7 +22,7 @@ use std::alloc::Global;
 pub struct Draft {
     /// What the turn makes of its shell.
     pub shell: ShellDraft,
-    /// The shared parts, if they are new ones.
+    /// The shared state, if it is a new one.
     pub shared: Option<Shared>,
     /// The object that was renamed, by which the current directories of all shells are carried.
     pub renamed: Option<Box<Renamed>>,
@@ -40,7 +40,7 @@ pub struct Draft {
     pub args: Args,
     /// The devices that the event used so far, with those to which they lead; it takes no memory if none was used.
     pub used: Vec<Name>,
-    /// What the cache of the shared parts may learn: what this turn, or one before it, asked for and did not find. It is
+    /// What the cache of the shared state may learn: what this turn, or one before it, asked for and did not find. It is
     /// a hint, and no definition speaks of it.
     pub asked: Option<Box<Question>>,
 }
@@ -59,7 +59,7 @@ pub struct ShellDraft {
     pub directory: Option<Place>,
     /// What the command set in the shell, if it set something.
     pub setting: Option<Setting>,
-    /// The output of its ticks so far, if that changed; that of the newest is the last.
+    /// The output of its command substitutions so far, if that changed; that of the newest is the last.
     pub kept: Option<Vec<Octets>>,
     /// Its scripts end at its next turn.
     pub flagged: bool,
@@ -197,7 +197,7 @@ impl Draft {
         self.shell.directory(scene.shell)
     }
 
-    /// The shared parts as they are now.
+    /// The shared state as it is now.
     pub(crate) fn current<'b>(&'b self, scene: &'b Scene) -> &'b Shared
         ensures { result.now ≡ version scene.now.shared.now self.now.shared }
     {
@@ -207,8 +207,8 @@ impl Draft {
         }
     }
 
-    /// What a command of the shell with this number made is moved in: what it changed of the shell's parts, new shared parts,
-    /// if there are any, what was renamed, and which shell was broken. A shell that breaks itself is flagged at once.
+    /// The draft holds what a command of the shell with this number made: what it changed of the shell's parts, a new shared
+    /// state, if there is one, what was renamed, and which shell was broken. A shell that breaks itself is flagged at once.
     pub(crate) fn affect(
         &mut self,
         number: u8,

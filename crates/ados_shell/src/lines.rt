@@ -63,7 +63,7 @@ impl Draft {
         self.answer(scene, b"Shell", Codes::failed(fault), false)
     }
 
-    /// The expansion of a raw line, with the shell and the shared parts as they are now.
+    /// The expansion of a raw line, with the shell and the shared state as it is now.
     fn expanded(&self, scene: &Scene, raw: &Text) -> Result<Expanded, LineFault>
         requires { IsUnset self.now }
         ensures { Gives result (expand_raw_line (course_of scene.now self.now).parts.settings.aliases (visible_variables (course_of scene.now self.now)) raw.now) }
@@ -72,7 +72,7 @@ impl Draft {
         expand(&scope, raw)
     }
 
-    /// Where the words of a line have their meanings, with the shell and the shared parts as they are now.
+    /// Where the words of a line have their meanings, with the shell and the shared state as it is now.
     pub(crate) fn scope<'b>(&'b self, scene: &'b Scene) -> Scope<'b>
         requires { IsUnset self.now }
         ensures aliases { result.aliases.now ≡ (course_of scene.now self.now).parts.settings.aliases }
@@ -148,7 +148,7 @@ impl Draft {
         }
     }
 
-    /// What a word stands for, with the shell and the shared parts as they are now, and which device its search used.
+    /// What a word stands for, with the shell and the shared state as it is now, and which device its search used.
     fn find(&self, scene: &Scene, word: &Text) -> Result<Search, NoMemory>
         requires { IsUnset self.now }
         ensures found { IfOk result (λ s. s.found ≡ found_in (course_of scene.now self.now) word.now) }

@@ -27,7 +27,7 @@ pub enum Opened {
     Nothing,
     /// NIL:.
     Nil,
-    /// A file, with the shared parts after its opening.
+    /// A file, with the shared state after its opening.
     File(Shared, Place),
 }
 
@@ -69,7 +69,7 @@ impl Draft {
     ghost use Rattle.ados_shell.specs.Outputs.{HasHeld, HasOpened, HoldsFiles, IsOpened, IsPut};
     ghost use Rattle.ados_shell.specs.Drafts.{course_of, next_line_place};
 
-    /// Opens what a redirection names, with the shell and the shared parts as they are now.
+    /// Opens what a redirection names, with the shell and the shared state as it is now.
     pub(crate) fn open(&self, scene: &Scene, output: Option<&Redirection>) -> Result<Opened, Stop>
         ensures { IsOpened (course_of scene.now self.now).shared result (line_output (course_of scene.now self.now) (option_copied output.entry)) }
     {
@@ -88,7 +88,7 @@ impl Draft {
         }
     }
 
-    /// Opens what a redirection names, holds what that makes of the shared parts, and uses its device; gives where it
+    /// Opens what a redirection names, holds what that makes of the shared state, and uses its device; gives where it
     /// leads, if one is named. If it is refused nothing is changed.
     ///
     /// 210 for a name that is not a path, what resolving refuses (204, 205, 212, 218), and what writing refuses (202,

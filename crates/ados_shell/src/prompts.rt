@@ -42,7 +42,7 @@ impl Draft {
         }
     }
 
-    /// The lines of an input, if there is one, with the shell and the shared parts as they are now.
+    /// The lines of an input, if there is one, with the shell and the shared state as it is now.
     fn input(&self, scene: &Scene, name: Option<&Text>) -> Result<Option<Texts>, Stop>
         ensures { Gives result (input_lines (course_of scene.now self.now) (option_copied name.entry)) }
     {

@@ -1,4 +1,4 @@
-// What a command does: its output is opened, its row runs, and what it made is moved in.
+// What a command does: its output is opened, its row runs, and the draft holds what it made.
 ghost use Rattle.std.specs.Prelude.{◌≡◌, None, IfOk, OnOk};
 ghost use Rattle.std.specs.Option.{option_copied, option_map};
 ghost use Rattle.ados_find.specs.Effects.{effect_of};
@@ -42,7 +42,7 @@ impl Draft {
         self.act(scene, &line.command, target, input, action)
     }
 
-    /// Moves in what is done by a command whose output leads there, and whose input has these lines.
+    /// Holds what is done by a command whose output leads there, and whose input has these lines.
     pub(crate) fn act(
         &mut self,
         scene: &Scene,
@@ -78,7 +78,7 @@ impl Draft {
         }
     }
 
-    /// What a command does whose output leads there, with the shell and the shared parts as they are now; the devices that its
+    /// What a command does whose output leads there, with the shell and the shared state as it is now; the devices that its
     /// arguments use are used.
     #[tactic(auto, unfolding(ados_machine::specs::Uses::devices_reached))]
     fn action(
@@ -176,7 +176,7 @@ impl Draft {
         )
     }
 
-    /// What a command made is moved in, and its output is put; gives what it returns then.
+    /// The draft holds what a command made, and its output is put; gives what it returns then.
     pub(crate) fn apply(
         &mut self,
         scene: &Scene,

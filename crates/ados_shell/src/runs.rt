@@ -113,7 +113,7 @@ impl Draft {
         }
     }
 
-    /// Takes another line for a Run that gathers. If that goes on the shell waits again, up to the last command that
+    /// Takes another line for a Run that reads further lines. If that goes on the shell waits again, up to the last command that
     /// a new shell is given.
     pub(crate) fn join(
         &mut self,
@@ -149,7 +149,7 @@ impl Draft {
         }
     }
 
-    /// Makes the shell of a Run that gathers, for which no more lines come.
+    /// Makes the shell of a Run that reads further lines, of which no more come.
     pub(crate) fn gather_no_more(
         &mut self,
         scene: &Scene,

@@ -1,4 +1,4 @@
-// What a turn makes of its shell, to be committed ("moved in").
+// What a turn makes of its shell, to be committed.
 ghost use Rattle.std.specs.Prelude.{◌≡◌, ◌||◌, None, false, option_map, IfOk, OnErr, OnOk};
 
 use crate::drafts::ShellDraft;
@@ -100,7 +100,7 @@ impl ShellDraft {
         }
     }
 
-    /// Moves in what a turn makes of its shell.
+    /// Commits what a turn makes of its shell.
     ///
     /// `NoMemory` if there is no room for the frames, for a new name or for what is asked for; the shell is then as it
     /// was.

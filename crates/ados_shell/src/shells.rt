@@ -29,7 +29,7 @@ pub struct Shell {
     pub(crate) limit: Code,
     pub(crate) codes: Codes,
     pub(crate) settings: Settings,
-    // The output of its ticks so far; that of the newest is the last.
+    // The output of its command substitutions so far; that of the newest is the last.
     pub(crate) kept: Vec<Octets>,
     // Its scripts end at its next turn.
     pub(crate) flagged: bool,
@@ -150,7 +150,7 @@ impl Shell {
         &self.directory
     }
 
-    /// The output of its ticks so far; that of the newest is the last.
+    /// The output of its command substitutions so far; that of the newest is the last.
     pub(crate) fn kept(&self) -> &[Octets]
         ensures { reverse result.now ≡ self.now.kept }
     {

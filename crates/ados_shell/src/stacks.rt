@@ -172,7 +172,7 @@ impl Stack {
 pub enum Sink {
     /// To the console.
     Console,
-    /// Into the newest tick.
+    /// Into the output of the newest command substitution.
     Kept,
     /// Where a redirection leads.
     To(Target),
@@ -183,7 +183,7 @@ pub enum Sink {
 enum Way<'f> {
     /// Where the output of what is below them goes.
     Below,
-    /// Into the newest tick.
+    /// Into the output of the newest command substitution.
     Kept,
     /// Where a redirection leads.
     To(&'f Target),

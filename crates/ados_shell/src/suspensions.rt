@@ -8,7 +8,7 @@ use ados_machine::{Parted, Request, Wait};
 use ados_text::NoMemory;
 
 /// What keeps a shell from taking its next line: a line of it that has begun and not ended. A shell without one is in the
-/// phase Ready.
+/// phase Ready: it waits for nothing.
 #[derive(Drop)]
 pub enum Suspension {
     /// It continues a line whose command substitution has ended.

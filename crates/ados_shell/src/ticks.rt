@@ -19,14 +19,14 @@ use ados_script::Script;
 use ados_text::{NoMemory, Octets, Result2, Text};
 use std::alloc::Global;
 
-/// A tick keeps at most this many bytes, the first ones.
+/// A command substitution keeps at most this many bytes, the first ones.
 const TICK_LIMIT: usize = 1024;
 
 impl Draft {
     ghost use Rattle.ados_shell.specs.Drafts.{IsRuled, IsTicked, IsUnset, Settles, course_of, frames_of, next_line_place};
     ghost use Rattle.ados_shell.specs.Outputs.{IsPut};
 
-    /// A tick of a line begins: if there are as many frames as a shell may have, that is the line's fault.
+    /// A command substitution of a line begins: if there are as many frames as a shell may have, that is the line's fault.
     pub(crate) fn tick(&mut self, scene: &Scene, tick: Tick) -> Result<(), NoMemory>
         ensures { OnOk result (Settles scene.now self.old self.new
             (if (next_line_place scene.now self.old).is_full then line_fault TOO_MANY_LEVELS (course_of scene.now self.old)
@@ -39,7 +39,7 @@ impl Draft {
         }
     }
 
-    /// A tick begins, and takes its line at the next turn.
+    /// A command substitution begins, and takes its line at the next turn.
     fn begin_tick(&mut self, scene: &Scene, tick: Tick) -> Result<(), NoMemory>
         ensures { OnOk result (IsRuled scene.now self.old self.new
             (enter_tick tick.before tick.command tick.after (frames_of scene.now self.old) (said_of (course_of scene.now self.old)))) }
@@ -59,7 +59,7 @@ impl Draft {
         self.shell.frames.push(frame)
     }
 
-    /// The newest tick has ended and was popped: its line goes on with the tick's output between these texts.
+    /// The newest command substitution has ended and was popped: its line goes on with the output of it between these texts.
     pub(crate) fn end_tick(
         &mut self,
         scene: &Scene,
@@ -83,7 +83,7 @@ impl Draft {
         Ok(())
     }
 
-    /// The newest tick keeps the output of a command.
+    /// The newest command substitution keeps the output of a command.
     pub(crate) fn keep(
         &mut self,
         scene: &Scene,
@@ -100,7 +100,7 @@ impl Draft {
         Ok(codes)
     }
 
-    /// Goes on with a line whose tick has ended.
+    /// Goes on with a line whose command substitution has ended.
     pub(crate) fn go_on(&mut self, scene: &Scene, parted: &Parted) -> Result<(), NoMemory>
         requires { IsUnset self.old }
         ensures { OnOk result (Settles scene.now self.old self.new
@@ -115,7 +115,7 @@ impl Draft {
 impl ShellDraft {
     ghost use Rattle.ados_shell.specs.Drafts.{drafted_shell};
 
-    /// A copy of the output of the ticks so far; that of the newest is the last.
+    /// A copy of the output of the command substitutions so far; that of the newest is the last.
     pub(crate) fn kept_copy(&self, scene: &Scene) -> Result<Vec<Octets>, NoMemory>
         ensures { IfOk result (λ kept. reverse kept.items ≡ (drafted_shell self.now scene.now.shell.now).kept) }
     {
@@ -133,7 +133,7 @@ fn copied(alloc: Global, kept: &[Octets]) -> Result<Vec<Octets>, NoMemory>
     Ok(kept.to_vec(alloc)?)
 }
 
-/// What a tick keeps that kept these bytes so far, after this output.
+/// What a command substitution keeps that kept these bytes so far, after this output.
 fn joined(kept: Octets, output: &[u8]) -> Result<Octets, NoMemory>
     ensures { IfOk result (λ joined. joined ≡ take tick_limit (kept ++ output.now)) }
 {

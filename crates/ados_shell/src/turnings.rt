@@ -37,10 +37,10 @@ impl Draft {
     /// changed, and what the draft held before is forgotten.
     ///
     /// A shell that waits for the answer to a prompt takes a line of its input, and at its end an empty one; one whose Run
-    /// gathers takes a line, and goes on without one at the end; one that waits for a launcher takes nothing. A line whose
-    /// command substitution has ended goes on. In the phase Ready a shell takes the next line of its newest frame; without a
-    /// frame it takes a line of its input, and ends at the end of that. If the shell is flagged and runs a script, its
-    /// scripts end instead of all this, and no line is taken.
+    /// reads further lines, since its last one ends in `+`, takes a line, and goes on without one at the end; one that waits
+    /// for a launcher takes nothing. A line whose command substitution has ended goes on. In the phase Ready a shell takes the
+    /// next line of its newest frame; without a frame it takes a line of its input, and ends at the end of that. If the shell
+    /// is flagged and runs a script, its scripts end instead of all this, and no line is taken.
     ///
     /// `NoMemory` if there is none for what the turn makes, and only if the shell has something to
     /// take: its end needs no memory.
@@ -82,7 +82,7 @@ impl Draft {
         }
     }
 
-    /// A line whose tick has ended goes on.
+    /// A line whose command substitution has ended goes on.
     fn take_parted(&mut self, scene: &Scene, parted: &Parted) -> Result<(), NoMemory>
         ensures { OnOk result (IsDrafted scene.now self.new
             (turn_of_completion (parted_completion parted.now (here_of scene.now.shell.now.frames) (turn_start scene.now)) scene.now.shell.now.frames)) }
@@ -106,7 +106,7 @@ impl Draft {
         }
     }
 
-    /// A turn of a shell whose Run gathers: it takes a line, and at the end of its input it makes its shell.
+    /// A turn of a shell whose Run reads further lines: it takes a line, and at the end of its input it makes its shell.
     fn gathering_turn(
         &mut self,
         scene: &Scene,
@@ -129,7 +129,7 @@ impl Draft {
         }
     }
 
-    /// Another line is taken for a Run that gathers.
+    /// Another line is taken for a Run that reads further lines.
     fn take_command(
         &mut self,
         scene: &Scene,
@@ -144,7 +144,7 @@ impl Draft {
         self.bind(scene)
     }
 
-    /// No more lines come for a Run that gathers.
+    /// No more lines come for a Run that reads further ones.
     fn take_no_command(&mut self, scene: &Scene, gathering: &Gathering) -> Result<(), NoMemory>
         ensures { OnOk result (IsDrafted scene.now self.new
             (turn_of_completion (gathered_completion gathering.now (here_of scene.now.shell.now.frames).sink (turn_start scene.now)) scene.now.shell.now.frames)) }

@@ -102,7 +102,7 @@ impl Draft {
         }
     }
 
-    /// The line asks for such a variable, with the shell and the shared parts as they are now.
+    /// The line asks for such a variable, with the shell and the shared state as it is now.
     fn asks_global(&self, scene: &Scene, raw: &Text) -> Result<bool, NoMemory>
         requires { IsUnset self.now }
         ensures { IfOk result (λ asks. asks ≡ asks_global (parts_of scene.now self.now).settings.aliases (locals_of (parts_of scene.now self.now)) raw.now) }
@@ -134,7 +134,7 @@ impl Draft {
         }
     }
 
-    /// The shared parts with the used assigns of Defer bound; `None` if nothing can bind.
+    /// The shared state with the used assigns of Defer bound; `None` if nothing can bind.
     fn bound(&self, scene: &Scene) -> Result<Option<Shared>, NoMemory>
         ensures { IfOk result (λ new. IsBound scene.now self.now new) }
     {

@@ -1,4 +1,4 @@
--- What a step moves in, and its answer.
+-- What a step commits, and its result.
 use Rattle.std.specs.Prelude.{◌-◌, ℕ, List, [], ◌∷◌, ◌++◌, Option, Some, None, Result, Ok, Err, option_map, slice_set}
 use Rattle.ados_find.specs.declared.codes.Codes.{Codes}
 use Rattle.ados_find.specs.Shared.{version}
@@ -51,7 +51,7 @@ ended_world number codes w = record w { shells = slice_set w.shells (number - 1)
 abbrev pub with_line : List ℕ → WorldState → WorldState
 with_line line w = record w { queue = w.queue ++ line ∷ [] }
 
--- the answer to an event with this output, if it was accepted
+-- the result of an event with this output, if it was accepted
 abbrev pub step_answer : {X : Type 0} → Out → Result X Refusal → Result Out Refusal
 step_answer out (Ok accepted) = Ok out
 step_answer out (Err why) = Err why

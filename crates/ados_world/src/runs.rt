@@ -15,7 +15,7 @@ use crate::worlds::World;
 use ados_machine::{Event, Out, Refusal};
 use std::marker::Model;
 
-/// The answer to each event of a run, in order.
+/// The result of each event of a run, in order.
 #[derive(Drop)]
 pub struct Outs {
     items: Vec<Result<Out, Refusal>>,
@@ -32,21 +32,21 @@ impl Model for Outs {
 }
 
 impl Outs {
-    /// The answers of a vector, taken over without allocation.
+    /// The results in a vector, taken over without allocation.
     pub fn from_vec(items: Vec<Result<Out, Refusal>>) -> Outs
         ensures { result ≡ items.items }
     {
         Outs { items }
     }
 
-    /// The vector of the answers, given back without allocation.
+    /// The vector of the results, given back without allocation.
     pub fn into_vec(self) -> Vec<Result<Out, Refusal>>
         ensures { result.items ≡ self }
     {
         self.items
     }
 
-    /// The answers, in order.
+    /// The results, in order.
     pub fn as_slice(&self) -> &[Result<Out, Refusal>]
         ensures { result.now ≡ self.now }
     {
@@ -59,24 +59,25 @@ impl Outs {
 pub struct Run {
     /// The world after its last event.
     pub world: World,
-    /// One answer for each event.
+    /// One result for each event.
     pub outs: Outs,
 }
 
 impl World {
     /// Takes the events one after another.
     ///
-    /// Each entry of `outs` is the step's answer; a refused event keeps the world. If there is no memory for the list
-    /// of answers, the world is returned unchanged.
+    /// Each item of `outs` is what the step returns; a refused event keeps the world. If there is no memory for the list
+    /// of results, the world is returned unchanged.
     ///
-    /// Whatever the events, each script ends early exactly at its first command whose code reaches
-    /// its limit, unless it is broken first, and the reports of the outs are the ends of scripts, in their order. Each end is
+    /// Whatever the events, each script ends early exactly at its first command whose code reaches the limit in force after it,
+    /// unless it is broken first, and the reports of the outs are the ends of scripts, in their order. Each end is
     /// that of the newest frame of its shell, reported once with the frame's own name and last record. Scripts end at a break
-    /// exactly at a turn that finds the flag of its shell, in which a script runs. If a program could not be started, and
-    /// that is the next event accepted after the turn that asked, nothing is left of the attempt. A shell whose events
-    /// leave what is seen of it as it was can be taken out: the others are answered the same without it. What waited and was
-    /// typed is what shell 1 took, in order, followed by what waits. Each report gives the last record of its script, and the
-    /// last codes of each number, even if its shell has ended, are those of its last command.
+    /// exactly at a turn that finds the flag of its shell, in which a script runs. If the next event accepted after the turn
+    /// that requested a program is the reply that it could not be started, then what all share, the other shells and each use
+    /// count are as before that turn. If no event of a shell changes what the others see of it and around it, the events of the
+    /// others alone give the same results. The lines that waited at first and those typed are, in order, those that shell 1 took
+    /// and those that still wait. Each report gives the last record of its script, and the last codes of each number, even if
+    /// its shell has ended, are those of its last command.
     pub fn run(mut self, events: &[Event]) -> Result<Run, World>
         ensures run { IfOk result (λ run. Runs self events.now run.outs run.world) }
         ensures limits { IfOk result (λ run. LimitsHold self events.now run.outs) }

@@ -80,7 +80,7 @@ pub fn find_shell(shells: &[Option<Shell>; 20], number: u8) -> Option<&Shell>
     }
 }
 
-/// Moves in what a turn makes of the shell with this number, which runs; if an object was moved, the current directories of
+/// Commits what a turn makes of the shell with this number, which runs; if an object was moved, the current directories of
 /// all shells are carried.
 ///
 /// `NoMemory` if there is no room for its frames or a directory; the shells are then as they were.

@@ -36,7 +36,8 @@ impl World {
     ///
     /// - A reply that a start has failed changes the codes of the shell that requested it, and what depends on these: what all
     ///   shells share, the other shells and the input stay.
-    /// - `Out::request` is what the event's shell then waits for; there is none after a typed line, the end of input or a break.
+    /// - `Out::request` is the request to a launcher for which the event's shell then waits, if any; there is none after a typed
+    ///   line, the end of input or a break.
     /// - At its end an event binds only those Defers that it used.
     /// - A report says that a script was broken exactly if the event is a turn that finds its shell flagged by a Break D while a
     ///   script runs in it.
@@ -152,7 +153,7 @@ impl World {
         Ok(())
     }
 
-    /// Moves in what is changed by a turn that took the first line of its input.
+    /// Commits what is changed by a turn that took the first line of its input.
     fn take_typed(&mut self, number: u8, draft: &mut Draft) -> Result<(), Refusal>
         requires number { IsShellNumber number }
         requires runs { is_some (numbered_shell self.old number) ≡ true }
@@ -169,7 +170,7 @@ impl World {
         Ok(())
     }
 
-    /// Moves in what a turn, or an answer, changes: the shell that it makes is placed at its number, the shell that it broke is
+    /// Commits what a turn, or an answer, changes: the shell that it makes is placed at its number, the shell that it broke is
     /// broken, and the turn's own shell ends if it is a background shell that no longer runs a frame.
     fn take(&mut self, number: u8, draft: &mut Draft) -> Result<(), Refusal>
         requires number { IsShellNumber number }
@@ -227,7 +228,7 @@ impl World {
     }
 }
 
-// The shared parts become new ones, if there are any; otherwise their cache learns what was asked.
+// The shared state becomes a new one, if there is one; otherwise its cache learns what was asked.
 fn renew(alloc: Global, shared: &mut Shared, new: Option<Shared>, asked: Option<Box<Question>>)
     ensures { shared.new ≡ version shared.old new }
 {
@@ -237,7 +238,7 @@ fn renew(alloc: Global, shared: &mut Shared, new: Option<Shared>, asked: Option<
     }
 }
 
-/// The cache of the shared parts, which the event left as they were, learns what it was asked for.
+/// The cache of the shared state, which the event left as it was, learns what it was asked for.
 fn learn(alloc: Global, shared: &mut Shared, asked: Option<Box<Question>>)
     ensures { shared.new ≡ shared.old }
 {

@@ -86,7 +86,7 @@ impl ShellTable {
         self.due.renew(number, &self.places);
     }
 
-    /// Moves in what a turn makes of the shell with this number; if there is no such shell, nothing is done.
+    /// Commits what a turn makes of the shell with this number; if there is no such shell, nothing is done.
     ///
     /// `NoMemory` if there is no room for its frames; the shells are then as they were.
     pub fn move_in(&mut self, number: u8, draft: &mut ShellDraft) -> Result<(), NoMemory>
@@ -117,7 +117,7 @@ impl ShellTable {
     }
 }
 
-// Moves in what a turn makes of the shell with this number, if there is one.
+// Commits what a turn makes of the shell with this number, if there is one.
 fn move_in(
     shells: &mut [Option<Shell>; 20],
     number: u8,

@@ -120,10 +120,10 @@ impl World {
         }
     }
 
-    /// The shell of this number can take a turn: it is in the phase Ready and runs a frame, a line of it continues after its
-    /// command substitution, or it reads its input and a line waits there or the input has ended. One that waits for the
-    /// answer to a prompt, or whose Run gathers, only reads its input, and one that waits for a launcher takes nothing.
-    /// The input of a background shell is at its end.
+    /// Whether the shell of this number can take a turn: it waits for nothing and runs a frame; or a command substitution of its
+    /// line has ended; or it reads its input, and a line waits there or the input has ended. A shell reads its input if it waits
+    /// for nothing and runs no frame, if it waits for the answer to a prompt, or if its Run reads further lines, since its last
+    /// one ends in `+`. A shell that waits for a launcher can take none. The input of a background shell is at its end.
     pub fn ready(&self, number: u8) -> bool
         ensures { result ≡ is_ready self.now number }
     {
