@@ -147,7 +147,7 @@ end-script : (shell depth line : ℕ) (kind : Kind) (codes : Codes) (early : Boo
     ≡ record { shell = shell; name = name; last_line = line; code = codes.code; early = early; broken = false } ∷ reports_of shell log
 end-script shell depth line kind codes early name command log e = ap (λ k. reports_of shell (Ended depth k line codes early ∷ log)) e
 
--- what is said after the end of a script
+-- the state of the code rule after the end of a script
 reported-said : (scene : Scene) (mid ended : Draft) (name : Text) (last : FrameState) → IsReported scene mid ended name last
     → said_in scene ended ≡ with_limit (limit_above_frames (frames_of scene mid) last.limit) (said_in scene mid)
 reported-said scene mid ended name last e =
