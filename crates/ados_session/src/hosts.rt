@@ -5,7 +5,6 @@ ghost use Rattle.ados_session.specs.Faults.{IsFault};
 ghost use Rattle.ados_session.specs.Hosts.{are_hosts, are_free, host_line, parsed_hosts, is_comment, is_host_line};
 
 use crate::faults::FileFault;
-use crate::parts::text_of;
 use ados_items::{first_word, rest_of, trimmed};
 use ados_text::{NoMemory, Text, lines_of};
 use ados_world::{HostEntry, hosts_fault};
@@ -93,8 +92,8 @@ fn host_line(alloc: Global, line: &Text) -> Result<HostLine, NoMemory>
         return Ok(HostLine::Bad);
     }
     Ok(HostLine::Host(HostEntry {
-        name: text_of(alloc, first_word(words))?,
-        program: text_of(alloc, program)?,
+        name: Text::of_ascii(alloc, first_word(words))?,
+        program: Text::of_ascii(alloc, program)?,
     }))
 }
 

@@ -1,10 +1,7 @@
 // The parts of a line of a file.
-ghost use Rattle.std.specs.Prelude.{◌≡◌, ◌<◌, length, position, IfOk, IfSome, option_map};
+ghost use Rattle.std.specs.Prelude.{◌≡◌, ◌<◌, length, position, IfSome, option_map};
 ghost use Rattle.ados_text.specs.Text.{IsText};
 ghost use Rattle.ados_session.specs.Parts.{is_space, split_at_space};
-
-use ados_text::{NoMemory, Text};
-use std::alloc::Global;
 
 /// The bytes before the first space and those after it; `None` if there is no space.
 #[tactic(auto, using(ados_text::proofs::TextLemmas::parts))]
@@ -23,14 +20,4 @@ fn space(line: &[u8]) -> Option<usize>
     ensures within { IfSome result (λ place. place < length line.now) }
 {
     line.iter().position(|byte| *byte == b' ')
-}
-
-/// ASCII bytes as a text.
-pub fn text_of(alloc: Global, bytes: &[u8]) -> Result<Text, NoMemory>
-    requires { IsText bytes.now }
-    ensures { IfOk result (λ text. text ≡ bytes.now) }
-{
-    let mut text = Text::new(alloc);
-    text.push_bytes(bytes)?;
-    Ok(text)
 }

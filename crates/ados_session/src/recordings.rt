@@ -11,7 +11,7 @@ use crate::answers::answer_of;
 use crate::breaks::{add_break, break_of};
 use crate::faults::FileFault;
 use crate::hosts::add_host;
-use crate::parts::{parted, text_of};
+use crate::parts::parted;
 use ados_machine::BreakAt;
 use ados_text::{NoMemory, Text, lines_of};
 use ados_world::{Answer, HostEntry};
@@ -174,11 +174,11 @@ fn record_of(alloc: Global, form: Form, word: &[u8], text: &[u8]) -> Result<Reco
 {
     if word == b"host".as_slice() {
         Ok(RecordLine::Host(HostEntry {
-            name: text_of(alloc, text)?,
-            program: text_of(alloc, text)?,
+            name: Text::of_ascii(alloc, text)?,
+            program: Text::of_ascii(alloc, text)?,
         }))
     } else if word == b"line".as_slice() {
-        Ok(RecordLine::Typed(text_of(alloc, text)?))
+        Ok(RecordLine::Typed(Text::of_ascii(alloc, text)?))
     } else if word == b"answer".as_slice() {
         Ok(answered(answer_of(alloc, text)?))
     } else if word == b"break".as_slice() {
