@@ -46,7 +46,7 @@ impl Draft {
     fn use_c(&mut self, scene: &Scene) -> Result<(), NoMemory>
         ensures { OnOk result (HasUsed scene.now self.old self.new (with_devices_used (codes "C" ∷ []) (course_of scene.now self.old))) }
     {
-        let device = Name::new(Text::from_bytes(scene.alloc, b"C")?);
+        let device = Name::from_bytes(scene.alloc, b"C")?;
         self.use_device(scene, device)
     }
 
@@ -54,7 +54,7 @@ impl Draft {
     fn use_env(&mut self, scene: &Scene) -> Result<(), NoMemory>
         ensures { OnOk result (HasUsed scene.now self.old self.new (with_devices_used (codes "ENV" ∷ []) (course_of scene.now self.old))) }
     {
-        let device = Name::new(Text::from_bytes(scene.alloc, b"ENV")?);
+        let device = Name::from_bytes(scene.alloc, b"ENV")?;
         self.use_device(scene, device)
     }
 
