@@ -18,6 +18,16 @@ pub enum Stack {
     Level(Part, Option<Part>, Box<Stack>),
 }
 
+// The stack with another row in the innermost group that is open, if there is one.
+macro_rules! on_row {
+    ($stack:expr, $row:ident => $new:expr) => {
+        match $stack {
+            Stack::Bottom => Ok(Stack::Bottom),
+            Stack::Level($row, rest, below) => Ok(Stack::Level($new, rest, below)),
+        }
+    };
+}
+
 /// What a pattern's text says.
 pub fn whole(alloc: Global, bytes: &[u8]) -> Result<Part, NoMemory>
     ensures { IfOk result (λ p. form_of p ≡ form_of_tokens (tokens_of bytes.now)) }
@@ -71,37 +81,19 @@ fn level(alloc: Global, stack: Stack) -> Result<Stack, NoMemory>
 fn item_in(alloc: Global, item: Part, stack: Stack) -> Result<Stack, NoMemory>
     ensures { IfOk result (λ s. levels_of s ≡ with_item (form_of item) (levels_of stack)) }
 {
-    match stack {
-        Stack::Bottom => Ok(Stack::Bottom),
-        Stack::Level(row, rest, below) => {
-            let row = Part::Then(Box::new(alloc, item)?, Box::new(alloc, row)?);
-            Ok(Stack::Level(row, rest, below))
-        }
-    }
+    on_row!(stack, row => Part::Then(Box::new(alloc, item)?, Box::new(alloc, row)?))
 }
 
 fn repeated(alloc: Global, stack: Stack) -> Result<Stack, NoMemory>
     ensures { IfOk result (λ s. levels_of s ≡ on_row item_many (levels_of stack)) }
 {
-    match stack {
-        Stack::Bottom => Ok(Stack::Bottom),
-        Stack::Level(row, rest, below) => {
-            let row = first_repeated(alloc, row)?;
-            Ok(Stack::Level(row, rest, below))
-        }
-    }
+    on_row!(stack, row => first_repeated(alloc, row)?)
 }
 
 fn denied(alloc: Global, stack: Stack) -> Result<Stack, NoMemory>
     ensures { IfOk result (λ s. levels_of s ≡ on_row item_other (levels_of stack)) }
 {
-    match stack {
-        Stack::Bottom => Ok(Stack::Bottom),
-        Stack::Level(row, rest, below) => {
-            let row = first_denied(alloc, row)?;
-            Ok(Stack::Level(row, rest, below))
-        }
-    }
+    on_row!(stack, row => first_denied(alloc, row)?)
 }
 
 fn first_repeated(alloc: Global, row: Part) -> Result<Part, NoMemory>
@@ -158,25 +150,13 @@ fn closed(alloc: Global, stack: Stack) -> Result<Stack, NoMemory>
 fn outside(alloc: Global, stack: Stack) -> Result<Stack, NoMemory>
     ensures { IfOk result (λ s. levels_of s ≡ on_row Outside (levels_of stack)) }
 {
-    match stack {
-        Stack::Bottom => Ok(Stack::Bottom),
-        Stack::Level(row, rest, below) => {
-            let row = Part::Outside(Box::new(alloc, row)?);
-            Ok(Stack::Level(row, rest, below))
-        }
-    }
+    on_row!(stack, row => Part::Outside(Box::new(alloc, row)?))
 }
 
 fn member_in(alloc: Global, low: u8, high: u8, stack: Stack) -> Result<Stack, NoMemory>
     ensures { IfOk result (λ s. levels_of s ≡ on_row (with_member low high) (levels_of stack)) }
 {
-    match stack {
-        Stack::Bottom => Ok(Stack::Bottom),
-        Stack::Level(row, rest, below) => {
-            let row = member_or(alloc, low, high, row)?;
-            Ok(Stack::Level(row, rest, below))
-        }
-    }
+    on_row!(stack, row => member_or(alloc, low, high, row)?)
 }
 
 fn member_or(alloc: Global, low: u8, high: u8, row: Part) -> Result<Part, NoMemory>
