@@ -1,8 +1,8 @@
 //! The parts of a pattern from its text, from right to left.
 
 ghost use Rattle.std.specs.Prelude.{◌≡◌, IfOk, option_map};
-ghost use Rattle.ados_pattern.specs.Form.{Outside, form_of};
-ghost use Rattle.ados_pattern.specs.Build.{with_token, levels_of_tokens, with_group, item_many, item_other, levels_of, on_row, with_bar, form_of_tokens, whole_row, with_item, with_member};
+ghost use Rattle.ados_pattern.specs.Form.{form_of};
+ghost use Rattle.ados_pattern.specs.Build.{with_token, levels_of_tokens, with_group, item_many, item_other, levels_of, with_bar, form_of_tokens, whole_row, with_item, with_member};
 ghost use Rattle.ados_pattern.specs.Tokens.{tokens_from, tokens_of};
 
 use crate::parts::Part;
@@ -59,14 +59,14 @@ fn added(alloc: Global, token: Token, stack: Stack) -> Result<Stack, NoMemory>
         Token::Char(c) => item_in(alloc, Part::Char(c), stack),
         Token::Any => item_in(alloc, Part::Any, stack),
         Token::Nothing => item_in(alloc, Part::Empty, stack),
-        Token::Many => repeated(alloc, stack),
-        Token::Other => denied(alloc, stack),
+        Token::Many => on_row!(stack, row => first_repeated(alloc, row)?),
+        Token::Other => on_row!(stack, row => first_denied(alloc, row)?),
         Token::Bar => parted(alloc, stack),
         Token::Close => level(alloc, stack),
         Token::Open => closed(alloc, stack),
         Token::ClassClose => level(alloc, stack),
-        Token::Member(low, high) => member_in(alloc, low, high, stack),
-        Token::Negated => outside(alloc, stack),
+        Token::Member(low, high) => on_row!(stack, row => member_or(alloc, low, high, row)?),
+        Token::Negated => on_row!(stack, row => Part::Outside(Box::new(alloc, row)?)),
         Token::ClassOpen => closed(alloc, stack),
         Token::Hanging => Ok(stack),
     }
@@ -82,18 +82,6 @@ fn item_in(alloc: Global, item: Part, stack: Stack) -> Result<Stack, NoMemory>
     ensures { IfOk result (λ s. levels_of s ≡ with_item (form_of item) (levels_of stack)) }
 {
     on_row!(stack, row => Part::Then(Box::new(alloc, item)?, Box::new(alloc, row)?))
-}
-
-fn repeated(alloc: Global, stack: Stack) -> Result<Stack, NoMemory>
-    ensures { IfOk result (λ s. levels_of s ≡ on_row item_many (levels_of stack)) }
-{
-    on_row!(stack, row => first_repeated(alloc, row)?)
-}
-
-fn denied(alloc: Global, stack: Stack) -> Result<Stack, NoMemory>
-    ensures { IfOk result (λ s. levels_of s ≡ on_row item_other (levels_of stack)) }
-{
-    on_row!(stack, row => first_denied(alloc, row)?)
 }
 
 fn first_repeated(alloc: Global, row: Part) -> Result<Part, NoMemory>
@@ -145,18 +133,6 @@ fn closed(alloc: Global, stack: Stack) -> Result<Stack, NoMemory>
             item_in(alloc, group, Box::into_inner(below))
         }
     }
-}
-
-fn outside(alloc: Global, stack: Stack) -> Result<Stack, NoMemory>
-    ensures { IfOk result (λ s. levels_of s ≡ on_row Outside (levels_of stack)) }
-{
-    on_row!(stack, row => Part::Outside(Box::new(alloc, row)?))
-}
-
-fn member_in(alloc: Global, low: u8, high: u8, stack: Stack) -> Result<Stack, NoMemory>
-    ensures { IfOk result (λ s. levels_of s ≡ on_row (with_member low high) (levels_of stack)) }
-{
-    on_row!(stack, row => member_or(alloc, low, high, row)?)
 }
 
 fn member_or(alloc: Global, low: u8, high: u8, row: Part) -> Result<Part, NoMemory>
