@@ -17,6 +17,7 @@ const FAULT: &str = "Result2";
 
 /// The local variables of a shell. RC and Result2 have positions among them, and show the results of its last command: a
 /// caller that reads them passes these results, so that a command's end allocates nothing.
+#[derive(Clone)]
 pub struct Locals {
     alloc: Global,
     // The values stored for RC and Result2 are never shown.
@@ -124,10 +125,7 @@ impl Locals {
     pub fn copy(&self) -> Result<Locals, NoMemory>
         ensures { IfOk result (λ locals. locals ≡ self.now) }
     {
-        Ok(Locals {
-            alloc: self.alloc,
-            vars: self.vars.copy()?,
-        })
+        Ok(self.clone()?)
     }
 }
 
