@@ -1,5 +1,5 @@
 -- Breaks: scripts that end, and the turn in which they do.
-use Rattle.std.proofs.Common.{◌≡◌, ◌<◌, ◌∙◌, ◌++◌, ◌∷◌, [], List, ℕ, zero, suc, Bool, true, false, ◌||◌, length, nat_lt, ap, sym, refl}
+use Rattle.std.proofs.Common.{◌≡◌, ◌<◌, ◌∙◌, ◌++◌, ◌∷◌, [], List, ℕ, zero, suc, Bool, true, false, ◌||◌, length, nat_lt, ap, sym, refl, subst}
 use Rattle.std.proofs.Math.Nat.{lt-suc_self}
 use Rattle.std.specs.Prelude.{Result, Ok, Err}
 use Rattle.std.specs.Result.{OnErr}
@@ -17,25 +17,20 @@ use Rattle.ados_machine.specs.Items.{Item, Broke, break_of, broken_codes, report
 use Rattle.ados_machine.specs.Requests.{request_of}
 use Rattle.ados_machine.specs.Settle.{turn_by_rule, said_of}
 use Rattle.ados_machine.specs.Settled.{RuleState, RuleResult, after_break, with_items_first, end_at_break, finish, with_limit}
-use Rattle.ados_machine.specs.Turning.{Input, Refuses, Takes, turn_at_break, turning_at_break, input_turning, turning_in_phase}
+use Rattle.ados_machine.specs.Turning.{Input, Turning, Refuses, Takes, turn_at_break, turning_at_break, input_turning, turning_in_phase}
 use Rattle.ados_machine.specs.World.{can_take}
+use Rattle.ados_machine.proofs.Marks.{marked-same}
 use Rattle.ados_shell.specs.declared.scenes.Scene.{Scene}
 use Rattle.ados_shell.specs.declared.drafts.Draft.{Draft}
 use Rattle.ados_shell.specs.Breaks.{GivesUp, ReportsBreak}
-use Rattle.ados_shell.specs.Drafts.{IsRuled, course_of, frames_of, held_state}
+use Rattle.ados_shell.specs.Drafts.{IsRuled, course_of, frames_of, held_state, turn_start}
 use Rattle.ados_shell.specs.Stacks.{drafted_frames}
 use Rattle.ados_shell.proofs.StackLemmas.{some-run}
 use Rattle.ados_shell.proofs.TurnLemmas.{IsStill, goes-on, said_in, step-ruled, still-course}
 
 -- a mark does not change what is asked for
 pub marked_request : (number : ℕ) (phase : Phase) → request_of number (marked_in phase) ≡ request_of number phase
-marked_request number Ready = refl
-marked_request number (GoingOn parted) = refl
-marked_request number (Waiting (ForAnswer asking)) = refl
-marked_request number (Waiting (ForLines gathering)) = refl
-marked_request number (Waiting (ForStart starting)) = refl
-marked_request number (Waiting (ForPiece child)) = refl
-marked_request number (Waiting (ForEnd child)) = refl
+marked_request number = marked-same (request_of number) (λ starting. refl) (λ child. refl) true
 
 -- what holds of an error
 pub on_err : {T E P : Type 0} (result : Result T E) → P → OnErr result P
@@ -62,7 +57,7 @@ input-refused [] false input frames course by_line by_end e = refl
 input-refused (line ∷ rest) is_ended input frames course by_line by_end e = absurd (never (ap (λ b. b || is_ended) (sym (some-run (length rest))) ∙ e))
 
 -- the turn of a shell in which a script runs, if it can take one
-pub script-taken : (input : Input) (frames : List FrameState) (course : Course) (phase : Phase) → has_script frames ≡ true → can_take input frames phase ≡ true
+script-taken : (input : Input) (frames : List FrameState) (course : Course) (phase : Phase) → has_script frames ≡ true → can_take input frames phase ≡ true
     → turning_at_break (turning_in_phase input frames course phase) input frames course ≡ Takes input.queue (turn_at_break frames course)
 script-taken input [] course phase there e = absurd cc
 script-taken input (frame ∷ frames) course Ready there e = refl
@@ -74,7 +69,7 @@ script-taken input (frame ∷ frames) course (Waiting (ForPiece child)) there e 
 script-taken input (frame ∷ frames) course (Waiting (ForEnd child)) there e = absurd cc
 
 -- and if it can't
-pub script-refused : (input : Input) (frames : List FrameState) (course : Course) (phase : Phase) → has_script frames ≡ true → can_take input frames phase ≡ false
+script-refused : (input : Input) (frames : List FrameState) (course : Course) (phase : Phase) → has_script frames ≡ true → can_take input frames phase ≡ false
     → turning_at_break (turning_in_phase input frames course phase) input frames course ≡ Refuses NotReady
 script-refused input [] course phase there e = absurd cc
 script-refused input (frame ∷ frames) course Ready there e = absurd cc
@@ -84,6 +79,17 @@ script-refused input (frame ∷ frames) course (Waiting (ForLines gathering)) th
 script-refused input (frame ∷ frames) course (Waiting (ForStart starting)) there e = refl
 script-refused input (frame ∷ frames) course (Waiting (ForPiece child)) there e = refl
 script-refused input (frame ∷ frames) course (Waiting (ForEnd child)) there e = refl
+
+-- so what holds of that holds of the scene's turn
+pub takes-at_break : (P : Turning → Type 0) (scene : Scene) (input : Input) → has_script scene.shell.now.frames ≡ true → can_take input scene.shell.now.frames scene.shell.now.phase ≡ true
+    → P (Takes input.queue (turn_at_break scene.shell.now.frames (turn_start scene)))
+    → P (turning_at_break (turning_in_phase input scene.shell.now.frames (turn_start scene) scene.shell.now.phase) input scene.shell.now.frames (turn_start scene))
+takes-at_break P scene input there can p = subst P (sym (script-taken input scene.shell.now.frames (turn_start scene) scene.shell.now.phase there can)) p
+
+pub refuses-at_break : (P : Turning → Type 0) (scene : Scene) (input : Input) → has_script scene.shell.now.frames ≡ true → can_take input scene.shell.now.frames scene.shell.now.phase ≡ false
+    → P (Refuses NotReady)
+    → P (turning_at_break (turning_in_phase input scene.shell.now.frames (turn_start scene) scene.shell.now.phase) input scene.shell.now.frames (turn_start scene))
+refuses-at_break P scene input there cannot p = subst P (sym (script-refused input scene.shell.now.frames (turn_start scene) scene.shell.now.phase there cannot)) p
 
 -- the report of a frame's end at a break is the first of those that follow
 first-report : (shell depth line : ℕ) (kind : Kind) (log : List Item)

@@ -14,7 +14,8 @@ use Rattle.ados_machine.specs.Course.{Course, Put}
 use Rattle.ados_machine.specs.Completions as machine
 use Rattle.ados_machine.specs.Completions.{Here, completion_after_input, completion_after_output}
 use Rattle.ados_machine.specs.Lines.{action_completion, action_in, put_completion, with_arguments, work_completion}
-use Rattle.ados_machine.specs.Opening.{OpenedOutput}
+use Rattle.ados_machine.specs.Opening.{OpenedOutput, line_output}
+use Rattle.ados_machine.specs.Prompts.{input_lines}
 use Rattle.ados_machine.specs.Settle.{here_of, turn_of_completion}
 use Rattle.ados_shell.specs.declared.completions.Completion.{Completion}
 use Rattle.ados_shell.specs.declared.completions.Completion.TheVariants.{Answered}
@@ -63,27 +64,41 @@ used-ends scene before mid after word ended work course u h =
     ends-after scene before mid after word ended _ _ u.frames u.reports
     (ap (λ x. work (here_of (drafted_frames scene.shell.now x)) (course_of scene mid)) u.frames ∙ ap (work (next_line_place scene before)) u.course_is) h
 
--- the input of a line was read
-pub input-ends : (scene : Scene) (before mid after : Draft) (word : Text) (work : Here → Option (List Text) → Course → machine.Completion) (lines : Option (List Text)) (input : Option Text) (read : Result (Option (List Text)) Result2) (ended : Result Completion Stop)
+read-ends : (scene : Scene) (before mid after : Draft) (word : Text) (work : Here → Option (List Text) → Course → machine.Completion) (lines : Option (List Text)) (input : Option Text) (read : Result (Option (List Text)) Result2) (ended : Result Completion Stop)
     → HasRead scene before mid input (Ok lines) read
     → HasEnded scene mid after word ended (work (next_line_place scene mid) lines (course_of scene mid))
     → HasEnded scene before after word ended (completion_after_input word (work (next_line_place scene before)) (course_of scene before) input read)
-input-ends scene before mid after word work lines input (Ok given) ended h g =
+read-ends scene before mid after word work lines input (Ok given) ended h g =
     used-ends scene before mid after word ended (λ here course. work here given course) _ h.used
     (subst (λ l. HasEnded scene mid after word ended (work (next_line_place scene mid) l (course_of scene mid))) h.lines_are g)
-input-ends scene before mid after word work lines input (Err fault) ended h g = absurd h
+read-ends scene before mid after word work lines input (Err fault) ended h g = absurd h
 
--- the output of a line was opened
-pub output-ends : (scene : Scene) (before mid after : Draft) (word : Text) (work : Here → Option Target → Course → machine.Completion) (target : Option Target) (output : Option Redirection) (opened : Result OpenedOutput Result2) (ended : Result Completion Stop)
+-- the input of a line, which was lent, was read
+pub input-ends : {lent : Option Text} (scene : Scene) (before mid after : Draft) (word : Text) (work : Here → Option (List Text) → Course → machine.Completion) (lines : Option (List Text)) (input : Option Text) (ended : Result Completion Stop)
+    → lent ≡ input → HasRead scene before mid lent (Ok lines) (input_lines (course_of scene before) lent)
+    → HasEnded scene mid after word ended (work (next_line_place scene mid) lines (course_of scene mid))
+    → HasEnded scene before after word ended (completion_after_input word (work (next_line_place scene before)) (course_of scene before) input (input_lines (course_of scene before) input))
+input-ends scene before mid after word work lines input ended e h g =
+    read-ends scene before mid after word work lines input (input_lines (course_of scene before) input) ended (subst (λ i. HasRead scene before mid i (Ok lines) (input_lines (course_of scene before) i)) e h) g
+
+opened-ends : (scene : Scene) (before mid after : Draft) (word : Text) (work : Here → Option Target → Course → machine.Completion) (target : Option Target) (output : Option Redirection) (opened : Result OpenedOutput Result2) (ended : Result Completion Stop)
     → HasOpened scene before mid output (Ok target) opened
     → HasEnded scene mid after word ended (work (next_line_place scene mid) target (course_of scene mid))
     → HasEnded scene before after word ended (completion_after_output word (work (next_line_place scene before)) (course_of scene before) output opened)
-output-ends scene before mid after word work target output (Ok opened) ended h g =
+opened-ends scene before mid after word work target output (Ok opened) ended h g =
     ends-after scene before mid after word ended _ _ h.frames h.reports
     (ap (λ x. work (here_of (drafted_frames scene.shell.now x)) target (course_of scene mid)) h.frames
     ∙ ap (λ x. work (next_line_place scene before) x (course_of scene mid)) h.target_is
     ∙ ap (work (next_line_place scene before) opened.target) h.course_is) g
-output-ends scene before mid after word work target output (Err fault) ended h g = absurd h
+opened-ends scene before mid after word work target output (Err fault) ended h g = absurd h
+
+-- the output of a line, which was lent, was opened
+pub output-ends : {lent : Option Redirection} (scene : Scene) (before mid after : Draft) (word : Text) (work : Here → Option Target → Course → machine.Completion) (target : Option Target) (output : Option Redirection) (ended : Result Completion Stop)
+    → lent ≡ output → HasOpened scene before mid lent (Ok target) (line_output (course_of scene before) lent)
+    → HasEnded scene mid after word ended (work (next_line_place scene mid) target (course_of scene mid))
+    → HasEnded scene before after word ended (completion_after_output word (work (next_line_place scene before)) (course_of scene before) output (line_output (course_of scene before) output))
+output-ends scene before mid after word work target output ended e h g =
+    opened-ends scene before mid after word work target output (line_output (course_of scene before) output) ended (subst (λ o. HasOpened scene before mid o (Ok target) (line_output (course_of scene before) o)) e h) g
 
 -- the arguments of a command used devices, and its row runs
 pub work-ends : (scene : Scene) (before mid after : Draft) (builtin : Builtin) (line : Line) (target : Option Target) (input : Option (List Text)) (action : Action) (ended : Result Completion Stop)

@@ -1,5 +1,5 @@
 -- A Run, and the shell that begins.
-use Rattle.std.proofs.Common.{◌≡◌, ◌∙◌, ◌+◌, ◌-◌, ◌≤◌, List, Option, Some, None, Ok, Bool, true, false, ℕ, suc, ap, drop, length, map, nat_le, subst, sym}
+use Rattle.std.proofs.Common.{◌≡◌, ◌∙◌, ◌+◌, ◌-◌, ◌≤◌, List, Option, Some, None, Ok, Bool, ℕ, suc, ap, drop, length, map, nat_le, subst, sym}
 use Rattle.std.proofs.Math.Nat.{min-eq_left}
 use Rattle.std.specs.Prelude.{if◌then◌else◌}
 use Rattle.std.specs.Option.{option_map}
@@ -51,24 +51,13 @@ begun-put scene before mid after codes number commands output n b g =
 pub front-is : (text front command : Text) → IsText text → before_plus text ≡ Some front → command ≡ map to_ascii front → command ≡ front
 front-is text front command t e c = c ∙ front_stays text front t e
 
--- a Run that gathers waits again, if it may take another line
-pub joins-waits : (scene : Scene) (before after : Draft) (gathering : Gathering) (line command : Text) (sink : Sink)
-    → before_plus line ≡ Some command → nat_le (run_limit - 1) (length gathering.commands) ≡ false
-    → Settles scene before after (Waits (ForLines (with_command command gathering)) (course_of scene before))
+-- a Run that gathers makes its shell if it is full, and else waits again
+pub joins : (scene : Scene) (before after : Draft) (gathering : Gathering) (line command : Text) (sink : Sink) (is_full : Bool)
+    → before_plus line ≡ Some command → nat_le (run_limit - 1) (length gathering.commands) ≡ is_full
+    → Settles scene before after (if is_full then gathered_completion (with_command command gathering) sink (course_of scene before)
+    else Waits (ForLines (with_command command gathering)) (course_of scene before))
     → Settles scene before after (joined_completion gathering line sink (course_of scene before))
-joins-waits scene before after gathering line command sink e b g =
-    let course = course_of scene before in
-    let P : Option Text → Type 0 = λ o. Settles scene before after (joined_or_waiting gathering line sink course o) in
-    let Q : Bool → Type 0 = λ x. Settles scene before after
-    (if x then gathered_completion (with_command command gathering) sink course else Waits (ForLines (with_command command gathering)) course) in
-    subst P (sym e) (subst Q (sym b) g)
-
--- and makes its shell, if it may not
-pub joins-last : (scene : Scene) (before after : Draft) (gathering : Gathering) (line command : Text) (sink : Sink)
-    → before_plus line ≡ Some command → nat_le (run_limit - 1) (length gathering.commands) ≡ true
-    → Settles scene before after (gathered_completion (with_command command gathering) sink (course_of scene before))
-    → Settles scene before after (joined_completion gathering line sink (course_of scene before))
-joins-last scene before after gathering line command sink e b g =
+joins scene before after gathering line command sink is_full e b g =
     let course = course_of scene before in
     let P : Option Text → Type 0 = λ o. Settles scene before after (joined_or_waiting gathering line sink course o) in
     let Q : Bool → Type 0 = λ x. Settles scene before after

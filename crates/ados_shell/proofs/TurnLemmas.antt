@@ -1,7 +1,8 @@
 -- How a turn goes on: what is left to do from its middle on does what the whole does from its beginning.
-use Rattle.std.proofs.Common.{◌≡◌, ◌∙◌, ◌++◌, ◌∷◌, [], List, ℕ, Bool, true, false, length, suc, ap, sym, refl, append_assoc}
+use Rattle.std.proofs.Common.{◌≡◌, ◌∙◌, ◌++◌, ◌∷◌, [], List, ℕ, Bool, true, false, length, suc, Option, Some, None, Vec, ap, sym, refl, subst, append_assoc}
 use Rattle.std.proofs.lemmas.List.{append-nil}
 use Rattle.std.specs.Prelude.{if◌then◌else◌}
+use Rattle.std.specs.Global.{Global}
 use Rattle.ados_text.specs.Text.{Text}
 use Rattle.ados_text.specs.declared.codes.Code.{Code}
 use Rattle.ados_find.specs.declared.codes.Codes.{Codes}
@@ -19,7 +20,8 @@ use Rattle.ados_machine.specs.Settle.{TurnResult, turn_by_rule, said_of}
 use Rattle.ados_shell.specs.declared.scenes.Scene.{Scene}
 use Rattle.ados_shell.specs.declared.drafts.Draft.{Draft}
 use Rattle.ados_shell.specs.Reports.{report_of}
-use Rattle.ados_shell.specs.Stacks.{drafted_frames}
+use Rattle.ados_shell.specs.declared.stacks.Stack.{Stack}
+use Rattle.ados_shell.specs.Stacks.{IsPopped, drafted_frames}
 use Rattle.ados_shell.specs.Drafts.{GoesOn, IsReported, IsTicked, IsRuled, Settles, held_course, course_of, frames_of, held_state, drafted_phase}
 
 pub goes-on : (scene : Scene) (before mid after : Draft) (t t' : TurnResult) (rs : List EndReport)
@@ -236,3 +238,33 @@ pass-ends scene before popped after frame frames there over s f g =
     ∙ ap (λ x. led frame x (last_codes frame.last) (said_in scene popped)) (sym f))
     (λ log. refl)
     s.held (s.reports ∙ sym (append-nil before.reports.items)) g
+
+-- the draft of a ready shell whose newest frame was popped
+abbrev pub popped_draft : Draft → Stack → Draft
+popped_draft before stack = record before { shell = record before.shell { phase = None; frames = stack } }
+
+pub pass-popped : {found : Option FrameState} (scene : Scene) (before after : Draft) (stack : Stack) (frame : FrameState)
+    → IsPopped scene.shell.now before.shell.frames stack found → found ≡ Some frame → is_over frame ≡ true
+    → IsRuled scene (popped_draft before stack) after (led frame (drafted_frames scene.shell.now stack) (last_codes frame.last) (said_in scene (popped_draft before stack)))
+    → Settles scene before after (Passes (course_of scene before))
+pass-popped scene before after stack frame popped is over g =
+    pass-ends scene before (popped_draft before stack) after frame (drafted_frames scene.shell.now stack) (subst (IsPopped scene.shell.now before.shell.frames stack) is popped) over
+    (record { held = refl; limit = refl; codes = refl; printed = refl; reports = refl }) refl g
+
+-- the same after the answer of a command in that frame
+abbrev pub answered_draft : Draft → Stack → Codes → Vec ℕ Global → Draft
+answered_draft before stack codes printed = record before { shell = record before.shell { phase = None; codes = codes; frames = stack }; printed = printed }
+
+pub finish-popped : {found : Option FrameState} (scene : Scene) (before after : Draft) (stack : Stack) (printed : Vec ℕ Global) (word : List ℕ) (codes : Codes) (quits : Bool) (frame last : FrameState)
+    → IsPopped scene.shell.now before.shell.frames stack found → found ≡ Some frame
+    → last ≡ answered_frame frame (drafted_frames scene.shell.now stack) codes before.shell.limit → is_ended quits codes before.shell.limit last ≡ true
+    → printed.items ≡ before.printed.items ++ failed_line word codes.code before.shell.limit
+    → IsRuled scene (answered_draft before stack codes printed) after (led last (drafted_frames scene.shell.now stack) codes (said_in scene (answered_draft before stack codes printed)))
+    → IsRuled scene before after (finish word codes quits (frames_of scene before) (said_in scene before))
+finish-popped scene before after stack printed word codes quits frame last popped is answer ends told g =
+    let mid = answered_draft before stack codes printed in
+    let frames = drafted_frames scene.shell.now stack in
+    finish-ends scene before mid after word codes quits frame frames (subst (IsPopped scene.shell.now before.shell.frames stack) is popped)
+    (ap (is_ended quits codes before.shell.limit) (sym answer) ∙ ends)
+    (record { held = refl; limit = refl; codes_are = refl; printed = told; reports = refl }) refl
+    (subst (λ f. IsRuled scene mid after (led f frames codes (said_in scene mid))) answer g)

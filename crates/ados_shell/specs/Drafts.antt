@@ -20,7 +20,7 @@ use Rattle.ados_machine.specs.Items.{reports_of}
 use Rattle.ados_find.specs.Parts.{Parts}
 use Rattle.ados_machine.specs.Shells.{ShellStart, ShellState}
 use Rattle.ados_find.specs.declared.targets.Target.{Target}
-use Rattle.ados_machine.specs.Course.{Course, shared_after_event}
+use Rattle.ados_machine.specs.Course.{Course, new_course, shared_after_event}
 use Rattle.ados_machine.specs.NewShells.{with_shell_begun}
 use Rattle.ados_machine.specs.Completions.{Here, Completion}
 use Rattle.ados_machine.specs.Settled.{RuleResult, newest_kept}
@@ -79,18 +79,7 @@ parts_of scene draft = (drafted_shell draft.shell scene.shell.now).parts
 
 -- an event of the scene's shell begins: nothing is done yet
 abbrev pub start_of : Scene → Course
-start_of scene = record {
-  parts = scene.shell.now.parts;
-  kept = scene.shell.now.kept;
-  shared = scene.shared.now;
-  seen = seen_shells scene.shells.now;
-  printed = [];
-  renamed = None;
-  begun = None;
-  used = [];
-  breaking = None;
-  flagged = scene.shell.now.flagged;
-}
+start_of scene = new_course scene.shell.now.parts scene.shell.now.kept scene.shared.now (seen_shells scene.shells.now) scene.shell.now.flagged
 
 -- a turn begins: it clears the flag
 abbrev pub turn_start : Scene → Course

@@ -4,22 +4,19 @@ use Rattle.ados_machine.specs.Lines.{arrival, arrived_completion}
 use Rattle.ados_shell.specs.Drafts.{course_of, next_line_place}
 use Rattle.ados_shell.specs.declared.completions.Completion.TheVariants.{Answered}
 use Rattle.ados_shell.proofs.EndLemmas.{output-ends, put-ends}
-use Rattle.ados_machine.specs.Opening.{line_output}
-use Rattle.ados_shell.specs.Outputs.{HasOpened, IsPut, effect_put}
+use Rattle.ados_shell.specs.Outputs.{IsPut, effect_put}
 use Rattle.ados_shell.proofs.drafts.Draft.arrive.Goals as goal
 
 pub returns : goal.returns
 returns c =
     let scene = c.args.scene.now in
-    let before = c.args.self.now in
     let opened = c.open_own.new.self in
     let line = c.args.line.now in
-    let target = c.in_ok-target.target in
+    let codes = c.in_ok-codes.codes in
     let here = next_line_place scene opened in
     let course = course_of scene opened in
-    output-ends scene before opened c.apply.new.self line.command (λ here target course. arrived_completion c.args.place line target here course) target line.output
-    (line_output (course_of scene before) line.output) (Ok (Answered c.in_ok-codes.codes false))
-    (subst (λ o. HasOpened scene before opened o (Ok target) (line_output (course_of scene before) o)) c.as_ref.ensures.value c.in_ok-target.ensures)
-    (put-ends scene opened c.apply.new.self line.command c.in_ok-codes.codes (effect_put target (arrival course.shared c.args.place line.args) here course)
-    (subst (λ e. IsPut scene opened c.apply.new.self c.in_ok-codes.codes (effect_put target e here course)) (c.in_ok-outcome.ensures course.shared)
-    (subst (λ o. IsPut scene opened c.apply.new.self c.in_ok-codes.codes (effect_put o (effect_of course.shared c.in_ok-outcome.outcome) here course)) c.as_ref-2.ensures.value c.in_ok-codes.ensures)))
+    output-ends scene c.args.self.now opened c.apply.new.self line.command (λ here target course. arrived_completion c.args.place line target here course) c.in_ok-target.target line.output
+    (Ok (Answered codes false)) c.as_ref.ensures.value c.in_ok-target.ensures
+    (put-ends scene opened c.apply.new.self line.command codes (effect_put c.in_ok-target.target (arrival course.shared c.args.place line.args) here course)
+    (subst (λ e. IsPut scene opened c.apply.new.self codes (effect_put c.in_ok-target.target e here course)) (c.in_ok-outcome.ensures course.shared)
+    (subst (λ o. IsPut scene opened c.apply.new.self codes (effect_put o (effect_of course.shared c.in_ok-outcome.outcome) here course)) c.as_ref-2.ensures.value c.in_ok-codes.ensures)))

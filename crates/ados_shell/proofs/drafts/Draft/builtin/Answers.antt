@@ -1,10 +1,8 @@
-use Rattle.std.proofs.Common.{◌∙◌, Ok, List, Option, subst, sym}
+use Rattle.std.proofs.Common.{◌∙◌, List, Option, subst, sym}
 use Rattle.ados_text.specs.Text.{Text}
 use Rattle.ados_machine.specs.Lines.{asked_completion, command_completion, prompt_completion}
-use Rattle.ados_machine.specs.Prompts.{input_lines}
 use Rattle.ados_shell.specs.Drafts.{course_of, next_line_place}
 use Rattle.ados_shell.specs.Completions.{HasEnded}
-use Rattle.ados_shell.specs.Inputs.{HasRead}
 use Rattle.ados_shell.proofs.EndLemmas.{input-ends}
 use Rattle.ados_shell.proofs.TurnLemmas.{else-is, then-is}
 use Rattle.ados_shell.proofs.drafts.Draft.builtin.Goals as goal
@@ -12,25 +10,19 @@ use Rattle.ados_shell.proofs.drafts.Draft.builtin.Goals as goal
 pub returns-then-asks : goal.returns-then-asks
 returns-then-asks c =
     let scene = c.args.scene.now in
-    let before = c.args.self.now in
     let mid = c.read_own.new.self in
-    let after = c.prompt.new.self in
     let line = c.args.line.now in
-    let P : Option (List Text) → Type 0 = λ l. HasEnded scene mid after line.command c.prompt.result (prompt_completion c.args.builtin line (next_line_place scene mid) (course_of scene mid) l) in
-    input-ends scene before mid after line.command (λ here lines course. asked_completion c.args.builtin line here lines course) c.in_ok-lines.lines line.input _ c.prompt.result
-    (subst (λ i. HasRead scene before mid i (Ok c.in_ok-lines.lines) (input_lines (course_of scene before) i)) c.as_ref.ensures.value c.in_ok-lines.ensures)
-    (subst (HasEnded scene mid after line.command c.prompt.result) (sym (then-is _ _ _ (sym c.asks.ensures ∙ c.if-asks.true)))
-    (subst P (c.slice_of-input.ensures ∙ c.as_ref-2.ensures.value) c.prompt.ensures))
+    let Ended = HasEnded scene mid c.prompt.new.self line.command c.prompt.result in
+    let P : Option (List Text) → Type 0 = λ l. Ended (prompt_completion c.args.builtin line (next_line_place scene mid) (course_of scene mid) l) in
+    input-ends scene c.args.self.now mid c.prompt.new.self line.command (asked_completion c.args.builtin line) c.in_ok-lines.lines line.input c.prompt.result c.as_ref.ensures.value c.in_ok-lines.ensures
+    (subst Ended (sym (then-is _ _ _ (sym c.asks.ensures ∙ c.if-asks.true))) (subst P (c.slice_of-input.ensures ∙ c.as_ref-2.ensures.value) c.prompt.ensures))
 
 pub returns : goal.returns
 returns c =
     let scene = c.args.scene.now in
-    let before = c.args.self.now in
     let mid = c.read_own.new.self in
-    let after = c.command.new.self in
     let line = c.args.line.now in
-    let P : Option (List Text) → Type 0 = λ l. HasEnded scene mid after line.command c.command.result (command_completion c.args.builtin line l (next_line_place scene mid) (course_of scene mid)) in
-    input-ends scene before mid after line.command (λ here lines course. asked_completion c.args.builtin line here lines course) c.in_ok-lines.lines line.input _ c.command.result
-    (subst (λ i. HasRead scene before mid i (Ok c.in_ok-lines.lines) (input_lines (course_of scene before) i)) c.as_ref.ensures.value c.in_ok-lines.ensures)
-    (subst (HasEnded scene mid after line.command c.command.result) (sym (else-is _ _ _ (sym c.asks.ensures ∙ c.if-asks.false)))
-    (subst P (c.slice_of-input.ensures ∙ c.as_ref-2.ensures.value) c.command.ensures))
+    let Ended = HasEnded scene mid c.command.new.self line.command c.command.result in
+    let P : Option (List Text) → Type 0 = λ l. Ended (command_completion c.args.builtin line l (next_line_place scene mid) (course_of scene mid)) in
+    input-ends scene c.args.self.now mid c.command.new.self line.command (asked_completion c.args.builtin line) c.in_ok-lines.lines line.input c.command.result c.as_ref.ensures.value c.in_ok-lines.ensures
+    (subst Ended (sym (else-is _ _ _ (sym c.asks.ensures ∙ c.if-asks.false))) (subst P (c.slice_of-input.ensures ∙ c.as_ref-2.ensures.value) c.command.ensures))

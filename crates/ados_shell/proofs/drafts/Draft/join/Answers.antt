@@ -1,4 +1,4 @@
-use Rattle.std.proofs.Common.{◌≡◌, ◌∙◌, ℕ, Bor, arith, length, ◌++◌, ◌∷◌, [], List, Option, Some, ap, subst, sym}
+use Rattle.std.proofs.Common.{◌≡◌, ◌∙◌, ℕ, Bor, arith, length, ◌++◌, ◌∷◌, [], List, Option, Some, true, false, ap, subst, sym}
 use Rattle.std.specs.Option.{option_map}
 use Rattle.std.proofs.lemmas.Bool.Decides.{nat_tests}
 use Rattle.std.proofs.lemmas.Result.{on_ok_weaker}
@@ -9,7 +9,7 @@ use Rattle.ados_machine.specs.declared.phases.Wait.TheVariants.{ForLines}
 use Rattle.ados_machine.specs.Completions.{Waits}
 use Rattle.ados_machine.specs.NewShells.{answered_put, new_shell}
 use Rattle.ados_shell.specs.Drafts.{Settles, course_of, next_line_place}
-use Rattle.ados_shell.proofs.RunLemmas.{front-is, joins-last, joins-waits}
+use Rattle.ados_shell.proofs.RunLemmas.{front-is, joins}
 use Rattle.ados_shell.proofs.drafts.Draft.join.Goals as goal
 
 pub returns-in_ok-copy_own-in-Some : goal.returns-in_ok-copy_own-in-Some
@@ -24,7 +24,7 @@ returns-in_ok-copy_own-in-Some c =
     let front : before_plus c.args.line.now ≡ Some c.in-Some.front.now =
     ap before_plus (sym c.as_bytes.ensures.value) ∙ sym c.before_plus.ensures ∙ ap (option_map {T = Bor (List ℕ)} {U = List ℕ} (λ t. t.now)) c.in-Some.is in
     on_ok_weaker c.wait.result
-    (λ g. joins-waits scene before after gathering c.args.line.now c.in-Some.front.now (next_line_place scene before).sink
+    (λ g. joins scene before after gathering c.args.line.now c.in-Some.front.now (next_line_place scene before).sink false
     front (grind (arith, nat_tests, c.if-before.true, ap length c.as_slice-before.ensures))
     (subst (λ w. P w gathering.output commands) c.in_ok-copy-in-Some.ensures
     (subst (λ o. P c.in_ok-copy-in-Some.field-0 o commands) (c.in_ok-copy_own-in-Some.ensures ∙ c.as_ref-then-before.ensures.value)
@@ -42,7 +42,7 @@ returns-else-before c =
     let front : before_plus c.args.line.now ≡ Some c.in-Some.front.now =
     ap before_plus (sym c.as_bytes.ensures.value) ∙ sym c.before_plus.ensures ∙ ap (option_map {T = Bor (List ℕ)} {U = List ℕ} (λ t. t.now)) c.in-Some.is in
     on_ok_weaker c.answer_begun-else-before.result
-    (λ g. joins-last scene before after gathering c.args.line.now c.in-Some.front.now (next_line_place scene before).sink
+    (λ g. joins scene before after gathering c.args.line.now c.in-Some.front.now (next_line_place scene before).sink true
     front (grind (arith, nat_tests, c.if-before.false, ap length c.as_slice-before.ensures))
     (subst (λ l. P l gathering.output) (c.in_ok-commands-in-Some.ensures ∙ ap (λ x. x ++ c.in_ok-command-in-Some.command ∷ []) c.as_slice-before.ensures ∙ ap (λ x. gathering.commands ++ x ∷ []) (front-is c.args.line.now c.in-Some.front.now c.in_ok-command-in-Some.command c.as_bytes.ensures.ascii front c.in_ok-command-in-Some.ensures))
     (subst (P c.in_ok-commands-in-Some.commands) c.as_ref-else-before.ensures.value g)))
