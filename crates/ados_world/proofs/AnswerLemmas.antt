@@ -15,8 +15,9 @@ use Rattle.ados_machine.specs.Runs.{IsAnswer, resulting_world}
 use Rattle.ados_machine.specs.Turning as turning
 use Rattle.ados_machine.specs.World.{WorldState, input_of, is_over, numbered_shell}
 use Rattle.ados_machine.specs.declared.answers.Answer.{Answer as Reply}
+use Rattle.ados_shell.specs.declared.answers.Answering.{Answering}
 use Rattle.ados_shell.specs.declared.answers.Answering.TheVariants as reply
-use Rattle.ados_shell.specs.Answerings.{IsAnswering, scene_answering}
+use Rattle.ados_shell.specs.Answerings.{GivesReply, IsAnswering, scene_answering}
 use Rattle.ados_machine.specs.Step.{Response, Refused, Accepted, turning_response, event_out, start, turn_response, answer_response as answered_of, break_response}
 use Rattle.ados_machine.proofs.Sane.{sane-after}
 use Rattle.ados_shell.specs.declared.drafts.Draft.{Draft}
@@ -43,11 +44,12 @@ as-turning scene queue draft turning.Ends t = absurd t
 as-turning scene queue draft (turning.Takes rest turn_response) t = t
 
 -- an answer by which the shell went on
-pub answer-goes : (w : WorldState) (k : ℕ) (shell : ShellState) (scene : Scene) (answer : Reply) (draft : Draft) → Shows w k shell scene
-    → IsAnswering scene (input_of w k).queue reply.Goes draft (scene_answering scene (input_of w k) answer)
+pub answer-goes : {found : Answering} (w : WorldState) (k : ℕ) (shell : ShellState) (scene : Scene) (answer : Reply) (draft : Draft) → Shows w k shell scene
+    → found ≡ reply.Goes → GivesReply scene answer found draft
     → Accepts (answered_of w k answer (numbered_shell w k)) (world_after_turn k draft w) (draft_out (numbered_shell w k) draft)
-answer-goes w k shell scene answer draft s t =
+answer-goes w k shell scene answer draft s is gives =
     (let P : turning.Turning → Type 0 = λ x. IsAnswering scene (input_of w k).queue reply.Goes draft x in
+    let t = subst (λ a. GivesReply scene answer a draft) is gives (input_of w k) in
     let accepts = goes w k shell scene draft _ s (as-turning scene _ draft _ (subst P (answering-is w k shell scene answer s) t)) in
     (accepts.0, ap (answered_of w k answer) s.here ∙ accepts.1))
 
@@ -79,12 +81,13 @@ refuses-wrong scene queue draft k answer w codes (turning.Refuses why) t = sym t
 refuses-wrong scene queue draft k answer w codes turning.Ends t = absurd t
 refuses-wrong scene queue draft k answer w codes (turning.Takes rest turn_response) t = absurd t
 
-pub answer-wrong : (w : WorldState) (k : ℕ) (shell : ShellState) (scene : Scene) (answer : Reply) (draft : Draft) → Shows w k shell scene
-    → IsAnswering scene (input_of w k).queue reply.WrongAnswer draft (scene_answering scene (input_of w k) answer)
+pub answer-wrong : {found : Answering} (w : WorldState) (k : ℕ) (shell : ShellState) (scene : Scene) (answer : Reply) (draft : Draft) → Shows w k shell scene
+    → found ≡ reply.WrongAnswer → GivesReply scene answer found draft
     → IsAnswer (event.Answer k answer) (Err WrongAnswer) (answered_of w k answer (numbered_shell w k))
-answer-wrong w k shell scene answer draft s t =
+answer-wrong w k shell scene answer draft s is gives =
     (let P : Response → Type 0 = λ r. IsAnswer (event.Answer k answer) (Err WrongAnswer) r in
     let Q : turning.Turning → Type 0 = λ x. IsAnswering scene (input_of w k).queue reply.WrongAnswer draft x in
+    let t = subst (λ a. GivesReply scene answer a draft) is gives (input_of w k) in
     subst P (sym (ap (answered_of w k answer) s.here))
     (refuses-wrong scene (input_of w k).queue draft k answer w shell.parts.codes
     (turning.turning_of_answer (input_of w k) shell.frames (start w shell) shell.phase answer) (subst Q (answering-is w k shell scene answer s) t)))

@@ -1,6 +1,7 @@
 -- What a turn changes, moved in, is the machine's world after the turn.
 use Rattle.std.proofs.Common.{◌≡◌, ◌∙◌, ◌++◌, ℕ, List, [], false, Option, Some, None, Result, Ok, Err, IfErr, OnErr, OnOk, drop, ap, sym, refl, subst}
 use Rattle.std.specs.Prelude.{◌==◌, if◌then◌else◌}
+use Rattle.std.specs.Option.{option_copied}
 use Rattle.std.proofs.Common.{inl, inr}
 use Rattle.std.proofs.lemmas.Bool.{cases_Bool}
 use Rattle.ados_find.specs.declared.codes.Codes.{Codes}
@@ -16,17 +17,18 @@ use Rattle.ados_machine.specs.Limits.{IsSane}
 use Rattle.ados_machine.specs.Runs.{IsAnswer, resulting_world}
 use Rattle.ados_machine.specs.Turning as turning
 use Rattle.ados_machine.specs.World.{WorldState, input_of, is_over, seen_shells, numbered_shell}
-use Rattle.ados_machine.specs.Course.{Course}
+use Rattle.ados_machine.specs.Course.{Course, new_course}
 use Rattle.ados_machine.specs.Numbers.{free_number}
 use Rattle.ados_machine.specs.Requests.{request_of}
 use Rattle.ados_machine.specs.Step.{Response, Refused, Accepted, turning_response, begun_items, event_out, of_shell, queue_after_event, start, turn_response, course_without_flag}
 use Rattle.ados_machine.proofs.Sane.{sane-after}
 use Rattle.ados_shell.specs.declared.drafts.Draft.{Draft}
 use Rattle.ados_shell.specs.declared.scenes.Scene.{Scene}
+use Rattle.ados_shell.specs.declared.turnings.Turning.{Turning}
 use Rattle.ados_shell.specs.declared.turnings.Turning.TheVariants as turn
 use Rattle.ados_shell.specs.Drafts.{start_of}
 use Rattle.ados_shell.specs.declared.scenes.Input.{Input}
-use Rattle.ados_shell.specs.Turnings.{IsTurning, MayWantMemory, scene_turning}
+use Rattle.ados_shell.specs.Turnings.{Gives, IsFirst, IsTurning, MayWantMemory, scene_turning}
 use Rattle.ados_world.specs.Scenes.{Shows}
 use Rattle.ados_world.specs.Steps.{step_answer, draft_out, ended_world, world_after_turn}
 use Rattle.ados_world.proofs.MemoryLemmas.{turn-may}
@@ -40,18 +42,7 @@ queue-next w k = elim (cases_Bool (k == 1)) [ inl e ↦ rw e refl | inr e ↦ rw
 
 -- a turn of a shell begins
 abbrev pub start_in : SharedState → List (Option ShellState) → ShellState → Course
-start_in shared shells shell = record {
-  parts = shell.parts;
-  kept = shell.kept;
-  shared = shared;
-  seen = seen_shells shells;
-  printed = [];
-  renamed = None;
-  begun = None;
-  used = [];
-  breaking = None;
-  flagged = shell.flagged;
-}
+start_in shared shells shell = new_course shell.parts shell.kept shared (seen_shells shells) shell.flagged
 
 -- the machine's turn of a shell, by what the scene shows
 pub turning-is : (w : WorldState) (k : ℕ) (shell : ShellState) (scene : Scene) (input : Input)
@@ -63,6 +54,12 @@ turning-is w k shell scene input s e =
     ∙ ap (λ x. turning.flagged_turning x.flagged (input_of w k) x.frames (course_without_flag (start_in scene.shared.now scene.shells.now x)) x.phase) s.shell_is
     ∙ ap (λ x. turning.flagged_turning shell.flagged (input_of w k) shell.frames (course_without_flag (start_in x scene.shells.now shell)) shell.phase) s.shared_is
     ∙ ap (λ x. turning.flagged_turning shell.flagged (input_of w k) shell.frames (course_without_flag (start_in w.shared x shell)) shell.phase) s.shells_are
+
+-- the turn that was given is the machine's, at the lines that wait
+pub given-turn : {found : Turning} (w : WorldState) (k : ℕ) (scene : Scene) (input : Input) (turn : Turning) (draft : Draft)
+    → found ≡ turn → Gives scene input (scene_turning scene input) found draft → IsFirst (option_copied input.line) (input_of w k).queue
+    → IsTurning scene (input_of w k).queue turn draft (scene_turning scene input (input_of w k).queue)
+given-turn w k scene input turn draft is gives first = subst (λ t. Gives scene input (scene_turning scene input) t draft) is gives (input_of w k).queue first
 
 -- an event is accepted, and leaves this world and gives this
 abbrev pub Accepts : Response → WorldState → Out → Type 0

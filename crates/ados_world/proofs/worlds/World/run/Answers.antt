@@ -2,11 +2,10 @@ use Rattle.std.proofs.Common.{◌≡◌, ◌∙◌, ◌+◌, ◌++◌, ◌∷◌
 use Rattle.std.proofs.lemmas.Grind.{common_steps}
 use Rattle.std.proofs.lemmas.List.{take_more}
 use Rattle.ados_machine.specs.Kept.{HasAllCodes}
-use Rattle.ados_machine.specs.Runs.{Runs}
 use Rattle.ados_machine.proofs.QueueLemmas.{lines-in-order}
 use Rattle.ados_machine.proofs.KeptLemmas.{last-codes-stay}
 use Rattle.ados_machine.proofs.ReportLemmas.{reports-by}
-use Rattle.ados_machine.proofs.RunLemmas.{Runs-more}
+use Rattle.ados_machine.proofs.RunLemmas.{Runs-more, whole-run}
 use Rattle.ados_machine.proofs.Traces.{frames-hold, limits-hold}
 use Rattle.ados_machine.proofs.Ends.{reports-hold}
 use Rattle.ados_machine.proofs.Erased.{quiet-shells}
@@ -30,55 +29,46 @@ loop-event-preserved c =
 
 pub returns-clause-limits : goal.returns-clause-limits
 returns-clause-limits c =
-    let all : take c.loop-event.event-index c.args.events.now ≡ c.args.events.now = grind (arith, common_steps) in
-    let run : Runs c.args.self c.args.events.now c.loop-event.outs.items c.loop-event.self = rw all at c.loop-event.invariant.run in
+    let run = whole-run c.args.self c.args.events.now c.loop-event.outs.items c.loop-event.self c.loop-event.event-index (grind (arith, common_steps)) c.loop-event.invariant.run in
     rw c.from_vec.ensures (limits-hold c.args.self c.args.events.now c.loop-event.outs.items c.loop-event.self run (rw c.self.view_is at c.self.invariant))
 
 pub returns-clause-reports : goal.returns-clause-reports
 returns-clause-reports c =
-    let all : take c.loop-event.event-index c.args.events.now ≡ c.args.events.now = grind (arith, common_steps) in
-    let run : Runs c.args.self c.args.events.now c.loop-event.outs.items c.loop-event.self = rw all at c.loop-event.invariant.run in
+    let run = whole-run c.args.self c.args.events.now c.loop-event.outs.items c.loop-event.self c.loop-event.event-index (grind (arith, common_steps)) c.loop-event.invariant.run in
     rw c.from_vec.ensures (reports-hold c.args.self c.args.events.now c.loop-event.outs.items c.loop-event.self run)
 
 pub returns-clause-frames : goal.returns-clause-frames
 returns-clause-frames c =
-    let all : take c.loop-event.event-index c.args.events.now ≡ c.args.events.now = grind (arith, common_steps) in
-    let run : Runs c.args.self c.args.events.now c.loop-event.outs.items c.loop-event.self = rw all at c.loop-event.invariant.run in
+    let run = whole-run c.args.self c.args.events.now c.loop-event.outs.items c.loop-event.self c.loop-event.event-index (grind (arith, common_steps)) c.loop-event.invariant.run in
     rw c.from_vec.ensures (frames-hold c.args.self c.args.events.now c.loop-event.outs.items c.loop-event.self run (rw c.self.view_is at c.self.invariant))
 
 pub returns-clause-starts : goal.returns-clause-starts
 returns-clause-starts c =
-    let all : take c.loop-event.event-index c.args.events.now ≡ c.args.events.now = grind (arith, common_steps) in
-    let run : Runs c.args.self c.args.events.now c.loop-event.outs.items c.loop-event.self = rw all at c.loop-event.invariant.run in
+    let run = whole-run c.args.self c.args.events.now c.loop-event.outs.items c.loop-event.self c.loop-event.event-index (grind (arith, common_steps)) c.loop-event.invariant.run in
     rw c.from_vec.ensures (starts-leave-nothing c.args.self c.args.events.now c.loop-event.outs.items c.loop-event.self run)
 
 pub returns-clause-quiet : goal.returns-clause-quiet
 returns-clause-quiet c =
-    let all : take c.loop-event.event-index c.args.events.now ≡ c.args.events.now = grind (arith, common_steps) in
-    let run : Runs c.args.self c.args.events.now c.loop-event.outs.items c.loop-event.self = rw all at c.loop-event.invariant.run in
+    let run = whole-run c.args.self c.args.events.now c.loop-event.outs.items c.loop-event.self c.loop-event.event-index (grind (arith, common_steps)) c.loop-event.invariant.run in
     rw c.from_vec.ensures (λ j quiet. quiet-shells j c.args.self c.args.events.now c.loop-event.outs.items c.loop-event.self run quiet)
 
 pub returns-clause-typed : goal.returns-clause-typed
 returns-clause-typed c =
-    let all : take c.loop-event.event-index c.args.events.now ≡ c.args.events.now = grind (arith, common_steps) in
-    let run : Runs c.args.self c.args.events.now c.loop-event.outs.items c.loop-event.self = rw all at c.loop-event.invariant.run in
+    let run = whole-run c.args.self c.args.events.now c.loop-event.outs.items c.loop-event.self c.loop-event.event-index (grind (arith, common_steps)) c.loop-event.invariant.run in
     rw c.from_vec.ensures (lines-in-order c.args.self c.args.events.now c.loop-event.outs.items c.loop-event.self run)
 
 pub returns-clause-records : goal.returns-clause-records
 returns-clause-records c =
-    let all : take c.loop-event.event-index c.args.events.now ≡ c.args.events.now = grind (arith, common_steps) in
-    let run : Runs c.args.self c.args.events.now c.loop-event.outs.items c.loop-event.self = rw all at c.loop-event.invariant.run in
+    let run = whole-run c.args.self c.args.events.now c.loop-event.outs.items c.loop-event.self c.loop-event.event-index (grind (arith, common_steps)) c.loop-event.invariant.run in
     rw c.from_vec.ensures (reports-by c.args.self c.args.events.now c.loop-event.outs.items c.loop-event.self run (rw c.self.view_is at c.self.invariant))
 
 pub returns-clause-codes : goal.returns-clause-codes
 returns-clause-codes c =
-    let all : take c.loop-event.event-index c.args.events.now ≡ c.args.events.now = grind (arith, common_steps) in
-    let run : Runs c.args.self c.args.events.now c.loop-event.outs.items c.loop-event.self = rw all at c.loop-event.invariant.run in
+    let run = whole-run c.args.self c.args.events.now c.loop-event.outs.items c.loop-event.self c.loop-event.event-index (grind (arith, common_steps)) c.loop-event.invariant.run in
     let all_codes : HasAllCodes c.args.self = rw (← c.self.view_is) (search rules) in
     rw c.from_vec.ensures (last-codes-stay c.args.self c.args.events.now c.loop-event.outs.items c.loop-event.self run (rw c.self.view_is at c.self.invariant) all_codes)
 
 pub returns-clause-breaks : goal.returns-clause-breaks
 returns-clause-breaks c =
-    let all : take c.loop-event.event-index c.args.events.now ≡ c.args.events.now = grind (arith, common_steps) in
-    let run : Runs c.args.self c.args.events.now c.loop-event.outs.items c.loop-event.self = rw all at c.loop-event.invariant.run in
+    let run = whole-run c.args.self c.args.events.now c.loop-event.outs.items c.loop-event.self c.loop-event.event-index (grind (arith, common_steps)) c.loop-event.invariant.run in
     rw c.from_vec.ensures (breaks-end-in c.args.self c.args.events.now c.loop-event.outs.items c.loop-event.self run)
