@@ -1,6 +1,6 @@
 -- What is due is accepted.
-use Rattle.std.proofs.Common.{◌≡◌, ◌∙◌, ℕ, zero, suc, ◌≤◌, ◌∷◌, List, [], Option, Some, None, true, false, not, ◌||◌, refl, ap, is_some, length, slice_get, nat_lt, arith, Bool}
-use Rattle.std.proofs.lemmas.Bool.{and_parts}
+use Rattle.std.proofs.Common.{◌≡◌, ◌∙◌, ℕ, zero, suc, ◌≤◌, ◌∷◌, List, [], Option, Some, None, true, false, not, ◌||◌, refl, ap, is_some, length, slice_get, nat_lt, arith}
+use Rattle.std.proofs.lemmas.Bool.{and_parts, not-true}
 use Rattle.std.proofs.lemmas.Grind.{common_steps}
 use Rattle.std.specs.List.{list_any}
 use Rattle.ados_machine.specs.World.{WorldState, numbered_shell, is_ready, wants_input, wants_line, is_over, has_input, input_of, flatten}
@@ -30,11 +30,7 @@ runs-where_wanted w e = runs-on w 1 (wanted-runs (numbered_shell w 1) (and_parts
 
 -- if a line is wanted nothing is there to take
 nothing-to-take : (w : WorldState) → wants_line w ≡ true → has_input (input_of w 1) ≡ false
-nothing-to-take w e = opposite (has_input (input_of w 1)) (and_parts (wants_input (numbered_shell w 1)) (not (has_input (input_of w 1))) e).1
-  where
-    opposite : (b : Bool) → not b ≡ true → b ≡ false
-    opposite true h = cc
-    opposite false h = refl
+nothing-to-take w e = not-true (has_input (input_of w 1)) (and_parts (wants_input (numbered_shell w 1)) (not (has_input (input_of w 1))) e).1
 
 -- if a line is wanted the input's end is accepted
 pub end-accepted : (w : WorldState) → wants_line w ≡ true → is_accepted (step_of w EndOfInput) ≡ true

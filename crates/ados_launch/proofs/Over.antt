@@ -13,6 +13,7 @@ use Rattle.ados_machine.specs.Shells.{ShellState}
 use Rattle.ados_machine.specs.Turning.{Input}
 use Rattle.ados_machine.specs.Phases.{Phase, Ready, GoingOn, Waiting}
 use Rattle.ados_machine.specs.declared.phases.Wait.TheVariants.{ForAnswer, ForLines, ForStart, ForPiece, ForEnd}
+use Rattle.ados_machine.proofs.MovedChildren.{over-none}
 use Rattle.ados_launcher.specs.declared.calls.Call.{Call}
 use Rattle.ados_launcher.specs.Lifecycles.{lifecycle_for_state}
 use Rattle.ados_launch.specs.Agreement.{Agrees, AreOver}
@@ -86,20 +87,6 @@ none-any (Some shell ∷ shells) none = let found = none 0 in cc
 -- if nothing may come no shell is left
 pub over : (w : WorldState) → length w.shells ≡ 20 → IsIdle w → is_over w ≡ true
 over w size idle = ap not (none-any w.shells (λ i. none-there w (suc i) size idle))
-
-none-in : (shells : List (Option ShellState)) (i : ℕ) → list_any is_some shells ≡ false → flatten (slice_get shells i) ≡ None
-none-in [] i none = refl
-none-in (None ∷ shells) zero none = refl
-none-in (None ∷ shells) (suc i) none = none-in shells i none
-none-in (Some shell ∷ shells) i none = cc
-
-over-none : (w : WorldState) (k : ℕ) → is_over w ≡ true → numbered_shell w k ≡ None
-over-none w zero over = refl
-over-none w (suc i) over = none-in w.shells i (unset (list_any is_some w.shells) over)
-  where
-    unset : (b : Bool) → not b ≡ true → b ≡ false
-    unset true e = cc
-    unset false e = refl
 
 -- and then each sequence of lifecycles is at its end
 pub calls-over : (w : WorldState) (calls : List Call) → Agrees w calls → is_over w ≡ true → AreOver calls

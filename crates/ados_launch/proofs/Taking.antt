@@ -1,7 +1,7 @@
 -- What an event that was taken is in a session.
 use Rattle.std.proofs.Common.{◌≡◌, ℕ, ◌-◌, ◌≤◌, List, [], Bool, true, false, not, Option, Some, Result, Ok, Err, OnOk, nat_lt, refl, ap, sym, subst, ◌∙◌, append-nil, arith, inl, inr}
 use Rattle.std.specs.Prelude.{if◌then◌else◌}
-use Rattle.std.proofs.lemmas.Bool.{cases_Bool}
+use Rattle.std.proofs.lemmas.Bool.{cases_Bool, not-true}
 use Rattle.std.proofs.lemmas.Grind.{common_steps}
 use Rattle.ados_machine.specs.declared.answers.Answer.{Answer as Reply}
 use Rattle.ados_machine.specs.declared.events.Event.{Event}
@@ -121,13 +121,9 @@ further-fits (Wait n) = refl
 start-due : (w : WorldState) (place : ℕ) (request : Request) → 21 ≤ place → nat_lt place 41 ≡ true → has_event w place ≡ true → pending_of w (place - 20) ≡ Some request → asks_start (Some request) ≡ true
 start-due w place request late on due asked = rw asked at (sym (comes-start w place late (grind (arith, common_steps))) ∙ due)
 
-opposite : (b : Bool) → not b ≡ true → b ≡ false
-opposite true h = cc
-opposite false h = refl
-
 further-due : (w : WorldState) (place : ℕ) (request : Request) → nat_lt place 41 ≡ false → has_event w place ≡ true → pending_of w (place - 40) ≡ Some request → asks_start (Some request) ≡ false
 further-due w place request off due asked =
-    opposite (asks_start (Some request)) (sym (further-fits request) ∙ (rw asked at (sym (comes-late w place (grind (arith, common_steps))) ∙ due)))
+    not-true (asks_start (Some request)) (sym (further-fits request) ∙ (rw asked at (sym (comes-late w place (grind (arith, common_steps))) ∙ due)))
 
 -- the shell that is answered at a place, and the place of its answer
 abbrev pub shell_at_place : ℕ → ℕ
