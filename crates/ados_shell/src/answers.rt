@@ -57,28 +57,17 @@ impl Draft {
         match &shell.phase {
             None => Ok(Answering::WrongAnswer),
             Some(suspension) => match &**suspension {
-                Suspension::Waiting(wait) => self.reply_while(scene, wait, answer),
-                Suspension::GoingOn(_) => Ok(Answering::WrongAnswer),
+                Suspension::Waiting(Wait::ForStart(starting)) => {
+                    self.reply_to_start(scene, starting, answer)
+                }
+                Suspension::Waiting(Wait::ForPiece(child)) => {
+                    self.reply_to_read(scene, child, answer)
+                }
+                Suspension::Waiting(Wait::ForEnd(child)) => {
+                    self.reply_to_wait(scene, child, answer)
+                }
+                _ => Ok(Answering::WrongAnswer),
             },
-        }
-    }
-
-    /// An answer for the shell, which waits for this.
-    fn reply_while(
-        &mut self,
-        scene: &Scene,
-        wait: &Wait,
-        answer: &Answer,
-    ) -> Result<Answering, NoMemory>
-        ensures completion { IfOk result (λ answering. IsReplied scene.now self.old self.new answering
-            (answered_completion (next_line_place scene.now self.old).sink (course_of scene.now self.old) wait.now answer.now)) }
-        ensures memory { OnErr result (is_some (answered_completion (next_line_place scene.now self.old).sink (course_of scene.now self.old) wait.now answer.now) ≡ true) }
-    {
-        match wait {
-            Wait::ForAnswer(_) | Wait::ForLines(_) => Ok(Answering::WrongAnswer),
-            Wait::ForStart(starting) => self.reply_to_start(scene, starting, answer),
-            Wait::ForPiece(child) => self.reply_to_read(scene, child, answer),
-            Wait::ForEnd(child) => self.reply_to_wait(scene, child, answer),
         }
     }
 
@@ -100,12 +89,7 @@ impl Draft {
             Answer::Denied => self.refuse(scene, word, Result2::NOT_EXECUTABLE)?,
             Answer::Memory => self.refuse(scene, word, Result2::NO_FREE_STORE)?,
             Answer::Other => self.refuse(scene, word, Result2::NOT_IMPLEMENTED)?,
-            Answer::Bytes(_)
-            | Answer::End
-            | Answer::PipeFault
-            | Answer::Exit(_)
-            | Answer::Signal
-            | Answer::WaitFault => return Ok(Answering::WrongAnswer),
+            _ => return Ok(Answering::WrongAnswer),
         }
         Ok(Answering::Goes)
     }
@@ -148,15 +132,7 @@ impl Draft {
                 let child = child.with_fault(Result2::PIPE_FAULT);
                 self.wait(scene, Wait::ForEnd(child))?;
             }
-            Answer::Bytes(_)
-            | Answer::Started
-            | Answer::NotFound
-            | Answer::Denied
-            | Answer::Memory
-            | Answer::Other
-            | Answer::Exit(_)
-            | Answer::Signal
-            | Answer::WaitFault => return Ok(Answering::WrongAnswer),
+            _ => return Ok(Answering::WrongAnswer),
         }
         Ok(Answering::Goes)
     }
@@ -207,14 +183,7 @@ impl Draft {
                 let codes = Codes::failed(Result2::WAIT_FAULT);
                 self.end_program(scene, child, codes)?;
             }
-            Answer::Started
-            | Answer::NotFound
-            | Answer::Denied
-            | Answer::Memory
-            | Answer::Other
-            | Answer::Bytes(_)
-            | Answer::End
-            | Answer::PipeFault => return Ok(Answering::WrongAnswer),
+            _ => return Ok(Answering::WrongAnswer),
         }
         Ok(Answering::Goes)
     }
