@@ -24,5 +24,5 @@ pub use file_bytes::FileBytes;
 pub use files::Ram;
 pub use in_use::Busy;
 pub use laws::{contents_in_order, objects_keep_their_names, others_stay, renames_move};
-pub use places::{Place, push_places};
+pub use places::{Place, any_same, push_places};
 pub use refusals::{BYTES_LIMIT, FILE_LIMIT, OBJECTS_LIMIT, list_refusal};
