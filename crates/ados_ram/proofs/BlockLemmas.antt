@@ -197,8 +197,10 @@ around (c ∷ bs) (suc i) b e =
     ap (λ (ks : Kids). c ++ ks) (around bs i b e) ∙ sym (append_assoc c (all_kids (take i bs)) (b ++ all_kids (drop (i + 1) bs)))
     ∙ ap (λ (j : ℕ). (c ++ all_kids (take i bs)) ++ (b ++ all_kids (drop j (c ∷ bs)))) n
 
-pub found_in : (x : Name) (bs : List Kids) (i : ℕ) (b : Kids) → IsBlockOf x bs i → slice_get bs i ≡ Some b → find name_cmp x (all_kids bs) ≡ find name_cmp x b
-found_in x bs i b at e = ap (find name_cmp x) (around bs i b e) ∙ find-middle x _ b _ at.before (holds _ at.after)
+pub found_in : {lent : List Kids} (x : Name) (bs : List Kids) (i : ℕ) (b : Kids) → lent ≡ bs → IsBlockOf x lent i → slice_get bs i ≡ Some b → find name_cmp x (all_kids bs) ≡ find name_cmp x b
+found_in x bs i b own there e =
+    let at = subst (λ (t : List Kids). IsBlockOf x t i) own there in
+    ap (find name_cmp x) (around bs i b e) ∙ find-middle x _ b _ at.before (holds _ at.after)
 
 all-before : (bs : List Kids) (i : ℕ) → slice_get bs i ≡ None → take i bs ≡ bs
 all-before [] zero e = refl
@@ -206,8 +208,9 @@ all-before [] (suc i) e = refl
 all-before (b ∷ bs) zero e = cc
 all-before (b ∷ bs) (suc i) e = ap (λ (t : List Kids). b ∷ t) (all-before bs i e)
 
-pub found_none : (x : Name) (bs : List Kids) (i : ℕ) → IsBlockOf x bs i → slice_get bs i ≡ None → find name_cmp x (all_kids bs) ≡ None
-found_none x bs i at e =
+pub found_none : {lent : List Kids} (x : Name) (bs : List Kids) (i : ℕ) → lent ≡ bs → IsBlockOf x lent i → slice_get bs i ≡ None → find name_cmp x (all_kids bs) ≡ None
+found_none x bs i own there e =
+    let at = subst (λ (t : List Kids). IsBlockOf x t i) own there in
     let h : AllBefore x (all_kids bs) = subst (λ (t : List Kids). AllBefore x (all_kids t)) (all-before bs i e) at.before in
     sym (ap (find name_cmp x) (append-nil (all_kids bs))) ∙ find-before x (all_kids bs) [] h
 
@@ -248,6 +251,9 @@ none-in (b ∷ bs) f =
     grind (arith, nat_tests)
 
 -- one object of a list borrowed at an index
-pub lent : {X : Type 0} (xs : List X) (i : ℕ) (r : Option (Bor X)) → IsItemAt xs i r → option_copied r ≡ slice_get xs i
+lent : {X : Type 0} (xs : List X) (i : ℕ) (r : Option (Bor X)) → IsItemAt xs i r → option_copied r ≡ slice_get xs i
 lent xs i None h = let test = h.0 in sym (slice_get_past xs i (grind (arith, nat_tests)))
 lent xs i (Some x) h = let test = h.0 in ap Some h.1 ∙ sym (slice_get-get_or xs i x.now (grind (arith, nat_tests)))
+
+pub block-at : {held : List Kids} (bs : List Kids) (i : ℕ) (got : Option (Bor Kids)) → held ≡ bs → IsItemAt held i got → slice_get bs i ≡ option_copied got
+block-at bs i got own is = ap (λ (t : List Kids). slice_get t i) (sym own) ∙ sym (lent _ i got is)

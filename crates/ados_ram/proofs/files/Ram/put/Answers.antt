@@ -12,8 +12,7 @@ pub with_bytes-requires-clause-files : goal.with_bytes-requires-clause-files
 with_bytes-requires-clause-files c =
     let name = last_name c.args.place.now in
     let bytes = c.args.kept.now ++ c.args.more.now in
-    let refused = c.write_refusal.ensures name bytes (length-append c.args.kept.now c.args.more.now) in
-    let free = free-write c.is_output-open.result c.self.inside.table c.args.place.now name bytes c.names-3.ensures refused c.in-None.is in
+    let free = free-write c.is_output-open.result c.self.inside.table c.args.place.now name bytes c.names-3.ensures (c.write_refusal.ensures name bytes (length-append c.args.kept.now c.args.more.now)) c.in-None.is in
     let files : AreFiles (write_as_of c.self.inside.table (key_of c.args.place.now) name bytes c.args.bits) = record {
       tree = written_files c.is_output-open.result (key_of c.args.place.now) name bytes c.args.bits c.self.invariant.tree free;
       named = write-as-named c.self.inside.table c.args.place.now bytes c.args.bits c.self.invariant.named;
@@ -28,6 +27,5 @@ pub with_bytes-requires-clause-root : goal.with_bytes-requires-clause-root
 with_bytes-requires-clause-root c =
     let name = last_name c.args.place.now in
     let bytes = c.args.kept.now ++ c.args.more.now in
-    let refused = c.write_refusal.ensures name bytes (length-append c.args.kept.now c.args.more.now) in
-    let free = free-write c.is_output-open.result c.self.inside.table c.args.place.now name bytes c.names-3.ensures refused c.in-None.is in
+    let free = free-write c.is_output-open.result c.self.inside.table c.args.place.now name bytes c.names-3.ensures (c.write_refusal.ensures name bytes (length-append c.args.kept.now c.args.more.now)) c.in-None.is in
     written-inside c.self.inside.table c.is_output-open.result (key_of c.args.place.now) name bytes c.self.invariant.tree free
