@@ -16,8 +16,7 @@ use Rattle.ados_machine.specs.declared.outs.EndReport.{EndReport}
 use Rattle.ados_machine.specs.Items.{Began, Answered, Ended, Broke, broken_codes, reports_of}
 use Rattle.ados_machine.specs.Whole.{Whole, remainder, configuration, Done, Broken, Late, Short}
 use Rattle.ados_machine.specs.LoneShell.{lines, at_bottom, opened_shell, world_with_opened, first_common}
-use Rattle.ados_machine.specs.Course.{Course, shared_after_event, with_bytes_printed}
-use Rattle.ados_machine.specs.LoneReports.{reports_onto, collect_reports_after, collect_reports_of_reply, collect_next_reports, collect_reports, TellsReports, AloneTellsReports}
+use Rattle.ados_machine.specs.LoneReports.{reports_onto, collect_reports_after, collect_reports_of_reply, collect_reports, TellsReports, AloneTellsReports}
 use Rattle.ados_machine.proofs.Alone.{with_ends, Lone, Rested, Going, Unfed, exec-rests}
 use Rattle.ados_machine.proofs.DirectStates.{AgreesBy, ended, breaking}
 use Rattle.ados_machine.proofs.Direct.{agrees}
