@@ -7,7 +7,7 @@ use Rattle.ados_ram.specs.Place.{Place, is_same_place}
 use Rattle.ados_find.specs.declared.codes.Codes.{Codes}
 use Rattle.ados_find.specs.Codes.{error_codes}
 use Rattle.ados_find.specs.Effects.{if_found}
-use Rattle.ados_find.specs.SearchPath.{with_entry, without_entry}
+use Rattle.ados_find.specs.SearchPath.{with_search_directory, without_search_directory}
 use Rattle.ados_find.specs.Shared.{SharedState}
 use Rattle.ados_find.specs.Views.{View}
 use Rattle.ados_env.specs.Directories.{directory_of}
@@ -24,9 +24,9 @@ first_list_work r before = record { removes = r.removes; before = before; list =
 abbrev pub list_work_on_place : ListWork → Place → Result ListWork Codes
 list_work_on_place work place =
     if work.removes then
-    (if list_any (λ entry. is_same_place entry place) work.before then Ok (record work { list = without_entry work.list place })
+    (if list_any (λ entry. is_same_place entry place) work.before then Ok (record work { list = without_search_directory work.list place })
     else Err (error_codes OBJECT_NOT_FOUND))
-    else Ok (record work { list = with_entry work.list place })
+    else Ok (record work { list = with_search_directory work.list place })
 
 -- the work after the texts of TARGET in order, unless one of them is refused
 abbrev pub list_work_on_all : SharedState → View → ListWork → List Text → Result ListWork Codes

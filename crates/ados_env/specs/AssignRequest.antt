@@ -9,8 +9,8 @@ use Rattle.ados_find.specs.Codes.{fail_codes}
 use Rattle.ados_env.specs.declared.assign_request.Request.{Request}
 
 -- EXISTS prints; DEFER and PATH keep TARGET as a text; ADD and REMOVE change the directories of an assign
-abbrev pub request_of : List Arg → Request
-request_of args = record {
+abbrev pub parsed_request : List Arg → Request
+parsed_request args = record {
   prints = has_switch args 2;
   defers = has_switch args 3;
   follows = has_switch args 4;

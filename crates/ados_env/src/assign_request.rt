@@ -1,6 +1,6 @@
 // What Assign is given besides NAME, and what is wrong with it.
 ghost use Rattle.std.specs.Prelude.{◌≡◌, IfOk};
-ghost use Rattle.ados_env.specs.AssignRequest.{are_two, changes_list, has_target, keeps_text, request_fault, request_of, targets_fault};
+ghost use Rattle.ados_env.specs.AssignRequest.{are_two, changes_list, has_target, keeps_text, request_fault, parsed_request, targets_fault};
 
 use ados_find::Codes;
 use ados_readargs::Args;
@@ -27,7 +27,7 @@ pub struct Request {
 impl Request {
     /// What the arguments of Assign ask for.
     pub fn of(alloc: Global, args: &Args) -> Result<Request, NoMemory>
-        ensures { IfOk result (λ request. request ≡ request_of args.now) }
+        ensures { IfOk result (λ request. request ≡ parsed_request args.now) }
     {
         Ok(Request {
             prints: args.has_switch(2),

@@ -1,7 +1,7 @@
 // The resident list as Resident prints it: a line for each internal command, and one for each entry.
 ghost use Rattle.std.specs.Prelude.{◌≡◌, ◌++◌, IfOk, OnOk};
 ghost use Rattle.std.specs.List.{flat_map};
-ghost use Rattle.ados_env.specs.Resident.{entry_line, internal_line, list_line, list_lines};
+ghost use Rattle.ados_env.specs.Resident.{entry_line, internal_line, resident_line, list_lines};
 
 use ados_resident::{Internal, Resident, Residents, count};
 use ados_text::{NoMemory, Text, push_left, push_right};
@@ -84,7 +84,7 @@ fn push_entry(
 
 // Adds a line of the list to the output.
 fn push_line(output: &mut Vec<u8>, name: &[u8], state: &[u8]) -> Result<(), NoMemory>
-    ensures { OnOk result (output.new.items ≡ output.old.items ++ list_line name.now state.now) }
+    ensures { OnOk result (output.new.items ≡ output.old.items ++ resident_line name.now state.now) }
 {
     push_left(output, NAME_WIDTH, name)?;
     output.push(b' ')?;

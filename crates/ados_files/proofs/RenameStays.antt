@@ -14,7 +14,7 @@ use Rattle.ados_find.specs.Shared.{SharedState}
 use Rattle.ados_find.specs.Views.{View}
 use Rattle.ados_find.specs.Effects.{codes_effect, if_found, if_given, unless_refused}
 use Rattle.ados_find.specs.Paths.{place_of}
-use Rattle.ados_files.specs.Rename.{target_of, rename_effect, rename_entry, rename_from_place, rename_given, rename_places, rename_row}
+use Rattle.ados_files.specs.Rename.{destination, rename_effect, rename_entry, rename_from_place, rename_given, rename_places, rename_row}
 use Rattle.ados_files.specs.MayChange.{is_under, is_under_path, rename_may_change}
 
 abbrev Both : Place → Place → Key → Bool
@@ -25,7 +25,7 @@ unless-stays None shared from to = rename-stays shared.files (key_of from) (key_
 unless-stays (Some fault) shared from to = λ key out. refl
 
 -- the target is TO or an object in it
-target-outside : (files : Files) (from : Place) (e : Entry) (to : Place) (key : Key) → is_at_or_below (key_of to) key ≡ false → is_at_or_below (key_of (target_of files from e to)) key ≡ false
+target-outside : (files : Files) (from : Place) (e : Entry) (to : Place) (key : Key) → is_at_or_below (key_of to) key ≡ false → is_at_or_below (key_of (destination files from e to)) key ≡ false
 target-outside files from e to key out =
     elim (is_some_directory (map.get files (key_of to)) && not (is_same_key (key_of to) (key_of from))) as (λ b. is_at_or_below (key_of (if b then to ++ e.name ∷ [] else to)) key ≡ false) [
       | true ↦ none-below to (e.name ∷ []) key out
@@ -39,7 +39,7 @@ from-stays : (shared : SharedState) (view : View) (from : Place) (there : Option
 from-stays shared view from None to key out = refl
 from-stays shared view from (Some e) to key out =
     let apart = neither (is_at_or_below (key_of from) key) (is_at_or_below (key_of to) key) out in
-    let target = target_of shared.files from e to in
+    let target = destination shared.files from e to in
     unless-stays (rename_fault view.busy shared.files (key_of from) (key_of target)) shared from target key
     (or-neither (is_at_or_below (key_of from) key) (is_at_or_below (key_of target) key) apart.0 (target-outside shared.files from e to key apart.1))
 

@@ -28,8 +28,8 @@ passes None e = true
 passes (Some pattern) e = is_match pattern.form e.name
 
 -- FILES shows files alone, DIRS directories alone; both or neither show both
-abbrev pub is_kept : Shape → Entry → Bool
-is_kept shape e = cond (is_directory e) (keeps shape.dirs shape.files) (keeps shape.files shape.dirs)
+abbrev pub is_selected : Shape → Entry → Bool
+is_selected shape e = cond (is_directory e) (keeps shape.dirs shape.files) (keeps shape.files shape.dirs)
 
 -- QUICK shows the name alone
 abbrev pub shown_line : Bool → Entry → Bytes
@@ -37,7 +37,7 @@ shown_line true e = e.name ++ 10 ∷ []
 shown_line false e = list_line e
 
 abbrev pub kept_line : Shape → Entry → Bytes
-kept_line shape e = if is_kept shape e && passes shape.pattern e then shown_line shape.quick e else []
+kept_line shape e = if is_selected shape e && passes shape.pattern e then shown_line shape.quick e else []
 
 abbrev pub line_by_shape : Shape → Option Entry → Bytes
 line_by_shape shape None = []

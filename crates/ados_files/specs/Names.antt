@@ -83,15 +83,15 @@ abbrev pub places_by_meaning : SharedState → Place → Text → Meaning → Re
 places_by_meaning shared directory head pattern = places_by_form shared directory head pattern.form pattern.name
 
 -- the path before the last piece of a text, and that piece
-abbrev pub head_of : Text → Text
-head_of text = take (last_piece_of text) text
+abbrev pub directory_part : Text → Text
+directory_part text = take (last_piece_of text) text
 
 abbrev pub piece_of : Text → Text
 piece_of text = drop (last_piece_of text) text
 
 -- the objects that an argument names
 abbrev pub named_places : SharedState → Place → Text → Result FoundPlaces Codes
-named_places shared directory text = if_found Err (pattern_of (piece_of text)) (places_by_meaning shared directory (head_of text))
+named_places shared directory text = if_found Err (pattern_of (piece_of text)) (places_by_meaning shared directory (directory_part text))
 
 -- the same, with all directories of a literal path that stands for several, as a device alone does
 abbrev pub bases_there : List Place → Option Entry → Result FoundPlaces Codes
@@ -109,4 +109,4 @@ abbrev pub bases_with : SharedState → Place → Text → Meaning → Result Fo
 bases_with shared directory head pattern = bases_by shared directory head pattern.form pattern.name
 
 abbrev pub named_bases : SharedState → Place → Text → Result FoundPlaces Codes
-named_bases shared directory text = if_found Err (pattern_of (piece_of text)) (bases_with shared directory (head_of text))
+named_bases shared directory text = if_found Err (pattern_of (piece_of text)) (bases_with shared directory (directory_part text))

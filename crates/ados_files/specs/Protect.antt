@@ -29,8 +29,8 @@ begins_with sign [] = false
 begins_with sign (c ∷ cs) = c == sign
 
 -- the letters of the flags: those after a leading `+` or `-`
-abbrev pub letters_of : Text → Text
-letters_of flags = if begins_with 43 flags || begins_with 45 flags then drop 1 flags else flags
+abbrev pub flag_letters : Text → Text
+flag_letters flags = if begins_with 43 flags || begins_with 45 flags then drop 1 flags else flags
 
 -- the letter is among them, with case ignored
 abbrev pub has_letter : ℕ → Text → Bool
@@ -71,7 +71,7 @@ change_by (Ok way) letters = Ok (record { way = way; bits = bits_of letters })
 -- the change that the flags and the switches ask for
 abbrev pub change_of : Text → Bool → Bool → Result Change Result2
 change_of flags add sub =
-    if are_letters (letters_of flags) then change_by (way_of (add || begins_with 43 flags) (sub || begins_with 45 flags)) (letters_of flags)
+    if are_letters (flag_letters flags) then change_by (way_of (add || begins_with 43 flags) (sub || begins_with 45 flags)) (flag_letters flags)
     else Err BAD_NUMBER
 
 -- one bit after a change

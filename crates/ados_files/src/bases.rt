@@ -1,7 +1,7 @@
 // The objects in the directories for which a path stands.
 ghost use Rattle.std.specs.Prelude.{◌≡◌, ◌≤◌, ◌++◌, take, drop, length, IfOk, OnOk};
 ghost use Rattle.std.specs.Option.{option_copied};
-ghost use Rattle.ados_files.specs.Bases.{all_children, entry_at, further_children, has_name, new_places};
+ghost use Rattle.ados_files.specs.Bases.{all_children, entry_at, further_children, has_object, new_places};
 
 use ados_ram::{Entry, Place, Ram};
 use ados_text::{Name, NoMemory};
@@ -57,7 +57,7 @@ fn push_new(
     ensures { OnOk result (out.new.items ≡ out.old.items ++ new_places ram.now before.now places.now) }
 {
     for place in places {
-        if !has_name(ram, before, &place.last_name()?)? {
+        if !has_object(ram, before, &place.last_name()?)? {
             out.push(place.copy()?)?;
         }
     }
@@ -65,8 +65,8 @@ fn push_new(
 }
 
 // Whether one of the directories has an object of this name.
-fn has_name(ram: &Ram, bases: &[Place], name: &Name) -> Result<bool, NoMemory>
-    ensures { IfOk result (λ there. there ≡ has_name ram.now bases.now name.now) }
+fn has_object(ram: &Ram, bases: &[Place], name: &Name) -> Result<bool, NoMemory>
+    ensures { IfOk result (λ there. there ≡ has_object ram.now bases.now name.now) }
 {
     for base in bases {
         if ram.look(&base.joined(slice::from_ref(name))?).is_some() {

@@ -26,7 +26,7 @@ pub struct Shape {
     pub dirs: bool,
 }
 
-ghost use Rattle.ados_files.specs.Listing.{passes, is_kept, shown_line, kept_line, line_by_shape, entries_of, listed_places};
+ghost use Rattle.ados_files.specs.Listing.{passes, is_selected, shown_line, kept_line, line_by_shape, entries_of, listed_places};
 ghost use Rattle.ados_files.specs.Listing.{list_text, list_directory, list_texts, pattern_given, list_row};
 
 /// List shows lines of objects, and of what is in directories.
@@ -180,14 +180,14 @@ fn push_there(output: &mut Vec<u8>, shape: &Shape, there: Option<&Entry>) -> Res
 fn push_kept(output: &mut Vec<u8>, shape: &Shape, entry: &Entry) -> Result<(), NoMemory>
     ensures { OnOk result (output.new.items ≡ output.old.items ++ kept_line shape.now entry.now) }
 {
-    if !is_kept(shape, entry) || !passes(&shape.pattern, entry)? {
+    if !is_selected(shape, entry) || !passes(&shape.pattern, entry)? {
         return Ok(());
     }
     push_shown(output, shape.quick, entry)
 }
 
-fn is_kept(shape: &Shape, entry: &Entry) -> bool
-    ensures { result ≡ is_kept shape.now entry.now }
+fn is_selected(shape: &Shape, entry: &Entry) -> bool
+    ensures { result ≡ is_selected shape.now entry.now }
 {
     if entry.is_directory() {
         keeps(shape.dirs, shape.files)

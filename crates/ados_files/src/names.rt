@@ -29,7 +29,7 @@ impl Model for Found {
     ghost view = { λ n. record { literal = n.literal; places = n.places.items } };
 }
 
-ghost use Rattle.ados_files.specs.Names.{pattern_of, matches_form, matching_places, some_matches, directory_matches, matches_at, the_one, single_match, bases_at, places_by_form, head_of, piece_of, named_places, named_bases};
+ghost use Rattle.ados_files.specs.Names.{pattern_of, matches_form, matching_places, some_matches, directory_matches, matches_at, the_one, single_match, bases_at, places_by_form, directory_part, piece_of, named_places, named_bases};
 
 impl Found {
     /// Several objects.
@@ -71,7 +71,7 @@ pub fn named(
 ) -> Result<Found, Refusal>
     ensures { Gives result (named_places shared.now directory.now text.now) }
 {
-    let head = head_of(text)?;
+    let head = directory_part(text)?;
     let pattern = pattern_of(alloc, &piece_of(text)?)?;
     named_by(alloc, shared, directory, &head, &pattern)
 }
@@ -85,7 +85,7 @@ pub fn named_bases(
 ) -> Result<Found, Refusal>
     ensures { Gives result (named_bases shared.now directory.now text.now) }
 {
-    let head = head_of(text)?;
+    let head = directory_part(text)?;
     let pattern = pattern_of(alloc, &piece_of(text)?)?;
     match pattern.literal() {
         Some(name) => bases_at(alloc, shared, directory, &head.join(name)?),
@@ -94,8 +94,8 @@ pub fn named_bases(
 }
 
 // The path before the last piece of a text.
-fn head_of(text: &Text) -> Result<Text, NoMemory>
-    ensures { IfOk result (λ head. head ≡ head_of text.now) }
+fn directory_part(text: &Text) -> Result<Text, NoMemory>
+    ensures { IfOk result (λ head. head ≡ directory_part text.now) }
 {
     text.part(0, last_piece(text))
 }

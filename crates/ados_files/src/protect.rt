@@ -24,7 +24,7 @@ pub struct Change {
     pub bits: Bits,
 }
 
-ghost use Rattle.ados_files.specs.Protect.{begins_with, letters_of, has_letter, bits_of, is_letter, are_letters, way_of, change_of};
+ghost use Rattle.ados_files.specs.Protect.{begins_with, flag_letters, has_letter, bits_of, is_letter, are_letters, way_of, change_of};
 ghost use Rattle.ados_files.specs.Protect.{changed_bit, changed_bits, object_bits, protect_one, protect_all, protect_row};
 ghost use Rattle.ados_files.specs.Texts.{text_or_empty};
 
@@ -75,7 +75,7 @@ fn text_or_empty(text: Option<&[u8]>) -> &[u8]
 fn change_of(flags: &[u8], add: bool, sub: bool) -> Result<Change, Result2>
     ensures { result ≡ change_of flags.now add sub }
 {
-    let letters = letters_of(flags);
+    let letters = flag_letters(flags);
     if !are_letters(letters) {
         return Err(Result2::BAD_NUMBER);
     }
@@ -113,8 +113,8 @@ fn begins_with(sign: u8, flags: &[u8]) -> bool
 }
 
 // The flags without a leading sign.
-fn letters_of(flags: &[u8]) -> &[u8]
-    ensures { result.now ≡ letters_of flags.now }
+fn flag_letters(flags: &[u8]) -> &[u8]
+    ensures { result.now ≡ flag_letters flags.now }
 {
     if begins_with(b'+', flags) || begins_with(b'-', flags) {
         &flags[1..]

@@ -4,7 +4,7 @@ ghost use Rattle.std.specs.Option.{option_copied};
 ghost use Rattle.ados_ram.specs.Place.{key_of};
 ghost use Rattle.ados_ram.specs.Files.{is_some_directory};
 ghost use Rattle.ados_find.specs.Effects.{effect_of};
-ghost use Rattle.ados_files.specs.Rename.{target_of, rename_to_place, rename_entry, rename_from_place, rename_row};
+ghost use Rattle.ados_files.specs.Rename.{destination, rename_to_place, rename_entry, rename_from_place, rename_row};
 
 use ados_find::{Codes, Outcome, Renamed, Shared, ShellView, place_of};
 use ados_ram::{Entry, Place, Ram};
@@ -61,7 +61,7 @@ fn renamed_from(
     match shared.ram.look(from) {
         None => Ok(Outcome::answering(alloc, Codes::erred(Result2::OBJECT_NOT_FOUND))),
         Some(entry) => {
-            let to = target_of(&shared.ram, from, entry, to)?;
+            let to = destination(&shared.ram, from, entry, to)?;
             let from = from.copy()?;
             renamed_to(alloc, shared, view, Renamed { from, to })
         }
@@ -69,8 +69,8 @@ fn renamed_from(
 }
 
 // A place in the target directory with the object's own name, or the target itself.
-fn target_of(ram: &Ram, from: &Place, entry: &Entry, to: &Place) -> Result<Place, NoMemory>
-    ensures { IfOk result (λ place. place ≡ target_of ram.now from.now entry.now to.now) }
+fn destination(ram: &Ram, from: &Place, entry: &Entry, to: &Place) -> Result<Place, NoMemory>
+    ensures { IfOk result (λ place. place ≡ destination ram.now from.now entry.now to.now) }
 {
     if is_directory(ram.look(to)) && *to != *from {
         return to.joined(slice::from_ref(&entry.name));

@@ -3,14 +3,14 @@ use Rattle.std.proofs.Common.{◌≡◌, ◌∙◌, ℕ, zero, suc, ◌≤◌, �
 use Rattle.std.proofs.lemmas.Bool.{and_parts, not-true}
 use Rattle.std.proofs.lemmas.Grind.{common_steps}
 use Rattle.std.specs.List.{list_any}
-use Rattle.ados_machine.specs.World.{WorldState, numbered_shell, is_ready, wants_input, wants_line, is_over, has_input, input_of, flatten}
+use Rattle.ados_machine.specs.World.{WorldState, numbered_shell, is_ready, wants_input, wants_line, is_over, has_input, input_of, option_flatten}
 use Rattle.ados_machine.specs.Shells.{ShellState}
 use Rattle.ados_machine.specs.Step.{break_response, is_accepted, step_of}
 use Rattle.ados_machine.specs.declared.events.Event.TheVariants.{Typed, EndOfInput, Turn, Break}
 use Rattle.ados_machine.specs.declared.events.Kind.{Kind}
 use Rattle.ados_machine.proofs.ReadyLemmas.{ready-turned}
 
-any_some : (shells : List (Option ShellState)) (i : ℕ) → is_some (flatten (slice_get shells i)) ≡ true → list_any is_some shells ≡ true
+any_some : (shells : List (Option ShellState)) (i : ℕ) → is_some (option_flatten (slice_get shells i)) ≡ true → list_any is_some shells ≡ true
 any_some [] zero e = e
 any_some [] (suc i) e = e
 any_some (Some shell ∷ shells) i e = refl

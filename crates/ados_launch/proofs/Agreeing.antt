@@ -23,7 +23,7 @@ use Rattle.ados_machine.proofs.ChildLemmas.{request-names, requests-are}
 use Rattle.ados_launcher.specs.declared.calls.Call.{Call}
 use Rattle.ados_launcher.specs.Lifecycles.{Broken, lifecycle_of, lifecycle_for_state, lifecycle_after_call, is_open, state_of}
 use Rattle.ados_launch.specs.Agreement.{Agrees, AreWhole, IsOpenTable}
-use Rattle.ados_launch.specs.Asked.{Answers, Asks, IsTaken, Lists, MayAsk, call_of}
+use Rattle.ados_launch.specs.Asked.{LauncherAnswers, Asks, IsTaken, Lists, MayAsk, call_of}
 use Rattle.ados_launch.specs.Rounds.{asks_read_or_wait}
 use Rattle.ados_launch.proofs.NextCall.{asked-start, lifecycle-more, lifecycle-here, lifecycle-there, may-ask, unmarked}
 
@@ -89,7 +89,7 @@ answer-agrees w now k is_full request reply out calls listed sane agrees asked l
 
 -- if its answer was taken, the world and the list agree
 pub answers-agree : (w now : WorldState) (k : ℕ) (was_full is_full : Bool) (calls calls_now : List Call) (out : Out) → IsSane w → Agrees w calls →
-    Answers w k was_full is_full calls calls_now (IsTaken w k now out) → Agrees now calls_now
+    LauncherAnswers w k was_full is_full calls calls_now (IsTaken w k now out) → Agrees now calls_now
 answers-agree w now k was_full is_full calls calls_now out sane agrees a =
     rw a.asks.calls_are (answer-agrees w now k is_full a.request a.reply out calls a.asks.listed sane agrees a.pending_is a.asks.lists
     (accepted-is w now (Answer k a.reply) out (step_of w (Answer k a.reply)) a.led_to.0 a.led_to.1))

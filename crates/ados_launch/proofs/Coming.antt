@@ -9,18 +9,18 @@ use Rattle.ados_machine.specs.World.{WorldState, numbered_shell}
 use Rattle.ados_launch.specs.declared.schedule.Next as found
 use Rattle.ados_launch.specs.declared.schedule.Next.TheVariants.{Break as BreakFound, Due as DueFound}
 use Rattle.ados_launch.specs.Rounds.{due_place, IsRunning}
-use Rattle.ados_launch.specs.Schedule.{Next, AtBreak, AtLine, AtTurn, AtStart, AtFurther, IsInRound, MayCome, ScheduleState, schedule_state_after_place, breaks_left, first_due_break, is_passed, found_next, next_at, break_or_due, scheduled_next, passed_schedule_state, place_of, following_schedule_state}
+use Rattle.ados_launch.specs.Schedule.{Next, AtBreak, AtLine, AtTurn, AtStart, AtFurther, IsInRound, MayCome, ScheduleState, schedule_state_after_place, breaks_left, first_due_break, is_passed, found_next, next_at, break_or_due, scheduled_next, passed_schedule_state, round_place, following_schedule_state}
 use Rattle.ados_launch.proofs.Places.{after_in_round, due_below, due_comes}
 
 -- the place of what is due at a place
-pub place_at : (place : ℕ) → place_of (next_at place) ≡ place
+pub place_at : (place : ℕ) → round_place (next_at place) ≡ place
 place_at place = grind (arith, common_steps)
 
 after-at : (s : ScheduleState) (w : WorldState) (next : Next) (place : ℕ) → next ≡ next_at place → following_schedule_state s w next ≡ schedule_state_after_place s w place
-after-at s w AtLine place is = ap (schedule_state_after_place s w) (ap place_of is ∙ place_at place)
-after-at s w (AtTurn shell) place is = ap (schedule_state_after_place s w) (ap place_of is ∙ place_at place)
-after-at s w (AtStart shell) place is = ap (schedule_state_after_place s w) (ap place_of is ∙ place_at place)
-after-at s w (AtFurther shell) place is = ap (schedule_state_after_place s w) (ap place_of is ∙ place_at place)
+after-at s w AtLine place is = ap (schedule_state_after_place s w) (ap round_place is ∙ place_at place)
+after-at s w (AtTurn shell) place is = ap (schedule_state_after_place s w) (ap round_place is ∙ place_at place)
+after-at s w (AtStart shell) place is = ap (schedule_state_after_place s w) (ap round_place is ∙ place_at place)
+after-at s w (AtFurther shell) place is = ap (schedule_state_after_place s w) (ap round_place is ∙ place_at place)
 after-at s w (AtBreak shell kind) place is = grind (arith, common_steps)
 
 -- the schedule goes on after what was due at a place

@@ -7,7 +7,7 @@ use Rattle.ados_find.specs.declared.codes.Codes.{Codes}
 use Rattle.ados_find.specs.declared.outcomes.Renamed.{Renamed}
 use Rattle.ados_flow.specs.Frames.{FrameState}
 use Rattle.ados_machine.specs.Requests.{request_of}
-use Rattle.ados_machine.specs.World.{WorldState, numbered_shell, can_take, can_turn, has_input, is_ready, request_of_shell, pending_of, takes_input as phase_takes, wants_input, wants_line, is_over, input_of, flatten}
+use Rattle.ados_machine.specs.World.{WorldState, numbered_shell, can_take, can_turn, has_input, is_ready, request_of_shell, pending_of, takes_input as phase_takes, wants_input, wants_line, is_over, input_of, option_flatten}
 use Rattle.ados_machine.specs.Numbers.{free_number}
 use Rattle.ados_machine.specs.Settle.{TurnResult}
 use Rattle.ados_machine.specs.Shells.{ShellStart, begun_shell, ShellState}
@@ -28,21 +28,21 @@ use Rattle.ados_machine.specs.Phases.{Phase, Ready, GoingOn, Waiting}
 use Rattle.ados_machine.specs.declared.phases.Wait.TheVariants.{ForAnswer, ForLines, ForStart, ForPiece, ForEnd}
 use Rattle.ados_machine.specs.declared.events.Event.TheVariants.{Typed, Turn, Answer, Break}
 use Rattle.ados_machine.specs.declared.events.Kind.{Kind}
-use Rattle.ados_launch.specs.Schedule.{takes_input}
+use Rattle.ados_launch.specs.Schedule.{has_open_input}
 
-first-carried : (moved : Option Renamed) (shells : List (Option ShellState)) → is_some (flatten (slice_get shells 0)) ≡ true → is_some (flatten (slice_get (carried_shells moved shells) 0)) ≡ true
+first-carried : (moved : Option Renamed) (shells : List (Option ShellState)) → is_some (option_flatten (slice_get shells 0)) ≡ true → is_some (option_flatten (slice_get (carried_shells moved shells) 0)) ≡ true
 first-carried None shells e = e
 first-carried (Some moved) [] e = e
 first-carried (Some moved) (None ∷ shells) e = e
 first-carried (Some moved) (Some shell ∷ shells) e = refl
 
-first-set : (shells : List (Option ShellState)) (i : ℕ) (shell : ShellState) → is_some (flatten (slice_get shells 0)) ≡ true → is_some (flatten (slice_get (slice_set shells i (Some shell)) 0)) ≡ true
+first-set : (shells : List (Option ShellState)) (i : ℕ) (shell : ShellState) → is_some (option_flatten (slice_get shells 0)) ≡ true → is_some (option_flatten (slice_get (slice_set shells i (Some shell)) 0)) ≡ true
 first-set [] i shell e = cc
 first-set (found ∷ shells) zero shell e = refl
 first-set (found ∷ shells) (suc i) shell e = e
 
 -- a shell that begins is at another number, or is itself the first
-first-begun : (begun : Option ShellStart) (number : Option ℕ) (shells : List (Option ShellState)) → is_some (flatten (slice_get shells 0)) ≡ true → is_some (flatten (slice_get (with_begun begun number shells) 0)) ≡ true
+first-begun : (begun : Option ShellStart) (number : Option ℕ) (shells : List (Option ShellState)) → is_some (option_flatten (slice_get shells 0)) ≡ true → is_some (option_flatten (slice_get (with_begun begun number shells) 0)) ≡ true
 first-begun None number shells e = e
 first-begun (Some begun) None shells e = e
 first-begun (Some begun) (Some number) shells e = first-set shells (number - 1) (begun_shell number begun) e
@@ -52,22 +52,22 @@ place-broken : (breaks : Breaks) (found : Option ShellState) → is_some found �
 place-broken breaks None e = e
 place-broken breaks (Some shell) e = refl
 
-first-at : (breaks : Breaks) (n : ℕ) (shells : List (Option ShellState)) → is_some (flatten (slice_get shells 0)) ≡ true → is_some (flatten (slice_get (broken_at breaks n shells) 0)) ≡ true
+first-at : (breaks : Breaks) (n : ℕ) (shells : List (Option ShellState)) → is_some (option_flatten (slice_get shells 0)) ≡ true → is_some (option_flatten (slice_get (broken_at breaks n shells) 0)) ≡ true
 first-at breaks n [] e = e
 first-at breaks zero (found ∷ shells) e = place-broken breaks found e
 first-at breaks (suc n) (found ∷ shells) e = e
 
-first-numbered : (breaks : Breaks) (n : ℕ) (shells : List (Option ShellState)) → is_some (flatten (slice_get shells 0)) ≡ true → is_some (flatten (slice_get (broken_number breaks n shells) 0)) ≡ true
+first-numbered : (breaks : Breaks) (n : ℕ) (shells : List (Option ShellState)) → is_some (option_flatten (slice_get shells 0)) ≡ true → is_some (option_flatten (slice_get (broken_number breaks n shells) 0)) ≡ true
 first-numbered breaks zero shells e = e
 first-numbered breaks (suc n) shells e = first-at breaks n shells e
 
-first-broken : (breaking : Option Breaking) (shells : List (Option ShellState)) → is_some (flatten (slice_get shells 0)) ≡ true → is_some (flatten (slice_get (shells_after_break breaking shells) 0)) ≡ true
+first-broken : (breaking : Option Breaking) (shells : List (Option ShellState)) → is_some (option_flatten (slice_get shells 0)) ≡ true → is_some (option_flatten (slice_get (shells_after_break breaking shells) 0)) ≡ true
 first-broken None shells e = e
 first-broken (Some breaking) shells e = first-numbered breaking.breaks breaking.shell shells e
 
 -- the shell at a number is replaced: the first by a shell
-first-replaced : (shells : List (Option ShellState)) (i : ℕ) (now : Option ShellState) → (i ≡ 0 → is_some now ≡ true) → is_some (flatten (slice_get shells 0)) ≡ true
-    → is_some (flatten (slice_get (slice_set shells i now) 0)) ≡ true
+first-replaced : (shells : List (Option ShellState)) (i : ℕ) (now : Option ShellState) → (i ≡ 0 → is_some now ≡ true) → is_some (option_flatten (slice_get shells 0)) ≡ true
+    → is_some (option_flatten (slice_get (slice_set shells i now) 0)) ≡ true
 first-replaced [] i now some e = cc
 first-replaced (found ∷ shells) zero now some e = some refl
 first-replaced (found ∷ shells) (suc i) now some e = e
@@ -76,13 +76,13 @@ first-replaced (found ∷ shells) (suc i) now some e = e
 first-left : (k : ℕ) (moved : Option Renamed) (turn_response : TurnResult) → k ≡ 1 → is_some (shell_after_turn k moved turn_response) ≡ true
 first-left k moved turn_response one = rw one refl
 
-first-unset : (shells : List (Option ShellState)) (i : ℕ) → i ≢ 0 → flatten (slice_get (slice_set shells i None) 0) ≡ flatten (slice_get shells 0)
+first-unset : (shells : List (Option ShellState)) (i : ℕ) → i ≢ 0 → option_flatten (slice_get (slice_set shells i None) 0) ≡ option_flatten (slice_get shells 0)
 first-unset [] i some = refl
 first-unset (found ∷ shells) zero some = absurd (some refl)
 first-unset (found ∷ shells) (suc i) some = refl
 
 -- a typed line leaves the shells and the input's end unchanged
-pub typed-takes : (w : WorldState) (out : Out) (line : List ℕ) → takes_input w ≡ true → takes_input (resulting_world w (Ok out) (step_of w (Typed line))) ≡ true
+pub typed-takes : (w : WorldState) (out : Out) (line : List ℕ) → has_open_input w ≡ true → has_open_input (resulting_world w (Ok out) (step_of w (Typed line))) ≡ true
 typed-takes w out line e = grind (arith, common_steps)
 
 console-ends : (queue : List (List ℕ)) (is_ended : Bool) (course : Course) → console_turning queue is_ended course ≡ Ends → is_ended ≡ true
@@ -120,7 +120,7 @@ flagged-ends : (b : Bool) (input : Input) (frames : List FrameState) (course : C
 flagged-ends true input frames course phase e = turning-ends input frames course phase (placed-ends (turning_in_phase input frames course phase) input frames course e)
 flagged-ends false input frames course phase e = turning-ends input frames course phase e
 
-applied-takes : (w : WorldState) (out : Out) (k : ℕ) (codes : Codes) (t : Turning) → (t ≡ Ends → k ≢ 1) → k ≢ 0 → takes_input w ≡ true → takes_input (resulting_world w (Ok out) (turning_response w k codes t)) ≡ true
+applied-takes : (w : WorldState) (out : Out) (k : ℕ) (codes : Codes) (t : Turning) → (t ≡ Ends → k ≢ 1) → k ≢ 0 → has_open_input w ≡ true → has_open_input (resulting_world w (Ok out) (turning_response w k codes t)) ≡ true
 applied-takes w out k codes (Refuses why) ends some e = e
 applied-takes w out k codes Ends ends some e = rw (first-unset w.shells (k - 1) (omega (arith, some, ends refl))) e
 applied-takes w out k codes (Takes queue turn_response) ends some e =
@@ -135,7 +135,7 @@ applied-takes w out k codes (Takes queue turn_response) ends some e =
       parts.1,
     ) refl
 
-turned-takes : (w : WorldState) (out : Out) (k : ℕ) (found : Option ShellState) → numbered_shell w k ≡ found → takes_input w ≡ true → takes_input (resulting_world w (Ok out) (turn_response w k found)) ≡ true
+turned-takes : (w : WorldState) (out : Out) (k : ℕ) (found : Option ShellState) → numbered_shell w k ≡ found → has_open_input w ≡ true → has_open_input (resulting_world w (Ok out) (turn_response w k found)) ≡ true
 turned-takes w out k None at e = e
 turned-takes w out k (Some shell) at e =
     let unended : not w.input_ended ≡ true = (and_parts (is_some (numbered_shell w 1)) (not w.input_ended) e).1 in
@@ -148,7 +148,7 @@ turned-takes w out k (Some shell) at e =
     e
 
 -- a turn leaves the input unchanged, and shell 1 ends only if it has ended
-pub turn-takes : (w : WorldState) (out : Out) (k : ℕ) → takes_input w ≡ true → takes_input (resulting_world w (Ok out) (step_of w (Turn k))) ≡ true
+pub turn-takes : (w : WorldState) (out : Out) (k : ℕ) → has_open_input w ≡ true → has_open_input (resulting_world w (Ok out) (step_of w (Turn k))) ≡ true
 turn-takes w out k e =
     elim (cases_Bool (is_over w)) [
       | inl over ↦ rw over e
@@ -160,8 +160,8 @@ replied-never : (input : Input) (frames : List FrameState) (completion : Option 
 replied-never input frames None e = cc
 replied-never input frames (Some completion) e = cc
 
-answered-takes : (w : WorldState) (out : Out) (k : ℕ) (reply : Reply) (found : Option ShellState) → numbered_shell w k ≡ found → takes_input w ≡ true →
-    takes_input (resulting_world w (Ok out) (answer_response w k reply found)) ≡ true
+answered-takes : (w : WorldState) (out : Out) (k : ℕ) (reply : Reply) (found : Option ShellState) → numbered_shell w k ≡ found → has_open_input w ≡ true →
+    has_open_input (resulting_world w (Ok out) (answer_response w k reply found)) ≡ true
 answered-takes w out k reply None at e = e
 answered-takes w out k reply (Some shell) at e =
     applied-takes w out k shell.parts.codes _
@@ -169,21 +169,21 @@ answered-takes w out k reply (Some shell) at e =
     (λ none. let nothing : None ≡ Some shell = rw none at at in cc)
     e
 
-pub answer-takes : (w : WorldState) (out : Out) (k : ℕ) (reply : Reply) → takes_input w ≡ true → takes_input (resulting_world w (Ok out) (step_of w (Answer k reply))) ≡ true
+pub answer-takes : (w : WorldState) (out : Out) (k : ℕ) (reply : Reply) → has_open_input w ≡ true → has_open_input (resulting_world w (Ok out) (step_of w (Answer k reply))) ≡ true
 answer-takes w out k reply e =
     elim (cases_Bool (is_over w)) [
       | inl over ↦ rw over e
       | inr running ↦ rw running (answered-takes w out k reply (numbered_shell w k) refl e)
     ]
 
-broken-takes : (w : WorldState) (out : Out) (k : ℕ) (kind : Kind) (found : Option ShellState) → takes_input w ≡ true → takes_input (resulting_world w (Ok out) (break_response w k kind found)) ≡ true
+broken-takes : (w : WorldState) (out : Out) (k : ℕ) (kind : Kind) (found : Option ShellState) → has_open_input w ≡ true → has_open_input (resulting_world w (Ok out) (break_response w k kind found)) ≡ true
 broken-takes w out k kind None e = e
 broken-takes w out k kind (Some shell) e =
     let parts = and_parts (is_some (numbered_shell w 1)) (not w.input_ended) e in
     rw (first-numbered (kind_breaks kind) k w.shells parts.0, parts.1) refl
 
 -- no shell ends by a break
-pub break-takes : (w : WorldState) (out : Out) (k : ℕ) (kind : Kind) → takes_input w ≡ true → takes_input (resulting_world w (Ok out) (step_of w (Break k kind))) ≡ true
+pub break-takes : (w : WorldState) (out : Out) (k : ℕ) (kind : Kind) → has_open_input w ≡ true → has_open_input (resulting_world w (Ok out) (step_of w (Break k kind))) ≡ true
 break-takes w out k kind e =
     elim (cases_Bool (is_over w)) [
       | inl over ↦ rw over e
@@ -207,7 +207,7 @@ found-due : (input : Input) (found : Option ShellState) → is_some found ≡ tr
 found-due input None some none e = cc
 found-due input (Some shell) some none e = due-by-phase input shell.parts.number shell.frames shell.phase none e
 
-pub takes-due : (w : WorldState) → pending_of w 1 ≡ None → takes_input w ≡ true → (wants_line w ≡ true) ⊎ (is_ready w 1 ≡ true)
+pub takes-due : (w : WorldState) → pending_of w 1 ≡ None → has_open_input w ≡ true → (wants_line w ≡ true) ⊎ (is_ready w 1 ≡ true)
 takes-due w none e =
     elim (cases_Bool (is_ready w 1)) [
       | inl ready ↦ inr ready

@@ -10,12 +10,12 @@ use Rattle.ados_launch.specs.declared.alone.SystemEnd.{SystemEnd}
 use Rattle.ados_launch.specs.declared.alone.SystemEnd.TheVariants.{Ended, NoShell, StillRunning}
 use Rattle.ados_launch.specs.declared.alone.SystemFault.{SystemFault}
 use Rattle.ados_launch.specs.Alone.{EndedAs, IfEnded, IfRunning, IfUnopened, RunsLine, RunsOn, LineProgress}
-use Rattle.ados_launch.specs.Leads.{Reaches}
+use Rattle.ados_launch.specs.Leads.{IsReachable}
 use Rattle.ados_launch.specs.Taken.{TakenItem}
 use Rattle.ados_launch.proofs.Leading.{leads_none, leads_opened, leads_run}
 
 leads_line : (k : ℕ) (w : WorldState) (line : Text) (is_full : Bool) (taken : List TakenItem) (answers : List Reply) (last : WorldState) (calls calls_now others : List Call)
-    → RunsLine k w line is_full taken answers last calls calls_now others → Reaches w last
+    → RunsLine k w line is_full taken answers last calls calls_now others → IsReachable w last
 leads_line k w line is_full taken answers last calls calls_now others r =
     leads_opened w last k line r.free r.no_fault (leads_run (world_with_opened w k (line ∷ [])) last taken r.run)
 
@@ -25,7 +25,7 @@ pub leads_alone : (w last : WorldState) (line : Text) (turns : ℕ) (is_full : B
     → IfRunning result (RunsOn w line turns is_full last before now calls calls_now)
     → IfUnopened result ((last ≡ w) × rest)
     → IfErr result (λ fault. IfSome fault.shell (LineProgress w line turns is_full fault last before now calls calls_now))
-    → Reaches w last
+    → IsReachable w last
 leads_alone w last line turns is_full before now calls calls_now (Ok (Ended codes)) rest ended running unopened fault =
     leads_line ended.k w line is_full ended.taken ended.answers last calls calls_now [] ended.runs
 leads_alone w last line turns is_full before now calls calls_now (Ok (StillRunning k)) rest ended running unopened fault =
@@ -33,6 +33,6 @@ leads_alone w last line turns is_full before now calls calls_now (Ok (StillRunni
 leads_alone w last line turns is_full before now calls calls_now (Ok NoShell) rest ended running unopened fault = leads_none w last unopened.0
 leads_alone w last line turns is_full before now calls calls_now (Err why) rest ended running unopened fault = by-shell why.shell unopened fault
   where
-    by-shell : (shell : Option ℕ) → IfNone shell ((last ≡ w) × rest) → IfSome shell (LineProgress w line turns is_full why last before now calls calls_now) → Reaches w last
+    by-shell : (shell : Option ℕ) → IfNone shell ((last ≡ w) × rest) → IfSome shell (LineProgress w line turns is_full why last before now calls calls_now) → IsReachable w last
     by-shell None none some = leads_none w last none.0
     by-shell (Some k) none some = leads_line k w line is_full some.taken some.answers last calls calls_now some.others some.runs

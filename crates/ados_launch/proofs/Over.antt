@@ -8,7 +8,7 @@ use Rattle.std.proofs.lemmas.Grind.{common_steps}
 use Rattle.ados_flow.specs.Frames.{FrameState}
 use Rattle.ados_machine.specs.Requests.{request_of}
 use Rattle.ados_machine.specs.Children.{child_of_shell}
-use Rattle.ados_machine.specs.World.{WorldState, numbered_shell, can_take, can_turn, flatten, has_input, input_of, is_over, request_of_shell, running_numbers, takes_input, wants_input}
+use Rattle.ados_machine.specs.World.{WorldState, numbered_shell, can_take, can_turn, option_flatten, has_input, input_of, is_over, request_of_shell, running_numbers, takes_input, wants_input}
 use Rattle.ados_machine.specs.Shells.{ShellState}
 use Rattle.ados_machine.specs.Turning.{Input}
 use Rattle.ados_machine.specs.Phases.{Phase, Ready, GoingOn, Waiting}
@@ -76,10 +76,10 @@ none-there w zero size idle = refl
 none-there w (suc i) size idle =
     elim (cases_Bool (nat_lt i 20)) [
       | inl low ↦ none-left w (suc i) idle (grind (arith, common_steps))
-      | inr high ↦ ap flatten (past-end w.shells i (rw size (grind (arith, common_steps))))
+      | inr high ↦ ap option_flatten (past-end w.shells i (rw size (grind (arith, common_steps))))
     ]
 
-none-any : (shells : List (Option ShellState)) → ((i : ℕ) → flatten (slice_get shells i) ≡ None) → list_any is_some shells ≡ false
+none-any : (shells : List (Option ShellState)) → ((i : ℕ) → option_flatten (slice_get shells i) ≡ None) → list_any is_some shells ≡ false
 none-any [] none = refl
 none-any (None ∷ shells) none = none-any shells (λ i. none (suc i))
 none-any (Some shell ∷ shells) none = let found = none 0 in cc

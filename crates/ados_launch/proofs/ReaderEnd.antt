@@ -9,13 +9,13 @@ use Rattle.ados_launch.specs.declared.lines.LineKind.TheVariants.{End}
 use Rattle.ados_launch.specs.Lines.{line_of, rest_of, kind_of, kind_of_length, bytes_ahead}
 use Rattle.ados_launch.specs.Taken.{TakenItem, Given, LongLine, taken_events, taken_outs, world_after_item, IsNext, rest_after_item, AreRead, rest_after_items}
 use Rattle.ados_launch.specs.Rounds.{IsIdle}
-use Rattle.ados_launch.specs.Schedule.{takes_input}
+use Rattle.ados_launch.specs.Schedule.{has_open_input}
 use Rattle.ados_launch.proofs.Places.{idle-line, idle-turn, idle-pending}
 use Rattle.ados_launch.proofs.Inputs.{typed-takes, turn-takes, answer-takes, break-takes, takes-due}
 
 -- shell 1 takes input, or nothing is left to read
 abbrev Reads : WorldState → List ℕ → Type 0
-Reads w left = (takes_input w ≡ true) ⊎ (left ≡ [])
+Reads w left = (has_open_input w ≡ true) ⊎ (left ≡ [])
 
 not_end : (n : ℕ) → kind_of_length n ≡ End → ⊥
 not_end n e = grind (arith, common_steps)
@@ -47,7 +47,7 @@ run-reads w left (LongLine ∷ taken) last run lines r =
     run-reads w (rest_after_item left LongLine) taken last run lines.1 (item-reads w left LongLine lines.0 r)
 
 -- if nothing may come shell 1 takes no input
-idle-takes : (w : WorldState) → IsIdle w → takes_input w ≡ true → ⊥
+idle-takes : (w : WorldState) → IsIdle w → has_open_input w ≡ true → ⊥
 idle-takes w idle e =
     elim (takes-due w (idle-pending w 1 idle (omega arith) (omega arith)) e) [
       | inl wants ↦ true≢false (sym wants ∙ idle-line w idle)
@@ -61,7 +61,7 @@ none_ahead (b ∷ held) (Some ys) xs e h = cc
 
 -- if nothing is due any longer, the reader reached its end
 pub reader-ended : (w : WorldState) (bytes : List ℕ) (taken : List TakenItem) (last : WorldState) (held : List ℕ) (left : Option (List ℕ))
-    → Runs w (taken_events taken) (taken_outs taken) last → AreRead bytes taken → bytes_ahead held left ≡ Some (rest_after_items bytes taken) → IsIdle last → takes_input w ≡ true → left ≡ Some []
+    → Runs w (taken_events taken) (taken_outs taken) last → AreRead bytes taken → bytes_ahead held left ≡ Some (rest_after_items bytes taken) → IsIdle last → has_open_input w ≡ true → left ≡ Some []
 reader-ended w bytes taken last held left run lines left_is idle e =
     elim (run-reads w bytes taken last run lines (inl e)) [
       | inl takes ↦ absurd (idle-takes last idle takes)

@@ -20,7 +20,7 @@ use Rattle.ados_launch.specs.declared.lines.LineKind.TheVariants.{End, Overlong,
 use Rattle.ados_launch.specs.declared.rounds.Due.{Due}
 use Rattle.ados_launch.specs.declared.schedule.Next as found
 use Rattle.ados_launch.specs.declared.schedule.Next.TheVariants.{Break as BreakFound, Due as DueFound}
-use Rattle.ados_launch.specs.Asked.{Answers, IsAsked, IsTaken, Lists}
+use Rattle.ados_launch.specs.Asked.{LauncherAnswers, IsAsked, IsTaken, Lists}
 use Rattle.ados_launch.specs.Intake.{LacksMemory, TakesLineOrEnd, TakesNextItem}
 use Rattle.ados_launch.specs.Lines.{BeginsOverlong, IfKnown, TakesLine, line_of, rest_of, kind_of}
 use Rattle.ados_launch.specs.Taken.{TakenItem, Given, LongLine, IsNext, IsOfReader, rest_after_item, text_of}
@@ -174,7 +174,7 @@ lacks-line w next was_faults faults left rest calls at honest part = record {
 
 -- for a launcher's answer
 pub lacks-answer : (w : WorldState) (faults : ℕ) (left : Option (List ℕ)) (was_full is_full : Bool) (calls calls_now : List Call) (place : ℕ) (outcome : Reply → Type 0)
-    → 21 ≤ place → has_event w place ≡ true → Answers w (shell_at_place place) was_full is_full calls calls_now outcome → LacksMemory w (next_at place) faults faults left left calls calls_now
+    → 21 ≤ place → has_event w place ≡ true → LauncherAnswers w (shell_at_place place) was_full is_full calls calls_now outcome → LacksMemory w (next_at place) faults faults left left calls calls_now
 lacks-answer w faults left was_full is_full calls calls_now place outcome late due a = record {
   reads_well = refl;
   unread = λ bytes e. part-at-none (next_at place) bytes left e;
@@ -185,7 +185,7 @@ lacks-answer w faults left was_full is_full calls calls_now place outcome late d
 
 -- a launcher's answer
 pub took-at-answer : (w now : WorldState) (left : Option (List ℕ)) (was_full is_full : Bool) (calls calls_now : List Call) (place : ℕ) (out : Out)
-    → 21 ≤ place → has_event w place ≡ true → Answers w (shell_at_place place) was_full is_full calls calls_now (IsTaken w (shell_at_place place) now out)
+    → 21 ≤ place → has_event w place ≡ true → LauncherAnswers w (shell_at_place place) was_full is_full calls calls_now (IsTaken w (shell_at_place place) now out)
     → TakesNextItem w left is_full calls (next_at place) now left calls_now out.bytes
 took-at-answer w now left was_full is_full calls calls_now place out late due a = record {
   item = Given (Answer (shell_at_place place) a.reply) out;

@@ -88,7 +88,7 @@ pub record Asks (request : Request) (reply : Reply) (was_full is_full : Bool) (c
   pub stays : was_full ≡ true → is_full ≡ true
 
 -- A launcher was asked for what shell k waits for, and this is the result of its answer.
-pub record Answers (w : WorldState) (k : ℕ) (was_full is_full : Bool) (calls calls_now : List Call) (outcome : Reply → Type 0) : Type 0 where
+pub record LauncherAnswers (w : WorldState) (k : ℕ) (was_full is_full : Bool) (calls calls_now : List Call) (outcome : Reply → Type 0) : Type 0 where
   pub request : Request
   pub pending_is : pending_of w k ≡ Some request
   pub reply : Reply

@@ -12,7 +12,7 @@ use Rattle.ados_launch.specs.Faults.{one_more}
 use Rattle.ados_launch.specs.Lines.{IfKnown}
 use Rattle.ados_launch.specs.NoFurther.{ReadsOnlyDueLine}
 use Rattle.ados_launch.specs.Rounds.{IsRunning}
-use Rattle.ados_launch.specs.Schedule.{next_after_taken, takes_input, IsReading}
+use Rattle.ados_launch.specs.Schedule.{next_after_taken, has_open_input, IsReading}
 use Rattle.ados_launch.specs.Session.{Moment, AreDropped, IsReadAhead, LeavesOverlong, Session, SessionProgress, CutSessionProgress}
 use Rattle.ados_launch.specs.Taken.{TakenItem, written_bytes, rest_after_items}
 
@@ -35,7 +35,7 @@ pub record ComesToEnd (turns : ℕ) (breaks : List BreakAt) (before now : Moment
   pub reads_well : ReadsWell before now
   pub writes_well : WritesWell before now
   -- the reader reached its end, unless shell 1 or its input had ended before
-  pub reader_ended : IfKnown before.left (λ bytes. takes_input before.world ≡ true → now.left ≡ Some [])
+  pub reader_ended : IfKnown before.left (λ bytes. has_open_input before.world ≡ true → now.left ≡ Some [])
 
 -- As many events and long lines as allowed were taken, all of their bytes were written, and something is due.
 pub record StopsAtTurns (turns : ℕ) (breaks : List BreakAt) (before now : Moment) : Type 0 where

@@ -24,5 +24,5 @@ ActsLead w (Opens k line ∷ acts) last =
     (free_number w.shells ≡ Some k) × (opening_fault w line ≡ None) × ActsLead (world_with_opened w k (line ∷ [])) acts last
 
 -- there are such acts
-abbrev pub Reaches : WorldState → WorldState → Type 0
-Reaches w last = (acts : List Act) × ActsLead w acts last
+abbrev pub IsReachable : WorldState → WorldState → Type 0
+IsReachable w last = (acts : List Act) × ActsLead w acts last

@@ -40,12 +40,12 @@ next_at place =
     (if nat_lt place 21 then AtTurn place else
     (if nat_lt place 41 then AtStart (place - 20) else AtFurther (place - 40)))
 
-abbrev pub place_of : Next → ℕ
-place_of (AtBreak shell kind) = 0
-place_of AtLine = 0
-place_of (AtTurn shell) = shell
-place_of (AtStart shell) = shell + 20
-place_of (AtFurther shell) = shell + 40
+abbrev pub round_place : Next → ℕ
+round_place (AtBreak shell kind) = 0
+round_place AtLine = 0
+round_place (AtTurn shell) = shell
+round_place (AtStart shell) = shell + 20
+round_place (AtFurther shell) = shell + 40
 
 -- a break whose shell does not run is passed over before the event with its number, for good
 abbrev pub is_passed : ℕ → WorldState → BreakAt → Bool
@@ -79,10 +79,10 @@ schedule_state_after_place s w place = record { round = following_round s.round 
 
 abbrev pub following_schedule_state : ScheduleState → WorldState → Next → ScheduleState
 following_schedule_state s w (AtBreak shell kind) = record { round = s.round; breaks = drop 1 (breaks_left s w); taken = s.taken + 1 }
-following_schedule_state s w AtLine = schedule_state_after_place s w (place_of AtLine)
-following_schedule_state s w (AtTurn shell) = schedule_state_after_place s w (place_of (AtTurn shell))
-following_schedule_state s w (AtStart shell) = schedule_state_after_place s w (place_of (AtStart shell))
-following_schedule_state s w (AtFurther shell) = schedule_state_after_place s w (place_of (AtFurther shell))
+following_schedule_state s w AtLine = schedule_state_after_place s w (round_place AtLine)
+following_schedule_state s w (AtTurn shell) = schedule_state_after_place s w (round_place (AtTurn shell))
+following_schedule_state s w (AtStart shell) = schedule_state_after_place s w (round_place (AtStart shell))
+following_schedule_state s w (AtFurther shell) = schedule_state_after_place s w (round_place (AtFurther shell))
 
 -- what was found to come next, and the schedule after it once the breaks before it were passed over
 abbrev pub found_next : found.Next → Next
@@ -135,5 +135,5 @@ abbrev pub IsReading : List BreakAt → WorldState → List TakenItem → WorldS
 IsReading breaks w taken now = next_after_taken breaks w taken now ≡ Some AtLine
 
 -- shell 1 runs, and its input has not ended
-abbrev pub takes_input : WorldState → Bool
-takes_input w = is_some (numbered_shell w 1) && not w.input_ended
+abbrev pub has_open_input : WorldState → Bool
+has_open_input w = is_some (numbered_shell w 1) && not w.input_ended

@@ -6,7 +6,7 @@ ghost use Rattle.ados_machine.specs.Children.{child_after_answer, shell_named};
 ghost use Rattle.ados_shell.specs.Drafts.{out_of};
 ghost use Rattle.ados_launcher.specs.Lifecycles.{is_open, lifecycle_for_state, state_of};
 ghost use Rattle.ados_launch.specs.Agreement.{Agrees, IsOpenTable};
-ghost use Rattle.ados_launch.specs.Asked.{Answers, Asks, MayAsk, TakesAnswer};
+ghost use Rattle.ados_launch.specs.Asked.{LauncherAnswers, Asks, MayAsk, TakesAnswer};
 
 use crate::events::give;
 use ados_launcher::Launcher;
@@ -26,7 +26,7 @@ pub fn answer<L: Launcher>(
     requires asked { pending_of world.old number ≢ None }
     requires agrees { Agrees world.old (L.calls launcher.old) }
     requires children { IsOpenTable children.old (L.calls launcher.old) }
-    ensures answers { Answers world.old number (L.is_full launcher.old) (L.is_full launcher.new) (L.calls launcher.old) (L.calls launcher.new)
+    ensures answers { LauncherAnswers world.old number (L.is_full launcher.old) (L.is_full launcher.new) (L.calls launcher.old) (L.calls launcher.new)
         (TakesAnswer world.old number result world.new (out_of draft.new)) }
     ensures children { IsOpenTable children.new (L.calls launcher.new) }
     ensures sane { IsSane world.old }

@@ -3,7 +3,7 @@ ghost use Rattle.std.specs.Prelude.{◌≡◌, ◌⊎◌, ◌<◌, ◌^◌, ◌-
 ghost use Rattle.std.specs.Option.{option_copied};
 ghost use Rattle.ados_machine.specs.World.{codes_at, pending_of};
 ghost use Rattle.ados_launch.specs.Agreement.{Agrees, AreOver, IsOpenTable, WaitsForOpen};
-ghost use Rattle.ados_launch.specs.Leads.{Reaches};
+ghost use Rattle.ados_launch.specs.Leads.{IsReachable};
 ghost use Rattle.ados_launch.specs.Rounds.{asks_read_or_wait, due_place};
 ghost use Rattle.ados_launch.specs.Schedule.{first_schedule_state, scheduled_next};
 ghost use Rattle.ados_launch.specs.Steps.{TakesOne, next_request};
@@ -92,7 +92,7 @@ impl<'a> Session<'a> {
         // Nothing comes.
         ensures over { IfOk result (λ is_taken. is_taken ≡ false → (scheduled_next self.old.schedule world.old ≡ None) × (world.new ≡ world.old)) }
         // However it ends, what happened is that the machine accepted an event, or nothing.
-        ensures leads { Reaches world.old world.new }
+        ensures leads { IsReachable world.old world.new }
         ensures unmoved { (IsErrOf result DriveFault.Read ⊎ IsErrOf result DriveFault.Memory) → world.new ≡ world.old }
         ensures no_turns { IsErrOf result DriveFault.Turns → ⊥ }
         ensures stays { L.is_full launcher.old ≡ true → L.is_full launcher.new ≡ true }

@@ -16,7 +16,7 @@ use Rattle.ados_line.specs.declared.lines.Expanded.{Expanded}
 use Rattle.ados_line.specs.Signs.{begins, is_both, sign_at, width_of}
 use Rattle.ados_line.specs.Cut.{with_blanks, with_name, read_name, is_taken, read_redirection, by_sign, cut_word, cut_item, is_run, with_rest, run_word, run_item, cut_item_by_command, cut_later_items, cut_of, nothing_read, line_or_nothing, expanded_of_cut}
 use Rattle.ados_line.specs.Answers.{Gives}
-use Rattle.ados_line.specs.FirstFault.{is_named, IsFaultAt, second, no_name, both, open_name, open_item, IsFirstFault}
+use Rattle.ados_line.specs.FirstFault.{is_redirected, IsFaultAt, second, no_name, both, open_name, open_item, IsFirstFault}
 use Rattle.ados_line.specs.Pieces.{sign_bytes, piece_bytes, EndsAt, is_signed, command_of, IsOfPieces}
 use Rattle.ados_line.proofs.PieceLemmas.{Parts, spans-between, spans-rest, none-left, kept-parts, blank-parts, run-blank-parts, rest-parts, name-parts}
 use Rattle.ados_line.proofs.CutSteps.{Comes, both-signed, lift, no-equal-at, sign-here, signed, stop, taken-named, unsigned, wide}
@@ -252,8 +252,8 @@ first-fault line fault e =
     let after = p.1 in
     let a = p.2.1 in
     let place = ends-at line (flat_map piece_bytes pieces) p.0 a.joined p.3 in
-    let C : Option (List ℕ) → Type 0 = λ command. IsFaultAt line command (is_named after.input after.output) p.0 fault in
-    let P : ℕ → Type 0 = λ at. IsFaultAt line (command_of pieces) (is_named after.input after.output) at fault in
+    let C : Option (List ℕ) → Type 0 = λ command. IsFaultAt line command (is_redirected after.input after.output) p.0 fault in
+    let P : ℕ → Type 0 = λ at. IsFaultAt line (command_of pieces) (is_redirected after.input after.output) at fault in
     record {
       pieces = pieces;
       rest = drop p.0 line;

@@ -13,7 +13,7 @@ use Rattle.ados_line.specs.declared.signs.Sign.TheVariants.{Input, Output, Appen
 use Rattle.ados_line.specs.declared.cuts.Cut.{Cut}
 use Rattle.ados_line.specs.Signs.{begins, is_both, sign_at, width_of}
 use Rattle.ados_line.specs.Cut.{is_taken}
-use Rattle.ados_line.specs.FirstFault.{is_named, IsFaultAt, second}
+use Rattle.ados_line.specs.FirstFault.{is_redirected, IsFaultAt, second}
 use Rattle.ados_line.specs.Pieces.{sign_bytes}
 use Rattle.ados_line.proofs.PieceLemmas.{Parts, none-left}
 
@@ -86,11 +86,11 @@ no-equal-at line place at =
 abbrev pub Comes : List ℕ → ℕ → Cut → Result Cut LineFault → Type 0
 Comes line place before (Ok after) = Parts line place (length line) before after
 Comes line place before (Err fault) =
-    (end : ℕ) × (after : Cut) × Parts line place end before after × (end ≤ length line) × IsFaultAt line after.command (is_named after.input after.output) end fault
+    (end : ℕ) × (after : Cut) × Parts line place end before after × (end ≤ length line) × IsFaultAt line after.command (is_redirected after.input after.output) end fault
 
 -- a fault at a place
 pub stop : (line : List ℕ) (place : ℕ) (read : Cut) (fault : LineFault) (answer : Result Cut LineFault) → place ≤ length line
-    → IsFaultAt line read.command (is_named read.input read.output) place fault → Err fault ≡ answer → Comes line place read answer
+    → IsFaultAt line read.command (is_redirected read.input read.output) place fault → Err fault ≡ answer → Comes line place read answer
 stop line place read fault answer within here e =
     let P : Result Cut LineFault → Type 0 = λ it. Comes line place read it in
     subst P e (place, read, none-left line place read, within, here)
@@ -102,7 +102,7 @@ pub lift : (line : List ℕ) (place to : ℕ) (before read : Cut) (answer : Resu
 lift line place to before read (Ok after) more p = more (length line) after p
 lift line place to before read (Err fault) more p = (p.0, p.1, more p.0 p.1 p.2, p.3, p.4)
 
-pub taken-named : (sign : Sign) (read : Cut) → is_named read.input read.output sign ≡ is_taken sign read
+pub taken-named : (sign : Sign) (read : Cut) → is_redirected read.input read.output sign ≡ is_taken sign read
 taken-named Input read = refl
 taken-named Output read = refl
 taken-named Append read = refl

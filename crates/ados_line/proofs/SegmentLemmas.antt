@@ -8,7 +8,7 @@ use Rattle.ados_line.specs.declared.letters.Letter.{Letter}
 use Rattle.ados_line.specs.declared.letters.Letter.TheVariants.{Plain, Starred}
 use Rattle.ados_line.specs.declared.references.Reference.{Reference}
 use Rattle.ados_line.specs.Letters.{plain_letters, letter_text, letters_of}
-use Rattle.ados_line.specs.Values.{Variables, Segment, Literal, segment_letters, later_letter_count, is_name_byte, is_of_name, is_plain, is_this, braced_reference, bare_reference, reference, name_of, by_value, by_reference, first_segment, letter_segments, values, IsReference, IsSegment, AreSegments, IsInSegments}
+use Rattle.ados_line.specs.Values.{Variables, Segment, Literal, segment_letters, later_letter_count, is_identifier_byte, is_of_name, is_plain, is_this, braced_reference, bare_reference, reference, name_of, by_value, by_reference, first_segment, letter_segments, values, IsReference, IsSegment, AreSegments, IsInSegments}
 
 -- the segments of a list of characters are those characters
 take-on : (n : ℕ) (ls : List Letter) → take n ls ++ drop (length (take n ls)) ls ≡ ls
@@ -45,7 +45,7 @@ segments-cover v zero (l ∷ ls) =
     ap (λ rest. segment_letters segment ++ rest) (segments-cover v (later_letter_count segment) ls) ∙ segment-begins v l ls
 
 -- each value is that of the name to which its segment refers
-name-ascii : (c : ℕ) → is_name_byte c ≡ true → to_ascii c ≡ c
+name-ascii : (c : ℕ) → is_identifier_byte c ≡ true → to_ascii c ≡ c
 name-ascii c e =
     let below : c < 128 = grind (arith, nat_tests, e) in
     grind (arith, nat_tests)
@@ -60,9 +60,9 @@ named-more c n ls e rest =
 named : (ls : List Letter) → take (prefix_len is_of_name ls) ls ≡ plain_letters (flat_map letter_text (take (prefix_len is_of_name ls) ls))
 named [] = refl
 named (Starred c ∷ ls) = refl
-named (Plain c ∷ ls) = by (is_name_byte c) refl (named ls)
+named (Plain c ∷ ls) = by (is_identifier_byte c) refl (named ls)
   where
-    by : (b : Bool) → is_name_byte c ≡ b → take (prefix_len is_of_name ls) ls ≡ plain_letters (flat_map letter_text (take (prefix_len is_of_name ls) ls))
+    by : (b : Bool) → is_identifier_byte c ≡ b → take (prefix_len is_of_name ls) ls ≡ plain_letters (flat_map letter_text (take (prefix_len is_of_name ls) ls))
         → take (prefix_len is_of_name (Plain c ∷ ls)) (Plain c ∷ ls) ≡ plain_letters (flat_map letter_text (take (prefix_len is_of_name (Plain c ∷ ls)) (Plain c ∷ ls)))
     by true e rest = simp e (named-more c (prefix_len is_of_name ls) ls (name-ascii c e) rest)
     by false e rest = simp e refl

@@ -16,8 +16,8 @@ use Rattle.ados_line.specs.declared.lines.Expanded.TheVariants.{Nothing, Ready}
 use Rattle.ados_line.specs.Signs.{is_both, sign_at, width_of}
 
 -- how the cut continues from a place, after what has been read
-abbrev pub Next : Type 0
-Next = ℕ → Cut → Result Cut LineFault
+abbrev pub CutContinuation : Type 0
+CutContinuation = ℕ → Cut → Result Cut LineFault
 
 -- the first item is the command, and each later piece of the line is appended to the arguments
 abbrev pub with_piece : Option Text → Text → Text → Cut → Cut
@@ -36,7 +36,7 @@ with_name Output name read = record read { output = Some (record { name = name; 
 with_name Append name read = record read { output = Some (record { name = name; append = true }) }
 
 -- the redirection whose name is the item after its sign: a quoted item, or a run up to a blank or `;`
-abbrev pub read_name : Next → Text → Sign → Cut → Item → Result Cut LineFault
+abbrev pub read_name : CutContinuation → Text → Sign → Cut → Item → Result Cut LineFault
 read_name next line sign read (Word from to) = next to (with_name sign (value_of line (Word from to)) read)
 read_name next line sign read (Quoted from to) = next (to + 1) (with_name sign (value_of line (Quoted from to)) read)
 read_name next line sign read (Unmatched from) = Err UnmatchedQuotes
@@ -49,22 +49,22 @@ is_taken Output read = is_some read.output
 is_taken Append read = is_some read.output
 
 -- the redirection whose sign is at a place; the blanks before it have been read
-abbrev pub read_redirection : Next → Text → ℕ → Cut → Sign → Result Cut LineFault
+abbrev pub read_redirection : CutContinuation → Text → ℕ → Cut → Sign → Result Cut LineFault
 read_redirection next line place read sign =
     if is_taken sign read then Err TooManyArguments else read_name next line sign read (item_at false line (place + width_of sign))
 
 -- a word that may begin with a sign: a redirection, or a piece
-abbrev pub by_sign : Next → Text → ℕ → Cut → ℕ → ℕ → Option Sign → Result Cut LineFault
+abbrev pub by_sign : CutContinuation → Text → ℕ → Cut → ℕ → ℕ → Option Sign → Result Cut LineFault
 by_sign next line place read from to (Some sign) = read_redirection next line from (with_blanks read.command (bytes_between line place from) read) sign
 by_sign next line place read from to None = next to (with_piece read.command (value_of line (Word from to)) (bytes_between line place to) read)
 
 -- a word
-abbrev pub cut_word : Next → Text → ℕ → Cut → ℕ → ℕ → Result Cut LineFault
+abbrev pub cut_word : CutContinuation → Text → ℕ → Cut → ℕ → ℕ → Result Cut LineFault
 cut_word next line place read from to =
     if is_both line from then Err NotImplemented else by_sign next line place read from to (sign_at line from)
 
 -- an item of the line, after a place up to which the line has been read
-abbrev pub cut_item : Next → Text → ℕ → Cut → Item → Result Cut LineFault
+abbrev pub cut_item : CutContinuation → Text → ℕ → Cut → Item → Result Cut LineFault
 cut_item next line place read (Word from to) = cut_word next line place read from to
 cut_item next line place read (Quoted from to) =
     next (to + 1) (with_piece read.command (value_of line (Quoted from to)) (bytes_between line place (to + 1)) read)
@@ -83,18 +83,18 @@ abbrev pub with_rest : Text → Cut → Cut
 with_rest rest read = record read { args = read.args ++ rest }
 
 -- a word after Run: a redirection, or the rest of the line begins at the blanks before it
-abbrev pub run_word : Next → Text → ℕ → Cut → ℕ → Option Sign → Result Cut LineFault
+abbrev pub run_word : CutContinuation → Text → ℕ → Cut → ℕ → Option Sign → Result Cut LineFault
 run_word next line place read from (Some sign) = read_redirection next line from read sign
 run_word next line place read from None = Ok (with_rest (drop place line) read)
 
 -- an item after Run: only a word may begin with a sign
-abbrev pub run_item : Next → Text → ℕ → Cut → Item → Result Cut LineFault
+abbrev pub run_item : CutContinuation → Text → ℕ → Cut → Item → Result Cut LineFault
 run_item next line place read (Word from to) =
     if is_both line from then Err NotImplemented else run_word next line place read from (sign_at line from)
 run_item next line place read _ = Ok (with_rest (drop place line) read)
 
 -- an item, by the command that has been read, if there is one
-abbrev pub cut_item_by_command : Next → Text → ℕ → Cut → Item → Result Cut LineFault
+abbrev pub cut_item_by_command : CutContinuation → Text → ℕ → Cut → Item → Result Cut LineFault
 cut_item_by_command next line place read item =
     if is_run read.command then run_item next line place read item else cut_item next line place read item
 

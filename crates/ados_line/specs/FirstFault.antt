@@ -14,10 +14,10 @@ use Rattle.ados_line.specs.Pieces.{Piece, Stand, command_of, inputs, outputs, pi
 use Rattle.ados_line.specs.Signs.{is_both, sign_at, width_of}
 
 -- an input, or an output, was named before
-abbrev pub is_named : Option Text → Option Redirection → Sign → Bool
-is_named input output Input = is_some input
-is_named input output Output = is_some output
-is_named input output Append = is_some output
+abbrev pub is_redirected : Option Text → Option Redirection → Sign → Bool
+is_redirected input output Input = is_some input
+is_redirected input output Output = is_some output
+is_redirected input output Append = is_some output
 
 -- The fault at a place of a line, after this command, if there is one already, and after some signs were named: a second
 -- input or output; one without a name; `<>`; and a quote that is not closed, in the place of the name, or as an item.
@@ -44,4 +44,4 @@ pub record IsFirstFault (line : Text) (fault : LineFault) : Type 0 where
   pub placed : Stand line None 0 pieces
   pub inputs_are : flat_map inputs pieces ≡ option_to_list input
   pub outputs_are : flat_map outputs pieces ≡ option_to_list output
-  pub here : IsFaultAt line (command_of pieces) (is_named input output) (length (flat_map piece_bytes pieces)) fault
+  pub here : IsFaultAt line (command_of pieces) (is_redirected input output) (length (flat_map piece_bytes pieces)) fault

@@ -92,7 +92,7 @@ Stand line command place (piece ∷ pieces) =
     IsPieceAt line command place piece × Stand line (next_command command piece) (place + length (piece_bytes piece)) pieces
 
 -- the pieces are the line, in order
-pub record ArePieces (line : Text) (pieces : List Piece) : Type 0 where
+pub record AreLinePieces (line : Text) (pieces : List Piece) : Type 0 where
   pub joined : flat_map piece_bytes pieces ≡ line
   pub placed : Stand line None 0 pieces
 
@@ -152,6 +152,6 @@ pub record IsSaid (line : Line) (pieces : List Piece) : Type 0 where
 
 -- What a line is read as is made of its pieces; if it is `Nothing`, no item is kept. A line that is cut is never a `Tick`.
 abbrev pub IsOfPieces : Text → Expanded → Type 0
-IsOfPieces line Nothing = (pieces : List Piece) × ArePieces line pieces × (command_of pieces ≡ None)
-IsOfPieces line (Ready said) = (pieces : List Piece) × ArePieces line pieces × IsSaid said pieces
+IsOfPieces line Nothing = (pieces : List Piece) × AreLinePieces line pieces × (command_of pieces ≡ None)
+IsOfPieces line (Ready said) = (pieces : List Piece) × AreLinePieces line pieces × IsSaid said pieces
 IsOfPieces line (Tick tick) = ⊥

@@ -6,11 +6,11 @@ use Rattle.ados_line.specs.declared.faults.LineFault.TheVariants.{NoMemory}
 use Rattle.ados_line.specs.declared.cuts.Cut.{Cut}
 use Rattle.ados_line.specs.declared.cuts.Reading.{Reading}
 use Rattle.ados_line.specs.declared.cuts.Reading.TheVariants.{Onward, Done}
-use Rattle.ados_line.specs.Cut.{Next}
+use Rattle.ados_line.specs.Cut.{CutContinuation}
 
 -- with what has been read, the cut continues with `next` from a place, or is done, or has this fault, unless an
 -- allocation failed
-abbrev pub Goes : Next → Result Reading LineFault → Cut → Result Cut LineFault → Type 0
+abbrev pub Goes : CutContinuation → Result Reading LineFault → Cut → Result Cut LineFault → Type 0
 Goes next (Ok (Onward to)) read whole = whole ≡ next to read
 Goes next (Ok Done) read whole = whole ≡ Ok read
 Goes next (Err fault) read whole = (fault ≡ NoMemory) ⊎ (whole ≡ Err fault)

@@ -28,11 +28,11 @@ abbrev pub visible_variables : Scope → Variables
 visible_variables scope = variables_of (shown_pairs scope.locals.now scope.code scope.result2) scope.assigns.now scope.ram.now
 
 -- a digit, a letter or `_`
-abbrev pub is_name_byte : ℕ → Bool
-is_name_byte c = (nat_le 48 c && nat_le c 57) || (nat_le 65 c && nat_le c 90) || (nat_le 97 c && nat_le c 122) || c == 95
+abbrev pub is_identifier_byte : ℕ → Bool
+is_identifier_byte c = (nat_le 48 c && nat_le c 57) || (nat_le 65 c && nat_le c 90) || (nat_le 97 c && nat_le c 122) || c == 95
 
 abbrev pub is_of_name : Letter → Bool
-is_of_name (Plain c) = is_name_byte c
+is_of_name (Plain c) = is_identifier_byte c
 is_of_name (Starred c) = false
 
 -- the character is this byte, without a star before it

@@ -1,7 +1,7 @@
 ghost use Rattle.std.specs.Prelude.{◌≡◌, ◌≤◌, true, length, drop, IfOk, OnOk};
 ghost use Rattle.ados_text.specs.Text.{IsText};
 ghost use Rattle.ados_items.specs.Items.{item_at, value_of, bytes_between, IsWithin};
-ghost use Rattle.ados_line.specs.Cut.{Next, with_piece, with_blanks, with_name, read_name, is_taken, read_redirection, cut_word, cut_item, run_item, cut_item_by_command, is_run, with_rest, nothing_read};
+ghost use Rattle.ados_line.specs.Cut.{CutContinuation, with_piece, with_blanks, with_name, read_name, is_taken, read_redirection, cut_word, cut_item, run_item, cut_item_by_command, is_run, with_rest, nothing_read};
 ghost use Rattle.ados_line.specs.Steps.{Goes, with_arguments};
 
 use crate::faults::LineFault;
@@ -121,7 +121,7 @@ impl Cut {
         item: &Item,
     ) -> Result<Reading, LineFault>
         requires { IsWithin line.now item.now }
-        ensures { (next : Next) → Goes next result self.new (read_name next line.now sign self.old item.now) }
+        ensures { (next : CutContinuation) → Goes next result self.new (read_name next line.now sign self.old item.now) }
     {
         match *item {
             Item::Word { to, .. } => {
@@ -158,7 +158,7 @@ impl Cut {
         sign: Sign,
     ) -> Result<Reading, LineFault>
         requires { place ≤ length line.now }
-        ensures { (next : Next) → Goes next result self.new (read_redirection next line.now place self.old sign) }
+        ensures { (next : CutContinuation) → Goes next result self.new (read_redirection next line.now place self.old sign) }
     {
         if self.is_taken(sign) {
             return Err(LineFault::TooManyArguments);
@@ -178,7 +178,7 @@ impl Cut {
     ) -> Result<Reading, LineFault>
         requires ascii { IsText line.now }
         requires within { from ≤ length line.now }
-        ensures { (next : Next) → Goes next result self.new (cut_word next line.now place self.old from to) }
+        ensures { (next : CutContinuation) → Goes next result self.new (cut_word next line.now place self.old from to) }
     {
         if is_both(line, from) {
             return Err(LineFault::NotImplemented);
@@ -223,7 +223,7 @@ impl Cut {
     ) -> Result<Reading, LineFault>
         requires ascii { IsText line.now }
         requires within { IsWithin line.now item.now }
-        ensures { (next : Next) → Goes next result self.new (run_item next line.now place self.old item.now) }
+        ensures { (next : CutContinuation) → Goes next result self.new (run_item next line.now place self.old item.now) }
     {
         let Item::Word { from, .. } = *item else {
             self.take_rest(line, place)?;
@@ -249,7 +249,7 @@ impl Cut {
         place: usize,
     ) -> Result<Reading, LineFault>
         requires { IsText line.now }
-        ensures { (next : Next) →
+        ensures { (next : CutContinuation) →
             Goes next result self.new (cut_item_by_command next line.now place self.old (item_at true line.now place)) }
     {
         let item = next_item(line, place);
@@ -270,7 +270,7 @@ impl Cut {
     ) -> Result<Reading, LineFault>
         requires ascii { IsText line.now }
         requires within { IsWithin line.now item.now }
-        ensures { (next : Next) → Goes next result self.new (cut_item next line.now place self.old item.now) }
+        ensures { (next : CutContinuation) → Goes next result self.new (cut_item next line.now place self.old item.now) }
     {
         match *item {
             Item::Word { from, to } => self.take_word(alloc, line, place, from, to),

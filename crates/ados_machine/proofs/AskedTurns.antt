@@ -11,7 +11,7 @@ use Rattle.ados_machine.specs.declared.phases.Wait.TheVariants.{ForAnswer, ForLi
 use Rattle.ados_machine.specs.Course.{Course, with_no_device_used, with_bytes_printed}
 use Rattle.ados_machine.specs.Completions.{Completion, Passes, Answers, Jumps, Calls, Ticks, Waits}
 use Rattle.ados_machine.specs.NewShells.{gathered_completion, joined_completion}
-use Rattle.ados_machine.specs.Lines.{with_variables, visible_variables, line_completion, parted_completion, answer_completion}
+use Rattle.ados_machine.specs.Lines.{with_variables, course_variables, line_completion, parted_completion, answer_completion}
 use Rattle.ados_machine.specs.Settled.{RuleState, RuleResult}
 use Rattle.ados_machine.specs.Settle.{TurnResult, here_of, frames_at_line, said_of, turn_by_rule, turn_of_completion}
 use Rattle.ados_machine.specs.Breaks.{break_text, has_script}
@@ -64,7 +64,7 @@ line-hands : (raw : List ℕ) (frames : List FrameState) (course : Course) →
     TurnHands (with_no_device_used course) (turn_of_completion (line_completion raw (here_of frames) course) frames)
 line-hands raw frames course =
     settle-hands (with_no_device_used course) (line_completion raw (here_of frames) course) frames
-    (expanded-hands (expand_raw_line course.parts.settings.aliases (visible_variables course) raw) (here_of frames) (with_variables raw course))
+    (expanded-hands (expand_raw_line course.parts.settings.aliases (course_variables course) raw) (here_of frames) (with_variables raw course))
 
 frame-hands : (frame : FrameState) (frames : List FrameState) (course : Course) (line : Option (List ℕ)) →
     TurnHands (with_no_device_used course) (turn_of_frame frame frames course line)

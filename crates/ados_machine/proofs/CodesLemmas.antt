@@ -21,7 +21,7 @@ use Rattle.ados_machine.specs.Numbers.{free_number}
 use Rattle.ados_machine.specs.Runs.{resulting_world}
 use Rattle.ados_machine.specs.Settle.{TurnResult}
 use Rattle.ados_machine.specs.Shells.{ShellStart, begun_shell, ShellState}
-use Rattle.ados_machine.specs.Stacks.{Entry, new_entry, with_last, stack_of, Standing, standing_of, codes_at as codes_begun, limit_after_end, codes_after_end}
+use Rattle.ados_machine.specs.Stacks.{Entry, new_entry, with_last, stack_of, Standing, standing_of, initial_codes as codes_begun, limit_after_end, codes_after_end}
 use Rattle.ados_machine.specs.Step.{Response, Refused, Accepted, of_shell, shell_of_turn, with_begun, begun_items, is_done, shell_after_turn, codes_of_ended, moved_at_turn, turn_taken, shell_ended, start, course_without_flag, turning_response, turn_response, answer_response, break_response, step_of}
 use Rattle.ados_machine.specs.Trace.{items_after, own}
 use Rattle.ados_machine.specs.Turning.{Turning, Refuses, Ends, Takes, flagged_turning, turning_of_answer}

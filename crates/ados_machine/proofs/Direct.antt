@@ -26,7 +26,7 @@ use Rattle.ados_machine.specs.Items.{broken_codes}
 use Rattle.ados_machine.specs.Breaks.{has_script}
 use Rattle.ados_machine.specs.Settled.{RuleState, RuleResult, after_break, end_at_break, with_limit, finish, pass_line, finish_with_fault, with_fault_line, newest_kept}
 use Rattle.ados_machine.specs.Settle.{here_of, frames_at_line, code_rule_of}
-use Rattle.ados_machine.specs.Whole.{record_at, report_of, report_broken, with_report, after_broken, common_without_flag, Broken, Common, common_after_event, Whole, Done, Late, Short, remainder, Configuration, configuration, says, here_at, start_at, after_answer, after_own_answer, after_call, after_tick, after_completion, common_with_tick, common_without_tick, reply_of, completion_of, script_at, tick_at}
+use Rattle.ados_machine.specs.Whole.{record_at, report_of, report_broken, with_report, after_broken, common_without_flag, Broken, Common, common_after_event, Whole, Done, Late, Short, remainder, Configuration, configuration, says, here_at, start_at, after_answer, after_own_answer, after_call, after_tick, after_completion, common_with_tick, common_without_tick, after_reply, completion_meaning, script_at, tick_at}
 use Rattle.ados_machine.specs.LoneShell.{turn_at, waits, at_next_line, lines}
 use Rattle.ados_machine.proofs.Alone.{Go, line_event, start_in, turn_event, Lone, go_by, does, completion_event, exec}
 use Rattle.ados_machine.proofs.DirectStates.{ended, breaking, AgreesBy, AgreesHere, at_of, AgreesAt, here-is, weaker, lines-over, there}
@@ -189,7 +189,7 @@ event-agrees : (k gas : ℕ) → AgreesAt k gas →
     (n : ℕ) (answers : List Reply) (common : Common) (frame : FrameState) (frames : List FrameState)
     (further : Configuration → Wait → Whole) (completion : Completion) → n < gas → WaitsAgree k n answers frame frames further →
     AgreesHere k frame frames (suc n) (does k (exec k n answers) (frame ∷ frames) common completion)
-    (completion_of further (lines gas) (remainder n answers) (configuration common (at_of k frame frames)) completion)
+    (completion_meaning further (lines gas) (remainder n answers) (configuration common (at_of k frame frames)) completion)
 event-agrees k gas ih n answers common frame frames further completion lt waits =
     let later = common_after_event common (course_of completion) in
     weaker n (suc n) _ (after_completion further (lines gas) (remainder n answers) (configuration later (at_of k frame frames)) completion) (ended k frame frames) (breaking k frame frames) (script_count (frame ∷ frames))
@@ -200,7 +200,7 @@ work-agrees : (k gas : ℕ) → AgreesAt k gas →
     (n : ℕ) (answers : List Reply) (common : Common) (frame : FrameState) (frames : List FrameState)
     (further : Configuration → Wait → Whole) (work : Here → Completion) → n < gas → WaitsAgree k n answers frame frames further →
     AgreesHere k frame frames (suc n) (does k (exec k n answers) (frame ∷ frames) common (work (here_of (frame ∷ frames))))
-    (completion_of further (lines gas) (remainder n answers) (configuration common (at_of k frame frames)) (work (here_at (at_of k frame frames))))
+    (completion_meaning further (lines gas) (remainder n answers) (configuration common (at_of k frame frames)) (work (here_at (at_of k frame frames))))
 work-agrees k gas ih n answers common frame frames further work lt waits =
     rw (here-is k frame frames)
     (event-agrees k gas ih n answers common frame frames further (work (here_at (at_of k frame frames))) lt waits)
@@ -210,7 +210,7 @@ reply-agrees : (k gas : ℕ) → AgreesAt k gas →
     (n : ℕ) (answers : List Reply) (common : Common) (frame : FrameState) (frames : List FrameState)
     (further : Configuration → Wait → Whole) (completion : Option Completion) → n < gas → WaitsAgree k n answers frame frames further →
     AgreesHere k frame frames (suc n) (completion_event k (exec k n answers) (frame ∷ frames) common completion)
-    (reply_of (completion_of further (lines gas) (remainder n answers) (configuration common (at_of k frame frames))) completion)
+    (after_reply (completion_meaning further (lines gas) (remainder n answers) (configuration common (at_of k frame frames))) completion)
 reply-agrees k gas ih n answers common frame frames further None lt waits = refl
 reply-agrees k gas ih n answers common frame frames further (Some completion) lt waits =
     event-agrees k gas ih n answers common frame frames further completion lt waits
@@ -226,14 +226,14 @@ waits-agree k gas ih zero answers frame frames lt common wait = refl
 waits-agree k gas ih (suc n) answers frame frames lt common (ForAnswer asking) =
     turn-agrees k n answers common frame frames
     (λ now. does k (exec k n answers) (frame ∷ frames) now (answer_completion [] asking (here_of (frame ∷ frames)) (start_in k (frame ∷ frames) (Waiting (ForAnswer asking)) now)))
-    (λ here. completion_of (waits (lines gas) n answers) (lines gas) (remainder n answers) here (answer_completion [] asking (here_at here.at) (start_at here (Some (ForAnswer asking)))))
+    (λ here. completion_meaning (waits (lines gas) n answers) (lines gas) (remainder n answers) here (answer_completion [] asking (here_at here.at) (start_at here (Some (ForAnswer asking)))))
     (work-agrees k gas ih n answers (common_without_flag common) frame frames (waits (lines gas) n answers)
     (λ here. answer_completion [] asking here (start_at (configuration (common_without_flag common) (at_of k frame frames)) (Some (ForAnswer asking)))) (omega arith)
     (waits-agree k gas ih n answers frame frames (omega arith)))
 waits-agree k gas ih (suc n) answers frame frames lt common (ForLines gathering) =
     turn-agrees k n answers common frame frames
     (λ now. does k (exec k n answers) (frame ∷ frames) now (gathered_completion gathering (newest_sink (frame ∷ frames)) (start_in k (frame ∷ frames) (Waiting (ForLines gathering)) now)))
-    (λ here. completion_of (waits (lines gas) n answers) (lines gas) (remainder n answers) here (gathered_completion gathering here.at.sink (start_at here (Some (ForLines gathering)))))
+    (λ here. completion_meaning (waits (lines gas) n answers) (lines gas) (remainder n answers) here (gathered_completion gathering here.at.sink (start_at here (Some (ForLines gathering)))))
     (event-agrees k gas ih n answers (common_without_flag common) frame frames (waits (lines gas) n answers)
     (gathered_completion gathering (newest_sink (frame ∷ frames)) (start_at (configuration (common_without_flag common) (at_of k frame frames)) (Some (ForLines gathering)))) (omega arith)
     (waits-agree k gas ih n answers frame frames (omega arith)))
@@ -255,7 +255,7 @@ agrees k (suc gas) zero answers common frame frames None lt next = rw (there fra
 agrees k (suc gas) (suc n) answers common frame frames (Some parted) lt next =
     turn-agrees k n answers common frame frames
     (λ now. does k (exec k n answers) (frame ∷ frames) now (parted_completion parted (here_of (frame ∷ frames)) (start_in k (frame ∷ frames) (GoingOn parted) now)))
-    (λ here. completion_of (waits (lines gas) n answers) (lines gas) (remainder n answers) here (parted_completion parted (here_at here.at) (start_at here None)))
+    (λ here. completion_meaning (waits (lines gas) n answers) (lines gas) (remainder n answers) here (parted_completion parted (here_at here.at) (start_at here None)))
     (work-agrees k gas (agrees k gas) n answers (common_without_flag common) frame frames (waits (lines gas) n answers)
     (λ here. parted_completion parted here (start_at (configuration (common_without_flag common) (at_of k frame frames)) None)) (omega arith)
     (waits-agree k gas (agrees k gas) n answers frame frames (omega arith)))
@@ -264,7 +264,7 @@ agrees k (suc gas) (suc n) answers common frame frames None lt next =
     rw (there frame.lines frame.position next)
     (turn-agrees k n answers common frame frames
     (λ now. line_event k (exec k n answers) frame frames now (Some line))
-    (λ here. completion_of (waits (lines gas) n answers) (lines gas) (remainder n answers) (at_next_line here) (line_completion line (here_at (at_next_line here).at) (start_at here None)))
+    (λ here. completion_meaning (waits (lines gas) n answers) (lines gas) (remainder n answers) (at_next_line here) (line_completion line (here_at (at_next_line here).at) (start_at here None)))
     (work-agrees k gas (agrees k gas) n answers (common_without_flag common) (advanced_frame frame) frames (waits (lines gas) n answers)
     (λ here. line_completion line here (start_at (configuration (common_without_flag common) (at_of k frame frames)) None)) (omega arith)
     (waits-agree k gas (agrees k gas) n answers (advanced_frame frame) frames (omega arith))))

@@ -11,7 +11,7 @@ use Rattle.ados_machine.specs.declared.answers.Answer.{Answer as Reply}
 use Rattle.ados_machine.specs.declared.phases.Parted.{Parted}
 use Rattle.ados_machine.specs.Phases.{Phase, Ready, GoingOn}
 use Rattle.ados_machine.specs.Sinks.{newest_sink, frame_outputs}
-use Rattle.ados_machine.specs.Names.{name_in}
+use Rattle.ados_machine.specs.Names.{innermost_name}
 use Rattle.ados_machine.specs.Settled.{end_at_break, with_limit, after_end, finish}
 use Rattle.ados_machine.specs.Settle.{here_of}
 use Rattle.ados_flow.specs.declared.records.Record.{Record}
@@ -62,7 +62,7 @@ at_of k frame frames = record {
   depth = length (frame ∷ frames);
   lines = frame.lines;
   outputs = frame_outputs (frame ∷ frames);
-  name = name_in (frame ∷ frames);
+  name = innermost_name (frame ∷ frames);
   position = frame.position;
   line = frame.line;
   last = frame.last;

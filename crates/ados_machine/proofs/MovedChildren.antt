@@ -34,7 +34,7 @@ use Rattle.ados_machine.specs.Shells.{ShellState}
 use Rattle.ados_machine.specs.Sinks.{Sink, newest_sink}
 use Rattle.ados_machine.specs.Step.{Response, Refused, Accepted, shell_of_turn, is_done, shell_after_turn, moved_at_turn, start, turning_response, answer_response, step_of}
 use Rattle.ados_machine.specs.Turning.{turning_of_completion}
-use Rattle.ados_machine.specs.World.{WorldState, flatten, numbered_shell, is_over, input_of, request_of_shell, pending_of}
+use Rattle.ados_machine.specs.World.{WorldState, option_flatten, numbered_shell, is_over, input_of, request_of_shell, pending_of}
 use Rattle.ados_machine.proofs.Shells.{found-left}
 use Rattle.ados_machine.proofs.Marks.{break-same, next-same, piece-same}
 use Rattle.ados_machine.proofs.Rests.{Rests, passed-rests, finished-rests, called-rests, ticked-rests}
@@ -167,7 +167,7 @@ shell-responds w k answer (Some shell) is =
     (phase-moves shell.parts.number (newest_sink shell.frames) (start w shell) shell.phase answer)
 
 -- if no shell is left there is none at any number
-none-left : (shells : List (Option ShellState)) (i : ℕ) → list_any is_some shells ≡ false → flatten (slice_get shells i) ≡ None
+none-left : (shells : List (Option ShellState)) (i : ℕ) → list_any is_some shells ≡ false → option_flatten (slice_get shells i) ≡ None
 none-left [] zero e = refl
 none-left [] (suc i) e = refl
 none-left (Some shell ∷ shells) i e = cc

@@ -12,7 +12,7 @@ use Rattle.ados_machine.specs.Phases.{Phase, Ready, GoingOn, Waiting}
 use Rattle.ados_machine.specs.declared.phases.Wait.TheVariants.{ForAnswer, ForLines, ForStart, ForPiece, ForEnd}
 use Rattle.ados_machine.specs.Breaks.{mark_in, marked_if, broken_shell, broken_place, broken_at, broken_number, shells_after_break}
 use Rattle.ados_machine.specs.Shells.{ShellStart, begun_shell, ShellState, seen_of}
-use Rattle.ados_machine.specs.World.{flatten}
+use Rattle.ados_machine.specs.World.{option_flatten}
 use Rattle.ados_machine.specs.Carrying.{moved_object}
 use Rattle.ados_machine.specs.Step.{with_begun, codes_of_ended}
 use Rattle.ados_machine.specs.Quiet.{marks_of}
@@ -23,7 +23,7 @@ use Rattle.ados_machine.proofs.Alike.{Alike, alike-own, LooksLike}
 use Rattle.ados_machine.proofs.Twins.{Any}
 
 -- the shell's own event
-running-at : (xs ys : List (Option ShellState)) (i : ℕ) → map is_some xs ≡ map is_some ys → is_some (flatten (slice_get xs i)) ≡ is_some (flatten (slice_get ys i))
+running-at : (xs ys : List (Option ShellState)) (i : ℕ) → map is_some xs ≡ map is_some ys → is_some (option_flatten (slice_get xs i)) ≡ is_some (option_flatten (slice_get ys i))
 running-at [] [] i e = refl
 running-at [] (y ∷ ys) i e = cc
 running-at (x ∷ xs) [] i e = cc
@@ -33,7 +33,7 @@ running-at (Some x ∷ xs) (None ∷ ys) zero e = cc
 running-at (Some x ∷ xs) (Some y ∷ ys) zero e = refl
 running-at (x ∷ xs) (y ∷ ys) (suc i) e = running-at xs ys i (cc e)
 
-there-is : (o : Option (Option ShellState)) (shell : ShellState) (x : Option ShellState) → flatten o ≡ Some shell → o ≡ Some x → x ≡ Some shell
+there-is : (o : Option (Option ShellState)) (shell : ShellState) (x : Option ShellState) → option_flatten o ≡ Some shell → o ≡ Some x → x ≡ Some shell
 there-is None shell x e f = cc
 there-is (Some o) shell x e f = cc (e, f)
 

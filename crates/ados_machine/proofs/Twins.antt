@@ -19,7 +19,7 @@ use Rattle.ados_machine.specs.Shells.{ShellStart, begun_shell, ShellState}
 use Rattle.ados_machine.specs.Settle.{TurnResult}
 use Rattle.ados_machine.specs.Numbers.{free_number}
 use Rattle.ados_machine.specs.Turning.{Turning, Refuses, Ends, Takes, flagged_turning, turning_of_answer}
-use Rattle.ados_machine.specs.World.{WorldState, flatten, numbered_shell, is_over, seen_shells, input_of}
+use Rattle.ados_machine.specs.World.{WorldState, option_flatten, numbered_shell, is_over, seen_shells, input_of}
 use Rattle.ados_machine.specs.Course.{shared_after_event}
 use Rattle.ados_machine.specs.Carrying.{moved_object, carried_shells}
 use Rattle.ados_machine.specs.Step.{Response, Refused, Accepted, of_shell, begun_items, with_begun, is_done, shell_after_turn, moved_at_turn, codes_of_ended, queue_after_event, queue_limit, turn_taken, start, course_without_flag, turning_response, turn_response, answer_response, break_response, typing_response, end_of_input, event_response, step_of}
@@ -57,7 +57,7 @@ twins-over j a b twins =
 
 pub twins-found : (j : ℕ) (a b : WorldState) → Twins j a b → (k : ℕ) → k ≢ j → numbered_shell b k ≡ numbered_shell a k
 twins-found j a b twins zero ne = refl
-twins-found j a b twins (suc i) ne = ap flatten (alike-get LooksLike j 1 a.shells b.shells i twins.shells (λ e. ne (omega (arith, e))))
+twins-found j a b twins (suc i) ne = ap option_flatten (alike-get LooksLike j 1 a.shells b.shells i twins.shells (λ e. ne (omega (arith, e))))
 
 -- the input of another shell is the same
 twins-input : (j : ℕ) (a b : WorldState) → Twins j a b → (k : ℕ) → k ≢ j → input_of b k ≡ input_of a k

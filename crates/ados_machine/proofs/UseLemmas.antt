@@ -21,7 +21,7 @@ use Rattle.ados_machine.specs.Course.{Course, put}
 use Rattle.ados_machine.specs.InUse.{entry_seen, EntriesStayInUse, IdleShellsUseNoEntry}
 use Rattle.ados_machine.specs.Opening.{OpenedOutput, line_output}
 use Rattle.ados_machine.specs.Requests.{request_of}
-use Rattle.ados_machine.specs.Shells.{ShellState, seen_of, entry_while, entry_in}
+use Rattle.ados_machine.specs.Shells.{ShellState, seen_of, entry_while, phase_entry}
 use Rattle.ados_machine.specs.Sinks.{Sink, sink_or}
 use Rattle.ados_machine.specs.Step.{Accepted}
 use Rattle.ados_machine.specs.World.{numbered_shell, request_of_shell}
@@ -31,7 +31,7 @@ use Rattle.ados_machine.proofs.Rests.{IsIdle}
 
 -- the entry from which a shell runs in a phase, whatever its frames are
 abbrev entry_above : List FrameState → Phase → Option Text
-entry_above frames now = entry_in now
+entry_above frames now = phase_entry now
 
 -- a shell in a phase asks for something, whatever its number is
 abbrev asks_in : Phase → Bool
@@ -134,7 +134,7 @@ entries-stay w event world out items is k before after =
     ∙ (keeps k (sym (asks-same (numbered_shell w k)) ∙ before) (sym (asks-same (numbered_shell world k)) ∙ after) ∙ sym (entry-same (numbered_shell w k)))
 
 -- if nothing is asked for
-phase-idle : (n : ℕ) (now : Phase) → request_of n now ≡ None → entry_in now ≡ None
+phase-idle : (n : ℕ) (now : Phase) → request_of n now ≡ None → phase_entry now ≡ None
 phase-idle n phase.Ready idle = refl
 phase-idle n (phase.GoingOn parted) idle = refl
 phase-idle n (phase.Waiting (ForAnswer asking)) idle = refl

@@ -12,7 +12,7 @@ use Rattle.ados_machine.specs.Lines.{line_completion, parted_completion, answer_
 use Rattle.ados_machine.specs.NewShells.{gathered_completion}
 use Rattle.ados_machine.specs.Answers.{answered_completion}
 use Rattle.ados_machine.specs.World.{WorldState}
-use Rattle.ados_machine.specs.Whole.{Common, At, Whole, Remainder, remainder, Configuration, configuration, Meaning, here_at, start_at, completion_of, reply_of, common_without_flag, breaks_at, common_after_break, Done, Broken, Late, Short}
+use Rattle.ados_machine.specs.Whole.{Common, At, Whole, Remainder, remainder, Configuration, configuration, Continuation, here_at, start_at, completion_meaning, after_reply, common_without_flag, breaks_at, common_after_break, Done, Broken, Late, Short}
 
 -- a turn does this, unless it finds the flag in a script
 abbrev pub turn_at : Remainder → Configuration → (Configuration → Whole) → Whole
@@ -22,17 +22,17 @@ turn_at left now work =
 
 -- what it means to wait, one event each: a prompt takes the end of input (and so would a Run that asks for more lines, as none
 -- does in lines); of a program the next answer is taken
-abbrev pub waits : Meaning → ℕ → List Reply → Configuration → Wait → Whole
+abbrev pub waits : Continuation → ℕ → List Reply → Configuration → Wait → Whole
 waits go zero answers now wait = Late answers
 waits go (suc n) answers now (ForAnswer asking) =
     turn_at (remainder n answers) now
-    (λ here. completion_of (waits go n answers) go (remainder n answers) here (answer_completion [] asking (here_at here.at) (start_at here (Some (ForAnswer asking)))))
+    (λ here. completion_meaning (waits go n answers) go (remainder n answers) here (answer_completion [] asking (here_at here.at) (start_at here (Some (ForAnswer asking)))))
 waits go (suc n) answers now (ForLines gathering) =
     turn_at (remainder n answers) now
-    (λ here. completion_of (waits go n answers) go (remainder n answers) here (gathered_completion gathering here.at.sink (start_at here (Some (ForLines gathering)))))
+    (λ here. completion_meaning (waits go n answers) go (remainder n answers) here (gathered_completion gathering here.at.sink (start_at here (Some (ForLines gathering)))))
 waits go (suc n) [] now wait = Short
 waits go (suc n) (reply ∷ answers) now wait =
-    reply_of (completion_of (waits go n answers) go (remainder n answers) now)
+    after_reply (completion_meaning (waits go n answers) go (remainder n answers) now)
     (answered_completion now.at.sink (start_at now (Some wait)) wait reply)
 
 -- the place moves on before the command runs
@@ -40,21 +40,21 @@ abbrev pub at_next_line : Configuration → Configuration
 at_next_line now = configuration now.common (record now.at { position = now.at.position + 1; line = now.at.position + 1 })
 
 -- the next line, or the one that continues after its command substitution, takes an event; if no line is left that costs nothing
-abbrev pub next_of : Meaning → ℕ → List Reply → Configuration → Option Parted → Option Text → Whole
-next_of go n answers now None None = Done n answers now.at.last now.common
-next_of go zero answers now parted line = Late answers
-next_of go (suc n) answers now (Some parted) line =
+abbrev pub next_line_meaning : Continuation → ℕ → List Reply → Configuration → Option Parted → Option Text → Whole
+next_line_meaning go n answers now None None = Done n answers now.at.last now.common
+next_line_meaning go zero answers now parted line = Late answers
+next_line_meaning go (suc n) answers now (Some parted) line =
     turn_at (remainder n answers) now
-    (λ here. completion_of (waits go n answers) go (remainder n answers) here (parted_completion parted (here_at here.at) (start_at here None)))
-next_of go (suc n) answers now None (Some line) =
+    (λ here. completion_meaning (waits go n answers) go (remainder n answers) here (parted_completion parted (here_at here.at) (start_at here None)))
+next_line_meaning go (suc n) answers now None (Some line) =
     turn_at (remainder n answers) now
-    (λ here. completion_of (waits go n answers) go (remainder n answers) (at_next_line here)
+    (λ here. completion_meaning (waits go n answers) go (remainder n answers) (at_next_line here)
     (line_completion line (here_at (at_next_line here).at) (start_at here None)))
 
 -- what lines mean, by a bound on how deep the calls go, which the events left never exceed
-abbrev pub lines : ℕ → Meaning
+abbrev pub lines : ℕ → Continuation
 lines zero left now parted = Late left.answers
-lines (suc gas) left now parted = next_of (lines gas) left.events left.answers now parted (slice_get now.at.lines now.at.position)
+lines (suc gas) left now parted = next_line_meaning (lines gas) left.events left.answers now parted (slice_get now.at.lines now.at.position)
 
 -- where the lines of a shell begin
 abbrev pub at_bottom : ℕ → List Text → At

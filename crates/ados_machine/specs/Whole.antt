@@ -84,8 +84,8 @@ configuration common at = record { common = common; at = at }
 
 -- what lines mean, also by a line that continues after its command substitution. As `go` it is the recursion, given as an argument,
 -- with a bound on its depth that the events left never exceed (`lines` in LoneShell).
-abbrev pub Meaning : Type 0
-Meaning = Remainder → Configuration → Option Parted → Whole
+abbrev pub Continuation : Type 0
+Continuation = Remainder → Configuration → Option Parted → Whole
 
 -- no lines may be deeper
 abbrev pub is_deepest : At → Bool
@@ -108,9 +108,9 @@ abbrev pub held_at : Option Wait → List Place
 held_at None = []
 held_at (Some wait) = held_while wait
 
-abbrev pub entry_at : Option Wait → Option Text
-entry_at None = None
-entry_at (Some wait) = entry_while wait
+abbrev pub waiting_entry : Option Wait → Option Text
+waiting_entry None = None
+waiting_entry (Some wait) = entry_while wait
 
 abbrev pub name_at : Text → Option Wait → Text
 name_at name None = name
@@ -121,7 +121,7 @@ abbrev pub seen_at : At → Option Wait → Place → SeenShell
 seen_at at wait directory = record {
   directory = directory;
   outputs = at.outputs ++ held_at wait;
-  entry = entry_at wait;
+  entry = waiting_entry wait;
   name = name_at at.name wait;
 }
 
@@ -160,14 +160,14 @@ abbrev pub record_at : At → Codes → Common → Record
 record_at at answer common = record { line = at.line; codes = answer; limit = common.said.parts.limit }
 
 -- a command of these lines returned: a script ends here at its limit, or if it quits; other lines continue
-abbrev pub after_answer : Meaning → Remainder → Configuration → Text → Codes → Bool → Whole
+abbrev pub after_answer : Continuation → Remainder → Configuration → Text → Codes → Bool → Whole
 after_answer go left now word answer quits =
     if now.at.in_script && (quits || is_reached now.common.said.parts.limit answer.code)
     then Done left.events left.answers (Some (record_at now.at answer now.common)) (says word answer now.common)
     else go left (configuration (says word answer now.common) (record now.at { last = Some (record_at now.at answer now.common) })) None
 
 -- the same if the command did its work itself: the text of its fault is printed first, which that of a script was already
-abbrev pub after_own_answer : Meaning → Remainder → Configuration → Text → Codes → Bool → Whole
+abbrev pub after_own_answer : Continuation → Remainder → Configuration → Text → Codes → Bool → Whole
 after_own_answer go left now word answer quits =
     after_answer go left (configuration (record now.common { said = with_fault_line word answer.result2 now.common.said }) now.at) word answer quits
 
@@ -218,7 +218,7 @@ with_report report common = record common { reports = report ∷ common.reports 
 
 -- after a script that ended at a break, with this many scripts at or below these lines: after the outermost one the command
 -- that called it returns 10 and 304, and otherwise these lines end too, at the same break
-abbrev pub after_broken : Meaning → Remainder → Configuration → Code → Text → ℕ → Whole
+abbrev pub after_broken : Continuation → Remainder → Configuration → Code → Text → ℕ → Whole
 after_broken go left now limit word zero =
     after_answer go left (configuration (record now.common { said = with_limit (limit_above_scripts now.at.scripts limit) now.common.said }) now.at)
     word broken_codes false
@@ -226,7 +226,7 @@ after_broken go left now limit word (suc scripts) = Broken left.events left.answ
 
 -- after a script: it is reported, the limit of its beginning is restored, or 10 if no script is left; its last codes are
 -- the return of the command that called it
-abbrev pub after_call : Meaning → At → Code → Text → Text → Whole → Whole
+abbrev pub after_call : Continuation → At → Code → Text → Text → Whole → Whole
 after_call go at limit name word (Done n answers last common) =
     after_answer go (remainder n answers)
     (configuration (record (with_report (report_of at.shell name last) common) { said = with_limit (limit_above_scripts at.scripts limit) common.said }) at)
@@ -243,7 +243,7 @@ common_with_tick common = record common { said = with_tick common.said }
 abbrev pub common_without_tick : Common → Common
 common_without_tick common = record common { said = without_tick common.said }
 
-abbrev pub after_tick : Meaning → At → Text → Text → Whole → Whole
+abbrev pub after_tick : Continuation → At → Text → Text → Whole → Whole
 after_tick go at before after (Done n answers last common) =
     go (remainder n answers) (configuration (common_without_tick common) at)
     (Some (record { before = before; output = newest_kept common.said.kept; after = after }))
@@ -252,7 +252,7 @@ after_tick go at before after (Late answers) = Late answers
 after_tick go at before after Short = Short
 
 -- what a completion means after its event; `further` is what it means to wait
-abbrev pub after_completion : (Configuration → Wait → Whole) → Meaning → Remainder → Configuration → Completion → Whole
+abbrev pub after_completion : (Configuration → Wait → Whole) → Continuation → Remainder → Configuration → Completion → Whole
 after_completion further go left now (Passes course) = go left now None
 after_completion further go left now (Answers word answer quits course) = after_own_answer go left now word answer quits
 after_completion further go left now (Jumps word answer line course) =
@@ -265,14 +265,14 @@ after_completion further go left now (Ticks before command after course) =
 after_completion further go left now (Waits wait course) = further now wait
 
 -- what a completion means
-abbrev pub completion_of : (Configuration → Wait → Whole) → Meaning → Remainder → Configuration → Completion → Whole
-completion_of further go left now completion =
+abbrev pub completion_meaning : (Configuration → Wait → Whole) → Continuation → Remainder → Configuration → Completion → Whole
+completion_meaning further go left now completion =
     after_completion further go left (configuration (common_after_event now.common (course_of completion)) now.at) completion
 
 -- an answer of another kind is treated as missing
-abbrev pub reply_of : (Completion → Whole) → Option Completion → Whole
-reply_of meaning None = Short
-reply_of meaning (Some completion) = meaning completion
+abbrev pub after_reply : (Completion → Whole) → Option Completion → Whole
+after_reply meaning None = Short
+after_reply meaning (Some completion) = meaning completion
 
 -- a turn clears the flag
 abbrev pub common_without_flag : Common → Common

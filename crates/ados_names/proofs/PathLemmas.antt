@@ -9,7 +9,7 @@ use Rattle.std.proofs.lemmas.Bool.Decides.{nat_tests}
 use Rattle.std.proofs.lemmas.List.{length-take-le}
 use Rattle.std.proofs.lemmas.List.Folds.{list_all-append}
 use Rattle.ados_names.specs.Names.{is_colon, is_slash, is_name_byte, is_name}
-use Rattle.ados_names.specs.Path.{PathParts, IsPath, is_piece, is_device, is_step, are_parts, steps_of, parts_by_colon, parts_of, path_limit, path_of, steps_text, text_after_name, device_text, text_of, path_with_name}
+use Rattle.ados_names.specs.Path.{PathParts, IsPath, is_path_piece, is_device, is_step, are_parts, steps_of, parts_by_colon, parts_of, path_limit, path_of, steps_text, text_after_name, device_text, text_of, path_with_name}
 use Rattle.ados_names.specs.Lengths.{pieces_len}
 use Rattle.ados_names.specs.declared.steps.Step.{Step}
 use Rattle.ados_names.specs.declared.steps.Step.TheVariants.{Up, Name}
@@ -25,7 +25,7 @@ no_colons (c ∷ cs) h =
     let both = and_parts (is_name_byte c) (list_all is_name_byte cs) h in
     and_from (no_colon c) (list_all no_colon cs) (other_byte c both.0) (no_colons cs both.1)
 
-none_in_piece : (piece : List ℕ) → is_piece piece ≡ true → list_all no_colon piece ≡ true
+none_in_piece : (piece : List ℕ) → is_path_piece piece ≡ true → list_all no_colon piece ≡ true
 none_in_piece [] h = refl
 none_in_piece (c ∷ cs) h = no_colons (c ∷ cs) (name-parts (c ∷ cs) h).bytes
 

@@ -7,24 +7,24 @@ use Rattle.std.proofs.lemmas.List.{drop-drop, take_all}
 use Rattle.std.proofs.lemmas.List.Elements.{All-nil, All-cons}
 use Rattle.std.proofs.lemmas.List.Splits.{slice_split_none, slice_split_at, slice_split_first, length-slice_split, join_with_byte-slice_split}
 use Rattle.ados_names.specs.Names.{is_colon, is_slash, is_name_byte, is_name}
-use Rattle.ados_names.specs.Path.{is_piece, is_step, step_of, last_steps_of, steps_of, steps_text, text_after_name}
+use Rattle.ados_names.specs.Path.{is_path_piece, is_step, path_step, last_steps_of, steps_of, steps_text, text_after_name}
 use Rattle.ados_names.specs.declared.steps.Step.{Step}
 use Rattle.ados_names.specs.declared.steps.Step.TheVariants.{Up, Name}
 
 -- steps may be in a path exactly if their pieces may
-pub steps-pieces : (pieces : List (List ℕ)) → list_all is_step (steps_of pieces) ≡ list_all is_piece pieces
+pub steps-pieces : (pieces : List (List ℕ)) → list_all is_step (steps_of pieces) ≡ list_all is_path_piece pieces
 steps-pieces [] = refl
 steps-pieces ([] ∷ []) = refl
 steps-pieces ((c ∷ cs) ∷ []) = refl
 steps-pieces ([] ∷ next ∷ more) = steps-pieces (next ∷ more)
 steps-pieces ((c ∷ cs) ∷ next ∷ more) = ap (λ b. is_name (c ∷ cs) && b) (steps-pieces (next ∷ more))
 
-not_last : (piece : List ℕ) (pieces : List (List ℕ)) → 0 < length pieces → steps_of (piece ∷ pieces) ≡ step_of piece ∷ steps_of pieces
+not_last : (piece : List ℕ) (pieces : List (List ℕ)) → 0 < length pieces → steps_of (piece ∷ pieces) ≡ path_step piece ∷ steps_of pieces
 not_last piece [] h = absurd (omega arith)
 not_last piece (next ∷ more) h = refl
 
 -- a piece followed by a slash is not the last
-steps-after : (piece text : List ℕ) → steps_of (piece ∷ slice_split is_slash text) ≡ step_of piece ∷ steps_of (slice_split is_slash text)
+steps-after : (piece text : List ℕ) → steps_of (piece ∷ slice_split is_slash text) ≡ path_step piece ∷ steps_of (slice_split is_slash text)
 steps-after piece text = not_last piece (slice_split is_slash text) (omega (arith, length-slice_split is_slash text))
 
 found : (b : Bool) (n place : ℕ) → cond b (Some n) None ≡ Some place → (b ≡ true) × (n ≡ place)
@@ -36,7 +36,7 @@ not_found true n e = cc
 not_found false n e = refl
 
 -- the first slash ends the first piece
-pub cut-more : (text : List ℕ) (place : ℕ) → position is_slash text ≡ Some place → steps_of (slice_split is_slash text) ≡ step_of (take place text) ∷ steps_of (slice_split is_slash (drop (place + 1) text))
+pub cut-more : (text : List ℕ) (place : ℕ) → position is_slash text ≡ Some place → steps_of (slice_split is_slash text) ≡ path_step (take place text) ∷ steps_of (slice_split is_slash (drop (place + 1) text))
 cut-more text place e =
     let at = found (nat_lt (position_or_len is_slash text) (length text)) (position_or_len is_slash text) place e in
     let within : position_or_len is_slash text < length text = (let t = at.0 in grind (arith, nat_tests)) in
@@ -56,7 +56,7 @@ one_piece (c ∷ cs) e =
 pub cut-last : (text : List ℕ) → position is_slash text ≡ None → steps_of (slice_split is_slash text) ≡ last_steps_of text
 cut-last text e = ap steps_of (one_piece text (not_found _ (position_or_len is_slash text) e))
 
-pub last_steps-some : (text : List ℕ) → 0 < length text → last_steps_of text ≡ step_of text ∷ []
+pub last_steps-some : (text : List ℕ) → 0 < length text → last_steps_of text ≡ path_step text ∷ []
 last_steps-some [] h = absurd (omega arith)
 last_steps-some (c ∷ cs) h = refl
 
@@ -84,9 +84,9 @@ name-parts text h =
     let inner = and_parts (nat_lt 0 (length text)) (nat_le (length text) 30) outer.0 in
     record { some = (let t = inner.0 in grind (arith, nat_tests)); short = (let t = inner.1 in grind (arith, nat_tests)); bytes = outer.1 }
 
-step_of-name : (text : List ℕ) → 0 < length text → step_of text ≡ Name text
-step_of-name [] h = absurd (omega arith)
-step_of-name (c ∷ cs) h = refl
+path_step-name : (text : List ℕ) → 0 < length text → path_step text ≡ Name text
+path_step-name [] h = absurd (omega arith)
+path_step-name (c ∷ cs) h = refl
 
 -- steps are those of their text
 pub steps-written : (steps : List Step) → list_all is_step steps ≡ true → steps_of (slice_split is_slash (steps_text steps)) ≡ steps
@@ -96,13 +96,13 @@ steps-written (Name name ∷ []) h =
     let is : IsName name = name-parts name (and_parts (is_name name) true h).0 in
     ap (λ t. steps_of (slice_split is_slash t)) (append-nil name)
     ∙ ap steps_of (slice_split_none is_slash name (no_slashes name is.bytes))
-    ∙ last_steps-some name is.some ∙ ap (λ s. s ∷ []) (step_of-name name is.some)
+    ∙ last_steps-some name is.some ∙ ap (λ s. s ∷ []) (path_step-name name is.some)
 steps-written (Name name ∷ next ∷ more) h =
     let both = and_parts (is_name name) (list_all is_step (next ∷ more)) h in
     let is : IsName name = name-parts name both.0 in
     ap steps_of (slice_split_at is_slash name 47 (steps_text (next ∷ more)) (no_slashes name is.bytes) refl)
     ∙ steps-after name (steps_text (next ∷ more))
-    ∙ ap (λ s. s ∷ steps_of (slice_split is_slash (steps_text (next ∷ more)))) (step_of-name name is.some)
+    ∙ ap (λ s. s ∷ steps_of (slice_split is_slash (steps_text (next ∷ more)))) (path_step-name name is.some)
     ∙ ap (λ s. Name name ∷ s) (steps-written (next ∷ more) both.1)
 
 after_name-le : (steps : List Step) (text : List ℕ) → length (text_after_name steps text) ≤ length text + 1
@@ -129,12 +129,12 @@ left from text = let enough : length (drop from text) ≤ length text - from = o
 -- one more piece of a text
 pub step-more : (whole items after : List Step) (text : List ℕ) (from place : ℕ) (step : Step)
     → whole ≡ items ++ steps_of (slice_split is_slash (drop from text)) → position is_slash (take (length text - from) (drop from text)) ≡ Some place
-    → step ≡ step_of (take (from + place - from) (drop from text)) → after ≡ items ++ step ∷ []
+    → step ≡ path_step (take (from + place - from) (drop from text)) → after ≡ items ++ step ∷ []
     → whole ≡ after ++ steps_of (slice_split is_slash (drop (from + (place + 1)) text))
 step-more whole items after text from place step here at is put =
     let rest = steps_of (slice_split is_slash (drop (from + (place + 1)) text)) in
     let len : from + place - from ≡ place = omega arith in
-    let piece : step_of (take place (drop from text)) ≡ step = ap (λ n. step_of (take n (drop from text))) (sym len) ∙ sym is in
+    let piece : path_step (take place (drop from text)) ≡ step = ap (λ n. path_step (take n (drop from text))) (sym len) ∙ sym is in
     let cut : steps_of (slice_split is_slash (drop from text)) ≡ step ∷ rest =
     cut-more (drop from text) place (ap (position is_slash) (sym (left from text)) ∙ at)
     ∙ ap (λ s. s ∷ steps_of (slice_split is_slash (drop (place + 1) (drop from text)))) piece
@@ -144,10 +144,10 @@ step-more whole items after text from place step here at is put =
 -- the last piece of a text
 pub step-last : (whole items after : List Step) (text : List ℕ) (from : ℕ) (step : Step)
     → whole ≡ items ++ steps_of (slice_split is_slash (drop from text)) → position is_slash (take (length text - from) (drop from text)) ≡ None
-    → from < length text → step ≡ step_of (take (length text - from) (drop from text)) → after ≡ items ++ step ∷ []
+    → from < length text → step ≡ path_step (take (length text - from) (drop from text)) → after ≡ items ++ step ∷ []
     → after ≡ whole
 step-last whole items after text from step here none within is put =
-    let piece : step ≡ step_of (drop from text) = is ∙ ap step_of (left from text) in
+    let piece : step ≡ path_step (drop from text) = is ∙ ap path_step (left from text) in
     let some : 0 < length (drop from text) = omega (arith, length-drop from text) in
     put ∙ ap (λ s. items ++ s ∷ []) piece
     ∙ ap (λ s. items ++ s) (sym (cut-last (drop from text) (ap (position is_slash) (sym (left from text)) ∙ none) ∙ last_steps-some (drop from text) some)) ∙ sym here

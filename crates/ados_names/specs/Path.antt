@@ -18,9 +18,9 @@ abbrev pub path_limit : ℕ
 path_limit = 255
 
 -- the step of a piece: an empty one goes up
-abbrev pub step_of : Text → Step
-step_of [] = Up
-step_of (c ∷ cs) = Name (c ∷ cs)
+abbrev pub path_step : Text → Step
+path_step [] = Up
+path_step (c ∷ cs) = Name (c ∷ cs)
 
 -- the steps of the last piece: an empty one is ignored
 abbrev pub last_steps_of : Text → List Step
@@ -31,7 +31,7 @@ last_steps_of (c ∷ cs) = Name (c ∷ cs) ∷ []
 abbrev pub steps_of : List Text → List Step
 steps_of [] = []
 steps_of (last ∷ []) = last_steps_of last
-steps_of (piece ∷ next ∷ more) = step_of piece ∷ steps_of (next ∷ more)
+steps_of (piece ∷ next ∷ more) = path_step piece ∷ steps_of (next ∷ more)
 
 -- the parts of a text, by the place of its first colon: what follows it is split at each slash
 abbrev pub parts_by_colon : Text → Option ℕ → PathParts
@@ -42,14 +42,14 @@ abbrev pub parts_of : Text → PathParts
 parts_of text = parts_by_colon text (position is_colon text)
 
 -- a piece is empty or a name
-abbrev pub is_piece : Text → Bool
-is_piece [] = true
-is_piece (c ∷ cs) = is_name (c ∷ cs)
+abbrev pub is_path_piece : Text → Bool
+is_path_piece [] = true
+is_path_piece (c ∷ cs) = is_name (c ∷ cs)
 
 -- and so is a device text, if there is one
 abbrev pub is_device : Option Text → Bool
 is_device None = true
-is_device (Some device) = is_piece device
+is_device (Some device) = is_path_piece device
 
 -- a step goes up or into a name
 abbrev pub is_step : Step → Bool

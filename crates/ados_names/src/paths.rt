@@ -7,7 +7,7 @@ ghost use Rattle.ados_text.specs.declared.stops.Stop.TheVariants.{NoMemory as Ou
 ghost use Rattle.ados_names.specs.Lengths.{pieces_len};
 
 use crate::names::is_name;
-use crate::pieces::{are_pieces, colon, is_piece, steps};
+use crate::pieces::{are_pieces, colon, is_path_piece, steps};
 use crate::steps::Step;
 use ados_text::{NoMemory, Result2, Stop, Text};
 use smallvec::SmallVec;
@@ -124,7 +124,7 @@ fn names_a_path(text: &[u8]) -> bool
     }
     match colon(text) {
         None => are_pieces(text),
-        Some(place) => is_piece(&text[..place]) && are_pieces(&text[place + 1..]),
+        Some(place) => is_path_piece(&text[..place]) && are_pieces(&text[place + 1..]),
     }
 }
 

@@ -1,7 +1,7 @@
 ghost use Rattle.std.specs.Prelude.{◌≡◌, ◌≤◌, ◌<◌, ◌-◌, IfOk, IfSome, length, take, drop, position};
 ghost use Rattle.std.specs.List.{list_all, slice_split, suffix_len};
 ghost use Rattle.ados_names.specs.Names.{is_colon, is_slash};
-ghost use Rattle.ados_names.specs.Path.{step_of, steps_of, is_piece, is_piece_byte, last_piece_of};
+ghost use Rattle.ados_names.specs.Path.{path_step, steps_of, is_path_piece, is_piece_byte, last_piece_of};
 
 use crate::names::are_a_name;
 use crate::steps::Step;
@@ -26,24 +26,24 @@ fn slash(text: &[u8]) -> Option<usize>
 }
 
 /// The bytes are empty or a name.
-pub fn is_piece(piece: &[u8]) -> bool
-    ensures { result ≡ is_piece piece.now }
+pub fn is_path_piece(piece: &[u8]) -> bool
+    ensures { result ≡ is_path_piece piece.now }
 {
     piece.is_empty() || are_a_name(piece)
 }
 
 /// Each piece of a text is empty or a name.
 pub fn are_pieces(text: &[u8]) -> bool
-    ensures { result ≡ list_all is_piece (slice_split is_slash text.now) }
+    ensures { result ≡ list_all is_path_piece (slice_split is_slash text.now) }
 {
-    text.split(|byte| *byte == b'/').all(is_piece)
+    text.split(|byte| *byte == b'/').all(is_path_piece)
 }
 
 // The step of the piece between two places.
 fn step(text: &Text, from: usize, to: usize) -> Result<Step, NoMemory>
     requires ordered { from ≤ to }
     requires within { to ≤ length text.now }
-    ensures { IfOk result (λ step. step ≡ step_of (take (to - from) (drop from text.now))) }
+    ensures { IfOk result (λ step. step ≡ path_step (take (to - from) (drop from text.now))) }
 {
     if from == to {
         Ok(Step::Up)

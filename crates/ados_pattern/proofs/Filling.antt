@@ -4,7 +4,7 @@ use Rattle.std.specs.Global.{Global}
 use Rattle.std.proofs.lemmas.Option.{slice_get_past}
 use Rattle.ados_pattern.specs.declared.tables.Rule.{Rule}
 use Rattle.ados_pattern.specs.declared.tables.Rule.TheVariants.{Empty, One, Next, Outside, Many, Other, Then, Either}
-use Rattle.ados_pattern.specs.Table.{Cells, or_zero, word_of, is_set, cells_in, items_of, column_at, cells_at, cells_of, cell_of, row_cell, IsBuilt, IsFilled}
+use Rattle.ados_pattern.specs.Table.{Cells, or_zero, table_word, is_set, cells_in, items_of, column_at, cells_at, cells_of, cell_of, row_cell, IsBuilt, IsRuleTable}
 use Rattle.ados_pattern.proofs.Anys.{any-same, slice_get-front, slice_get-last}
 use Rattle.ados_pattern.proofs.Bits.{set-zero, is-true, is-false, le-true, le-false, same-or-not}
 
@@ -131,18 +131,18 @@ columns-more rule text columns column count a b = record {
 }
 
 pub cells-there : (columns : List (Vec ℕ Global)) (i j : ℕ) → cells_at columns i j ≡ cells_in (column_at columns (j / 64)) (j / 64) i j
-cells-there columns i j = ap (λ b. b && is_set (word_of (column_at columns (j / 64)) i) (j % 64)) (sym (is-true (j / 64) (j / 64) refl))
+cells-there columns i j = ap (λ b. b && is_set (table_word (column_at columns (j / 64)) i) (j % 64)) (sym (is-true (j / 64) (j / 64) refl))
 
 pub no-column : (columns : List (Vec ℕ Global)) (i j : ℕ) → length columns ≤ j / 64 → cells_at columns i j ≡ false
 no-column columns i j l =
-    ap (λ o. is_set (word_of (items_of o) i) (j % 64)) (slice_get_past columns (j / 64) l)
+    ap (λ o. is_set (table_word (items_of o) i) (j % 64)) (slice_get_past columns (j / 64) l)
     ∙ ap (λ o. is_set (or_zero o) (j % 64)) (slice_get_past [] i (omega arith))
     ∙ set-zero (j % 64)
 
 pub below-or-past : (a b : ℕ) → (a < b) ⊎ (b ≤ a)
 below-or-past a b = grind arith
 
-pub filled : (rule : Rule) (text : List ℕ) (columns : List (Vec ℕ Global)) → AreBuilt rule text columns (length text / 64 + 1) → IsFilled rule text (cells_at columns)
+pub filled : (rule : Rule) (text : List ℕ) (columns : List (Vec ℕ Global)) → AreBuilt rule text columns (length text / 64 + 1) → IsRuleTable rule text (cells_at columns)
 filled rule text columns a = record {
   inside = λ i j l m.
       let g : j / 64 < length text / 64 + 1 = omega (arith, l, m) in

@@ -4,7 +4,7 @@ use Rattle.ados_pattern.specs.CharTest.{has_test}
 use Rattle.ados_pattern.specs.Matches.{HasCut, is_one}
 use Rattle.ados_pattern.specs.Reach.{AreWithin, ReachedFrom, Reaches}
 use Rattle.ados_pattern.specs.declared.tables.Table.{Table}
-use Rattle.ados_pattern.specs.Table.{IsTable, byte_at, cells_of, column_of, is_set, leads, piece, word_of}
+use Rattle.ados_pattern.specs.Table.{IsTable, byte_at, cells_of, column_of, is_set, leads, piece, table_word}
 use Rattle.ados_pattern.proofs.Anys.{Found, any-found, any-true, both-left, both-right, both-true, either-cases, or-left, or-right}
 use Rattle.ados_pattern.proofs.Bits.{below-or-not, is-true, is-false, lt-true, lt-false, same-or-not, set-or, set-single}
 use Rattle.ados_pattern.proofs.Columns.{cell-at}
@@ -61,9 +61,9 @@ reach-either P Q text starts ends others a b = record {
 }
 
 -- a place in the words of a table's first column
-pub first-cell : (t : Table) (k b : ℕ) → b < 64 → is_set (word_of (column_of t 0) (0 * 64 + k)) b ≡ cells_of t k b
+pub first-cell : (t : Table) (k b : ℕ) → b < 64 → is_set (table_word (column_of t 0) (0 * 64 + k)) b ≡ cells_of t k b
 first-cell t k b l =
-    (let e : 0 * 64 + k ≡ k = omega arith in ap (λ i. is_set (word_of (column_of t 0) i) b) e)
+    (let e : 0 * 64 + k ≡ k = omega arith in ap (λ i. is_set (table_word (column_of t 0) i) b) e)
     ∙ sym (cell-at t 0 k b l)
     ∙ (let f : 0 * 64 + b ≡ b = omega arith in ap (λ j. cells_of t k j) f)
 
@@ -71,20 +71,20 @@ pub reach-table : (P : List ℕ → Type 0) (text : List ℕ) (t : Table) (start
 unfolding leads
 reach-table P text t starts ends is_table e = record {
   sound = λ j l h.
-      let w : Found (λ k. is_set starts k && is_set (word_of (column_of t 0) (0 * 64 + k)) j) 0 64 = any-found (λ k. is_set starts k && is_set (word_of (column_of t 0) (0 * 64 + k)) j) 0 64 (sym (e j l) ∙ h) in
-      let cell : cells_of t w.place j ≡ true = sym (first-cell t w.place j l) ∙ both-right (is_set starts w.place) (is_set (word_of (column_of t 0) (0 * 64 + w.place)) j) w.passes in
+      let w : Found (λ k. is_set starts k && is_set (table_word (column_of t 0) (0 * 64 + k)) j) 0 64 = any-found (λ k. is_set starts k && is_set (table_word (column_of t 0) (0 * 64 + k)) j) 0 64 (sym (e j l) ∙ h) in
+      let cell : cells_of t w.place j ≡ true = sym (first-cell t w.place j l) ∙ both-right (is_set starts w.place) (is_set (table_word (column_of t 0) (0 * 64 + w.place)) j) w.passes in
       record {
         start = w.place;
         fits = omega (arith, w.below);
-        set = both-left (is_set starts w.place) (is_set (word_of (column_of t 0) (0 * 64 + w.place)) j) w.passes;
+        set = both-left (is_set starts w.place) (is_set (table_word (column_of t 0) (0 * 64 + w.place)) j) w.passes;
         ordered = is_table.ordered w.place j cell;
         within = is_table.within w.place j cell;
         matched = is_table.sound w.place j cell;
       };
   complete = λ i j l h m n p.
       let low : j < 64 = omega (arith, m, l) in
-      e j low ∙ any-true (λ k. is_set starts k && is_set (word_of (column_of t 0) (0 * 64 + k)) j) 0 64 i (omega arith) (omega (arith, l))
-      (both-true (is_set starts i) (is_set (word_of (column_of t 0) (0 * 64 + i)) j) h (first-cell t i j low ∙ is_table.complete i j m n p));
+      e j low ∙ any-true (λ k. is_set starts k && is_set (table_word (column_of t 0) (0 * 64 + k)) j) 0 64 i (omega arith) (omega (arith, l))
+      (both-true (is_set starts i) (is_set (table_word (column_of t 0) (0 * 64 + i)) j) h (first-cell t i j low ∙ is_table.complete i j m n p));
 }
 
 -- a step from a start over one character

@@ -2,7 +2,7 @@
 use Rattle.std.proofs.Common.{◌≡◌, ℕ, ◌+◌, ◌-◌, ◌<◌, ◌≤◌, Bool, true, false, ◌||◌, refl, sym, ◌∙◌, ap, arith, ◌⊎◌, inl, inr, nat_le}
 use Rattle.std.proofs.lemmas.Grind.{common_steps}
 use Rattle.ados_text.specs.Text.{fold_of}
-use Rattle.ados_pattern.specs.Matches.{in_range, is_same}
+use Rattle.ados_pattern.specs.Matches.{in_range, is_same_character}
 use Rattle.ados_pattern.specs.Range.{upper_of, is_between_of}
 use Rattle.ados_pattern.proofs.Anys.{Found, any-found, any-true, both-left, both-right, both-true, either-cases, or-left, or-right}
 use Rattle.ados_pattern.proofs.Bits.{is-true, le-true, lt-true, lt-false, below-or-not}
@@ -77,11 +77,11 @@ pub range-has : (low high m c : ℕ) → is_between_of low high m ≡ true → f
 range-has low high m c h e =
     let l : low ≤ m = le-is low m (both-left (nat_le low m) (nat_le m high) h) in
     let k : m ≤ high = le-is m high (both-right (nat_le low m) (nat_le m high) h) in
-    any-true (λ x. is_same x c) low (high + 1 - low) m l (omega (arith, l, k)) (is-true (fold_of m) (fold_of c) e)
+    any-true (λ x. is_same_character x c) low (high + 1 - low) m l (omega (arith, l, k)) (is-true (fold_of m) (fold_of c) e)
 
 pub range-member : (low high c : ℕ) → in_range low high c ≡ true → (is_between_of low high (fold_of c) || is_between_of low high (upper_of c)) ≡ true
 range-member low high c h =
-    let w : Found (λ m. is_same m c) low (high + 1 - low) = any-found (λ m. is_same m c) low (high + 1 - low) h in
+    let w : Found (λ m. is_same_character m c) low (high + 1 - low) = any-found (λ m. is_same_character m c) low (high + 1 - low) h in
     let b : is_between_of low high w.place ≡ true = member-between low high w.place w.from w.below in
     elim (one-of-two w.place c (eq-is (fold_of w.place) (fold_of c) w.passes)) [
       | inl e ↦ or-left _ _ (ap (is_between_of low high) (sym e) ∙ b)

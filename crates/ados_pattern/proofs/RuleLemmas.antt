@@ -13,7 +13,7 @@ use Rattle.ados_pattern.specs.declared.bytes.CharTest.TheVariants.{Is, Any as An
 use Rattle.ados_pattern.specs.CharTest.{has_test, test_in, test_of}
 use Rattle.ados_pattern.specs.Form.{Form, Char, Any, Range, Empty as EmptyForm, Outside as OutsideForm, Many as ManyForm, Other as OtherForm, Then as ThenForm, Either as EitherForm}
 use Rattle.std.proofs.lemmas.Option.{slice_get_past}
-use Rattle.ados_pattern.specs.Table.{Cells, byte_at, cells_of, cell_of, IsFilled, IsTable, piece}
+use Rattle.ados_pattern.specs.Table.{Cells, byte_at, cells_of, cell_of, IsRuleTable, IsTable, piece}
 use Rattle.ados_pattern.proofs.Anys.{Found, any-found, any-true, both-left, both-right, both-true, either-cases, or-left, or-right}
 use Rattle.ados_pattern.proofs.Pieces.{length-piece, piece-none, piece-split, piece-whole, IsCutAt, cut-at}
 
@@ -26,13 +26,13 @@ is-eq a b h = grind (arith, common_steps)
 pub below-or-past : (a b : ℕ) → (a ≤ b) ⊎ (b < a)
 below-or-past a b = grind arith
 
-pub filled-ordered : (rule : Rule) (text : List ℕ) (cells : Cells) → IsFilled rule text cells → (i j : ℕ) → cells i j ≡ true → j ≤ i
+pub filled-ordered : (rule : Rule) (text : List ℕ) (cells : Cells) → IsRuleTable rule text cells → (i j : ℕ) → cells i j ≡ true → j ≤ i
 filled-ordered rule text cells f i j h = elim (below-or-past j i) [
   | inl l ↦ l
   | inr l ↦ let e : true ≡ false = sym h ∙ f.above i j l in absurd cc
 ]
 
-pub filled-within : (rule : Rule) (text : List ℕ) (cells : Cells) → IsFilled rule text cells → (i j : ℕ) → cells i j ≡ true → i ≤ length text
+pub filled-within : (rule : Rule) (text : List ℕ) (cells : Cells) → IsRuleTable rule text cells → (i j : ℕ) → cells i j ≡ true → i ≤ length text
 filled-within rule text cells f i j h = elim (below-or-past i (length text)) [
   | inl l ↦ l
   | inr l ↦ let e : true ≡ false = sym h ∙ f.past i j l in absurd cc
@@ -43,7 +43,7 @@ pub record Says (rule : Rule) (cells : Cells) (P : List ℕ → Type 0) (text : 
   pub sound : (i j : ℕ) → i ≤ length text → j ≤ i → cell_of rule text cells i j ≡ true → P (piece text i j)
   pub complete : (i j : ℕ) → i ≤ length text → j ≤ i → P (piece text i j) → cell_of rule text cells i j ≡ true
 
-pub table-from : (rule : Rule) (P : List ℕ → Type 0) (text : List ℕ) (cells : Cells) → IsFilled rule text cells → Says rule cells P text → IsTable P text cells
+pub table-from : (rule : Rule) (P : List ℕ → Type 0) (text : List ℕ) (cells : Cells) → IsRuleTable rule text cells → Says rule cells P text → IsTable P text cells
 table-from rule P text cells f s = record {
   ordered = filled-ordered rule text cells f;
   within = filled-within rule text cells f;
@@ -57,13 +57,13 @@ table-from rule P text cells f s = record {
 pub piece-empty-same : (text : List ℕ) (i j : ℕ) → i ≤ length text → j ≤ i → piece text i j ≡ [] → i ≡ j
 piece-empty-same text i j m l e = omega (arith, l, sym (length-piece text i j l m) ∙ ap length e)
 
-pub table-empty : (text : List ℕ) (cells : Cells) → IsFilled Empty text cells → IsTable (λ s. s ≡ []) text cells
+pub table-empty : (text : List ℕ) (cells : Cells) → IsRuleTable Empty text cells → IsTable (λ s. s ≡ []) text cells
 table-empty text cells f = table-from Empty (λ s. s ≡ []) text cells f (record {
   sound = λ i j m l h. ap (λ k. piece text i k) (sym (eq-is i j h)) ∙ piece-none text i;
   complete = λ i j m l e. is-eq i j (piece-empty-same text i j m l e);
 })
 
-pub table-either : (P Q : List ℕ → Type 0) (a b : Table) (text : List ℕ) (cells : Cells) → IsTable P text (cells_of a) → IsTable Q text (cells_of b) → IsFilled (Either a b) text cells → IsTable (λ s. P s ⊎ Q s) text cells
+pub table-either : (P Q : List ℕ → Type 0) (a b : Table) (text : List ℕ) (cells : Cells) → IsTable P text (cells_of a) → IsTable Q text (cells_of b) → IsRuleTable (Either a b) text cells → IsTable (λ s. P s ⊎ Q s) text cells
 table-either P Q a b text cells ta tb f = table-from (Either a b) (λ s. P s ⊎ Q s) text cells f (record {
   sound = λ i j m l h. elim (either-cases (cells_of a i j) (cells_of b i j) h) [ inl e ↦ inl (ta.sound i j e) | inr e ↦ inr (tb.sound i j e) ];
   complete = λ i j m l e. elim e [
@@ -72,13 +72,13 @@ table-either P Q a b text cells ta tb f = table-from (Either a b) (λ s. P s ⊎
   ];
 })
 
-pub table-other : (P : List ℕ → Type 0) (a : Table) (text : List ℕ) (cells : Cells) → IsTable P text (cells_of a) → IsFilled (Other a) text cells → IsTable (λ s. P s → ⊥) text cells
+pub table-other : (P : List ℕ → Type 0) (a : Table) (text : List ℕ) (cells : Cells) → IsTable P text (cells_of a) → IsRuleTable (Other a) text cells → IsTable (λ s. P s → ⊥) text cells
 table-other P a text cells ta f = table-from (Other a) (λ s. P s → ⊥) text cells f (record {
   sound = λ i j m l h p. let e : true ≡ false = sym (ta.complete i j l m p) ∙ not-true (cells_of a i j) h in absurd cc;
   complete = λ i j m l no. not_from_false (cells_of a i j) (false_from_ne_true (cells_of a i j) (λ h. no (ta.sound i j h)));
 })
 
-pub table-outside : (P : List ℕ → Type 0) (a : Table) (text : List ℕ) (cells : Cells) → IsTable P text (cells_of a) → IsFilled (Outside a) text cells → IsTable (λ s. (length s ≡ 1) × (P s → ⊥)) text cells
+pub table-outside : (P : List ℕ → Type 0) (a : Table) (text : List ℕ) (cells : Cells) → IsTable P text (cells_of a) → IsRuleTable (Outside a) text cells → IsTable (λ s. (length s ≡ 1) × (P s → ⊥)) text cells
 table-outside P a text cells ta f = table-from (Outside a) (λ s. (length s ≡ 1) × (P s → ⊥)) text cells f (record {
   sound = λ i j m l h.
       let one : i ≡ j + 1 = eq-is i (j + 1) (both-left (i == j + 1) (not (cells_of a i j)) h) in (
@@ -90,7 +90,7 @@ table-outside P a text cells ta f = table-from (Outside a) (λ s. (length s ≡ 
       (not_from_false (cells_of a i j) (false_from_ne_true (cells_of a i j) (λ h. no.1 (ta.sound i j h))));
 })
 
-pub table-then : (P Q : List ℕ → Type 0) (a b : Table) (text : List ℕ) (cells : Cells) → IsTable P text (cells_of a) → IsTable Q text (cells_of b) → IsFilled (Then a b) text cells → IsTable (HasCut P Q) text cells
+pub table-then : (P Q : List ℕ → Type 0) (a b : Table) (text : List ℕ) (cells : Cells) → IsTable P text (cells_of a) → IsTable Q text (cells_of b) → IsRuleTable (Then a b) text cells → IsTable (HasCut P Q) text cells
 table-then P Q a b text cells ta tb f = table-from (Then a b) (HasCut P Q) text cells f (record {
   sound = λ i j m l h.
       let w : Found (λ k. cells_of a i k && cells_of b k j) 0 (i + 1) = any-found (λ k. cells_of a i k && cells_of b k j) 0 (i + 1) h in
@@ -112,7 +112,7 @@ table-then P Q a b text cells ta tb f = table-from (Then a b) (HasCut P Q) text 
 })
 
 -- by induction on a number above the start
-pub many-sound : (P : List ℕ → Type 0) (a : Table) (text : List ℕ) (cells : Cells) → IsTable P text (cells_of a) → IsFilled (Many a) text cells → (turns i j : ℕ) → i < turns → i ≤ length text → j ≤ i → cells i j ≡ true → Repeats P (piece text i j)
+pub many-sound : (P : List ℕ → Type 0) (a : Table) (text : List ℕ) (cells : Cells) → IsTable P text (cells_of a) → IsRuleTable (Many a) text cells → (turns i j : ℕ) → i < turns → i ≤ length text → j ≤ i → cells i j ≡ true → Repeats P (piece text i j)
 many-sound P a text cells ta f zero i j t m l h = absurd (omega (arith, t))
 many-sound P a text cells ta f (suc turns) i j t m l h =
     elim (either-cases (i == j) (list_any (λ k. cells_of a i k && cells k j) (range_with_len 0 i)) (sym (f.inside i j m l) ∙ h)) [
@@ -130,7 +130,7 @@ many-sound P a text cells ta f (suc turns) i j t m l h =
           (many-sound P a text cells ta f turns w.place j (omega (arith, w.below, t)) in_text low eb)
     ]
 
-pub many-complete : (P : List ℕ → Type 0) (a : Table) (text : List ℕ) (cells : Cells) → IsTable P text (cells_of a) → IsFilled (Many a) text cells → {s : List ℕ} → Repeats P s → (i j : ℕ) → i ≤ length text → j ≤ i → piece text i j ≡ s → cells i j ≡ true
+pub many-complete : (P : List ℕ → Type 0) (a : Table) (text : List ℕ) (cells : Cells) → IsTable P text (cells_of a) → IsRuleTable (Many a) text cells → {s : List ℕ} → Repeats P s → (i j : ℕ) → i ≤ length text → j ≤ i → piece text i j ≡ s → cells i j ≡ true
 many-complete P a text cells ta f none i j m l e =
     f.inside i j m l ∙ or-left (i == j) (list_any (λ k. cells_of a i k && cells k j) (range_with_len 0 i)) (is-eq i j (piece-empty-same text i j m l e))
 many-complete P a text cells ta f (more s front rest joined long p r) i j m l e =
@@ -141,7 +141,7 @@ many-complete P a text cells ta f (more s front rest joined long p r) i j m l e 
     (ta.complete i (j + length rest) w.below m (subst P (sym w.front_is) p))
     (many-complete P a text cells ta f r (j + length rest) j (omega (arith, w.below, m)) w.above w.rest_is)))
 
-pub table-many : (P : List ℕ → Type 0) (a : Table) (text : List ℕ) (cells : Cells) → IsTable P text (cells_of a) → IsFilled (Many a) text cells → IsTable (Repeats P) text cells
+pub table-many : (P : List ℕ → Type 0) (a : Table) (text : List ℕ) (cells : Cells) → IsTable P text (cells_of a) → IsRuleTable (Many a) text cells → IsTable (Repeats P) text cells
 table-many P a text cells ta f = record {
   ordered = filled-ordered (Many a) text cells f;
   within = filled-within (Many a) text cells f;
@@ -160,7 +160,7 @@ one-length test [] h = absurd cc
 one-length test (c ∷ []) h = refl
 one-length test (c ∷ d ∷ s) h = absurd cc
 
-pub table-one : (test : CharTest) (text : List ℕ) (cells : Cells) → IsFilled (One test) text cells → IsTable (λ s. is_one (test_of test) s ≡ true) text cells
+pub table-one : (test : CharTest) (text : List ℕ) (cells : Cells) → IsRuleTable (One test) text cells → IsTable (λ s. is_one (test_of test) s ≡ true) text cells
 table-one test text cells f = table-from (One test) (λ s. is_one (test_of test) s ≡ true) text cells f (record {
   sound = λ i j m l h.
       let one : i ≡ j + 1 = eq-is i (j + 1) (both-left (i == j + 1) (has_test (test_of test) (byte_at text i)) h) in
@@ -181,7 +181,7 @@ no-byte test text zero h =
     let f : true ≡ false = sym h ∙ e in absurd cc
 no-byte test text (suc i) h = omega arith
 
-pub table-next : (Q : List ℕ → Type 0) (test : CharTest) (b : Table) (text : List ℕ) (cells : Cells) → IsTable Q text (cells_of b) → IsFilled (Next test b) text cells → IsTable (HasCut (λ s. is_one (test_of test) s ≡ true) Q) text cells
+pub table-next : (Q : List ℕ → Type 0) (test : CharTest) (b : Table) (text : List ℕ) (cells : Cells) → IsTable Q text (cells_of b) → IsRuleTable (Next test b) text cells → IsTable (HasCut (λ s. is_one (test_of test) s ≡ true) Q) text cells
 table-next Q test b text cells tb f = table-from (Next test b) (HasCut (λ s. is_one (test_of test) s ≡ true) Q) text cells f (record {
   sound = λ i j m l h.
       let here : has_test (test_of test) (byte_at text i) ≡ true = both-left (has_test (test_of test) (byte_at text i)) (cells_of b (i - 1) j) h in

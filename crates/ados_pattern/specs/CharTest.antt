@@ -3,10 +3,10 @@ use Rattle.std.specs.Prelude.{ℕ, Bool, false, Option, Some, None}
 use Rattle.ados_pattern.specs.declared.bytes.CharTest.{CharTest}
 use Rattle.ados_pattern.specs.declared.bytes.CharTest.TheVariants.{Is, Any as AnyByte, Within}
 use Rattle.ados_pattern.specs.Form.{Form, Char, Any, Range}
-use Rattle.ados_pattern.specs.Matches.{in_range, is_any, is_same}
+use Rattle.ados_pattern.specs.Matches.{in_range, is_any, is_same_character}
 
 abbrev pub test_of : CharTest → ℕ → Bool
-test_of (Is c) = is_same c
+test_of (Is c) = is_same_character c
 test_of AnyByte = is_any
 test_of (Within low high) = in_range low high
 

@@ -23,20 +23,20 @@ is_one test [] = false
 is_one test (c ∷ []) = test c
 is_one test (c ∷ d ∷ s) = false
 
-abbrev pub is_same : ℕ → ℕ → Bool
-is_same c d = fold_of c == fold_of d
+abbrev pub is_same_character : ℕ → ℕ → Bool
+is_same_character c d = fold_of c == fold_of d
 
 abbrev pub is_any : ℕ → Bool
 is_any c = true
 
 -- some character of the range is the same; case is ignored
 abbrev pub in_range : ℕ → ℕ → ℕ → Bool
-in_range low high c = list_any (λ m. is_same m c) (range_with_len low (high + 1 - low))
+in_range low high c = list_any (λ m. is_same_character m c) (range_with_len low (high + 1 - low))
 
 -- the text is what the pattern says
 abbrev pub Matches : Form → Text → Type 0
 Matches Empty s = s ≡ []
-Matches (Char c) s = IsTrue (is_one (is_same c) s)
+Matches (Char c) s = IsTrue (is_one (is_same_character c) s)
 Matches Any s = IsTrue (is_one is_any s)
 Matches (Range low high) s = IsTrue (is_one (in_range low high) s)
 Matches (Outside f) s = (length s ≡ 1) × (Matches f s → ⊥)

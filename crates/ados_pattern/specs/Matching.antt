@@ -2,7 +2,7 @@
 use Rattle.std.specs.Prelude.{ℕ, zero, suc, [], ◌∷◌, length, Bool, true, false, ◌&&◌, ◌||◌, ◌==◌, not}
 use Rattle.ados_text.specs.Text.{Text}
 use Rattle.ados_pattern.specs.Form.{Form, Empty, Char, Any, Range, Outside, Many, Other, Then, Either}
-use Rattle.ados_pattern.specs.Matches.{is_one, is_same, is_any, in_range}
+use Rattle.ados_pattern.specs.Matches.{is_one, is_same_character, is_any, in_range}
 
 abbrev pub is_empty : Text → Bool
 is_empty [] = true
@@ -22,7 +22,7 @@ repeats test (suc count) (c ∷ cs) = has_cut (λ front. test (c ∷ front)) (re
 -- the text is what the pattern says
 abbrev pub is_match : Form → Text → Bool
 is_match Empty text = is_empty text
-is_match (Char c) text = is_one (is_same c) text
+is_match (Char c) text = is_one (is_same_character c) text
 is_match Any text = is_one is_any text
 is_match (Range low high) text = is_one (in_range low high) text
 is_match (Outside f) text = (length text == 1) && not (is_match f text)

@@ -25,16 +25,16 @@ abbrev pub or_zero : Option ℕ → ℕ
 or_zero None = 0
 or_zero (Some w) = w
 
-abbrev pub word_of : List ℕ → ℕ → ℕ
-word_of words i = or_zero (slice_get words i)
+abbrev pub table_word : List ℕ → ℕ → ℕ
+table_word words i = or_zero (slice_get words i)
 
 -- whether some middle of a group leads to an end in the words of the rest
 unfoldable pub leads : ℕ → ℕ → List ℕ → ℕ → Bool
-leads middles group rest b = list_any (λ k. is_set middles k && is_set (word_of rest (group * 64 + k)) b) (range_with_len 0 64)
+leads middles group rest b = list_any (λ k. is_set middles k && is_set (table_word rest (group * 64 + k)) b) (range_with_len 0 64)
 
 -- the ends of one column
 abbrev pub cells_in : List ℕ → ℕ → Cells
-cells_in words group i j = (j / 64 == group) && is_set (word_of words i) (j % 64)
+cells_in words group i j = (j / 64 == group) && is_set (table_word words i) (j % 64)
 
 abbrev pub items_of : Option (Vec ℕ Global) → List ℕ
 items_of None = []
@@ -51,7 +51,7 @@ abbrev pub column_of : Table → ℕ → List ℕ
 column_of t group = column_at (columns_of t) group
 
 abbrev pub cells_at : List (Vec ℕ Global) → Cells
-cells_at columns i j = is_set (word_of (column_at columns (j / 64)) i) (j % 64)
+cells_at columns i j = is_set (table_word (column_at columns (j / 64)) i) (j % 64)
 
 abbrev pub cells_of : Table → Cells
 cells_of t i j = cells_at (columns_of t) i j
@@ -78,7 +78,7 @@ pub record IsBuilt (rule : Rule) (text : Text) (group : ℕ) (words : List ℕ) 
   pub above : (i j : ℕ) → i < j → cells_in words group i j ≡ false
 
 -- the table of a rule
-pub record IsFilled (rule : Rule) (text : Text) (cells : Cells) : Type 0 where
+pub record IsRuleTable (rule : Rule) (text : Text) (cells : Cells) : Type 0 where
   pub inside : (i j : ℕ) → i ≤ length text → j ≤ i → cells i j ≡ cell_of rule text cells i j
   pub past : (i j : ℕ) → length text < i → cells i j ≡ false
   pub above : (i j : ℕ) → i < j → cells i j ≡ false

@@ -3,7 +3,7 @@
 ghost use Rattle.std.specs.Prelude.{◌≡◌, ◌+◌, ◌*◌, ◌<◌, ◌^◌, ◌≤◌, ◌-◌, ◌&&◌, ℕ, length, IfOk};
 ghost use Rattle.std.specs.List.{list_any, range_with_len};
 ghost use Rattle.ados_pattern.specs.CharTest.{has_test, test_of};
-ghost use Rattle.ados_pattern.specs.Table.{IsBuilt, IsFilled, byte_at, cell_of, cells_in, cells_of, column_of, is_set, leads, row_cell, word_of};
+ghost use Rattle.ados_pattern.specs.Table.{IsBuilt, IsRuleTable, byte_at, cell_of, cells_in, cells_of, column_of, is_set, leads, row_cell, table_word};
 
 use crate::bytes::CharTest;
 use crate::words::{before, below, has_bit, led_to, single, up_to, word_at};
@@ -69,7 +69,7 @@ impl Table {
     /// The table of a rule, for a text.
     pub fn filled(alloc: Global, rule: &Rule, text: &[u8]) -> Result<Table, NoMemory>
         requires { length text.now < 2 ^ 63 }
-        ensures { IfOk result (λ t. IsFilled rule.now text.now (cells_of t)) }
+        ensures { IfOk result (λ t. IsRuleTable rule.now text.now (cells_of t)) }
     {
         let first = column_for(alloc, rule, text, 0)?;
         let mut more = Vec::new(alloc);
@@ -151,7 +151,7 @@ pub fn next_byte(text: &[u8], start: usize) -> Option<u8>
 // limit.
 fn through(first: &Table, start: usize, rest: &[u64], limit: usize) -> u64
     requires { limit < 2 ^ 63 + 1 }
-    ensures { (b : ℕ) → b < 64 → is_set result b ≡ list_any (λ k. cells_of first.now start k && is_set (word_of rest.now k) b) (range_with_len 0 limit) }
+    ensures { (b : ℕ) → b < 64 → is_set result b ≡ list_any (λ k. cells_of first.now start k && is_set (table_word rest.now k) b) (range_with_len 0 limit) }
 {
     let mut word = 0;
     for group in 0..limit / 64 + 1 {

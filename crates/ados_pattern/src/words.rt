@@ -1,7 +1,7 @@
 //! Words of bits, each an end of a start: in a group of 64 ends the bit `b` is the end `64 * group + b`.
 
 ghost use Rattle.std.specs.Prelude.{◌≡◌, ◌==◌, ◌+◌, ◌*◌, ◌<◌, ◌^◌, ◌&&◌, ℕ, true, nat_le, nat_lt, not};
-ghost use Rattle.ados_pattern.specs.Table.{is_set, leads, word_of};
+ghost use Rattle.ados_pattern.specs.Table.{is_set, leads, table_word};
 
 /// The ends in the words of the rest to which the middles of one group lead.
 pub fn led_to(middles: u64, group: usize, rest: &[u64]) -> u64
@@ -20,7 +20,7 @@ pub fn led_to(middles: u64, group: usize, rest: &[u64]) -> u64
 
 /// The word at a place, or 0.
 pub fn word_at(words: &[u64], place: usize) -> u64
-    ensures { result ≡ word_of words.now place }
+    ensures { result ≡ table_word words.now place }
 {
     match words.get(place) {
         Some(word) => *word,

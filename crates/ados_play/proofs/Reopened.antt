@@ -7,7 +7,7 @@ use Rattle.std.proofs.lemmas.Grind.{common_steps}
 use Rattle.std.proofs.lemmas.Option.{slice_get_past}
 use Rattle.ados_machine.specs.declared.children.ChildState.TheVariants.{Closed}
 use Rattle.ados_machine.specs.Children.{child_of_shell, child_in}
-use Rattle.ados_machine.specs.World.{WorldState, flatten, running_numbers}
+use Rattle.ados_machine.specs.World.{WorldState, option_flatten, running_numbers}
 use Rattle.ados_launcher.specs.declared.calls.Call.{Call}
 use Rattle.ados_launcher.specs.Lifecycles.{LifecycleState, Between, lifecycle_for_state, lifecycle_of}
 use Rattle.ados_launch.specs.Agreement.{Agrees}
@@ -15,7 +15,7 @@ use Rattle.ados_launch.proofs.Over.{size-of}
 
 past-numbers : (w : WorldState) (k : ℕ) → length w.shells ≡ 20 → 21 ≤ k → child_in w k ≡ Closed
 past-numbers w zero size past = refl
-past-numbers w (suc i) size past = ap (λ found. child_of_shell (flatten found)) (slice_get_past w.shells i (rw size (grind (arith, common_steps))))
+past-numbers w (suc i) size past = ap (λ found. child_of_shell (option_flatten found)) (slice_get_past w.shells i (rw size (grind (arith, common_steps))))
 
 pub reopened : (w : WorldState) (calls : List Call) (n : ℕ) (table : List Bool) → table ≡ running_numbers w → length table ≡ 20 → 21 ≤ n →
     ((k : ℕ) → lifecycle_of k calls ≡ (if nat_lt k n then lifecycle_for_state (child_in w k) else Between)) → Agrees w calls

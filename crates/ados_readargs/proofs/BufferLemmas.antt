@@ -10,7 +10,7 @@ use Rattle.ados_items.specs.Items.{bytes_between, value_of}
 use Rattle.ados_items.specs.declared.items.Item.{Item}
 use Rattle.ados_items.specs.declared.items.Item.TheVariants.{Word}
 use Rattle.ados_readargs.specs.declared.buffers.Span.{Span}
-use Rattle.ados_readargs.specs.Buffers.{text_in, texts_in, LiesIn, AreLaid}
+use Rattle.ados_readargs.specs.Buffers.{span_text, span_texts, LiesIn, AreLaid}
 
 between-append : (bytes more : List ℕ) (from to : ℕ) → from ≤ to → to ≤ length bytes → bytes_between (bytes ++ more) from to ≡ bytes_between bytes from to
 between-append bytes more from to a b =
@@ -22,20 +22,20 @@ between-after bytes more from to a b =
     ap (λ k. take (to - from) (drop k (bytes ++ more))) a ∙ ap (take (to - from)) (drop-append_seam bytes more) ∙ take_all (to - from) more (omega arith)
 
 -- the texts so far
-pub texts-kept : (bytes more : List ℕ) (spans : List Span) → All (LiesIn (length bytes)) spans → texts_in (bytes ++ more) spans ≡ texts_in bytes spans
+pub texts-kept : (bytes more : List ℕ) (spans : List Span) → All (LiesIn (length bytes)) spans → span_texts (bytes ++ more) spans ≡ span_texts bytes spans
 texts-kept bytes more [] within = refl
 texts-kept bytes more (span ∷ spans) within =
     let here : LiesIn (length bytes) span = within 0 span (omega arith) in
-    let first : text_in (bytes ++ more) span ≡ text_in bytes span = between-append bytes more span.from span.to here.0 here.1 in
+    let first : span_text (bytes ++ more) span ≡ span_text bytes span = between-append bytes more span.from span.to here.0 here.1 in
     let rest = texts-kept bytes more spans (λ k d h. within (suc k) d (omega arith)) in cc
 
 -- and one more after them
 pub one-more : (bytes more : List ℕ) (spans : List Span) (from to : ℕ) → from ≡ length bytes → to ≡ length bytes + length more → All (LiesIn (length bytes)) spans
-    → texts_in (bytes ++ more) (spans ++ record { from = from; to = to } ∷ []) ≡ texts_in bytes spans ++ more ∷ []
+    → span_texts (bytes ++ more) (spans ++ record { from = from; to = to } ∷ []) ≡ span_texts bytes spans ++ more ∷ []
 one-more bytes more spans from to a b within =
-    map-append (text_in (bytes ++ more)) spans (record { from = from; to = to } ∷ [])
-    ∙ ap (λ texts. texts ++ text_in (bytes ++ more) (record { from = from; to = to }) ∷ []) (texts-kept bytes more spans within)
-    ∙ ap (λ text. texts_in bytes spans ++ text ∷ []) (between-after bytes more from to a b)
+    map-append (span_text (bytes ++ more)) spans (record { from = from; to = to } ∷ [])
+    ∙ ap (λ texts. texts ++ span_text (bytes ++ more) (record { from = from; to = to }) ∷ []) (texts-kept bytes more spans within)
+    ∙ ap (λ text. span_texts bytes spans ++ text ∷ []) (between-after bytes more from to a b)
 
 pub ruleset laid = (texts-kept, one-more)
 
@@ -65,15 +65,15 @@ word-laid bytes line base from to spans laid long a b =
 
 pub word-pushed : (bytes line : List ℕ) (base from to : ℕ) (first spans : List Span) (items : List Item) (place : ℕ)
     → IsText bytes → drop base bytes ≡ line → place < length items → get_or items place (Word 0 0) ≡ Word from to
-    → texts_in bytes spans ≡ texts_in bytes first ++ map (value_of line) (take place items)
-    → texts_in bytes (spans ++ record { from = base + from; to = base + to } ∷ []) ≡ texts_in bytes first ++ map (value_of line) (take (place + 1) items)
+    → span_texts bytes spans ≡ span_texts bytes first ++ map (value_of line) (take place items)
+    → span_texts bytes (spans ++ record { from = base + from; to = base + to } ∷ []) ≡ span_texts bytes first ++ map (value_of line) (take (place + 1) items)
 word-pushed bytes line base from to first spans items place ascii copied w e h =
-    map-append (text_in bytes) spans (record { from = base + from; to = base + to } ∷ [])
+    map-append (span_text bytes) spans (record { from = base + from; to = base + to } ∷ [])
     ∙ ap (λ texts. texts ++ bytes_between bytes (base + from) (base + to) ∷ []) h
-    ∙ ap (λ text. (texts_in bytes first ++ map (value_of line) (take place items)) ++ text ∷ []) (word-copied bytes line base from to ascii copied)
-    ∙ append_assoc (texts_in bytes first) (map (value_of line) (take place items)) (value_of line (Word from to) ∷ [])
-    ∙ ap (λ more. texts_in bytes first ++ more) (sym (map-append (value_of line) (take place items) (Word from to ∷ [])))
-    ∙ ap (λ more. texts_in bytes first ++ map (value_of line) more) (ap (λ item. take place items ++ item ∷ []) (sym e) ∙ sym (take_more items place (Word 0 0) w))
+    ∙ ap (λ text. (span_texts bytes first ++ map (value_of line) (take place items)) ++ text ∷ []) (word-copied bytes line base from to ascii copied)
+    ∙ append_assoc (span_texts bytes first) (map (value_of line) (take place items)) (value_of line (Word from to) ∷ [])
+    ∙ ap (λ more. span_texts bytes first ++ more) (sym (map-append (value_of line) (take place items) (Word from to ∷ [])))
+    ∙ ap (λ more. span_texts bytes first ++ map (value_of line) more) (ap (λ item. take place items ++ item ∷ []) (sym e) ∙ sym (take_more items place (Word 0 0) w))
 
 -- the spans so far, if a line was copied after the bytes
 pub line-copied : (bytes line : List ℕ) (spans : List Span) → AreLaid bytes spans → IsText line → AreLaid (bytes ++ line) spans

@@ -10,7 +10,7 @@ use Rattle.ados_readargs.specs.declared.readings.Reading.{Reading}
 use Rattle.ados_readargs.specs.Options.{takes_value, option_qualifiers}
 use Rattle.ados_readargs.specs.Readings.{Readings, is_filled}
 use Rattle.ados_readargs.specs.Meanings.{is_full}
-use Rattle.ados_readargs.specs.Phrases.{Phrase, words_in, fillings, plain_words, may_fill, IsPhrase, IsLast, ArePhrases}
+use Rattle.ados_readargs.specs.Phrases.{Phrase, words_in, fillings, plain_words, may_fill, IsPhrase, IsLastPhrase, ArePhrases}
 use Rattle.ados_readargs.specs.FirstFault.{IsFaultAt, MayContinue}
 use Rattle.ados_readargs.proofs.PhraseLemmas.{Said, with_phrase, says-more}
 
@@ -42,7 +42,7 @@ stop options line readings words found answer here e =
     )
 
 pub comes-more : (options : List TemplateOption) (line : List ℕ) (before : Readings) (answer : Result Readings ArgFault) (phrase : Phrase) (words : List LineWord)
-    → IsPhrase options line before.given phrase → ((rest : List Phrase) → IsLast phrase rest)
+    → IsPhrase options line before.given phrase → ((rest : List Phrase) → IsLastPhrase phrase rest)
     → Comes options line (with_phrase before phrase) words answer → Comes options line before (words_in phrase ++ words) answer
 comes-more options line before (Ok after) phrase words here last p = says-more options line before after phrase words here last p
 comes-more options line before (Err found) phrase words here last p =

@@ -15,7 +15,7 @@ use Rattle.ados_readargs.specs.declared.words.LineWord.TheVariants as word
 use Rattle.ados_readargs.specs.Options.{no_qualifiers}
 use Rattle.ados_readargs.specs.Readings.{Readings}
 use Rattle.ados_readargs.specs.Meanings.{is_keyword, keyword_of, trimmed_end}
-use Rattle.ados_readargs.specs.Phrases.{Phrase, words_in, fillings, plain_words, IsKeyword, EndsInBlanks, IsPhrase, IsLast, ArePhrases}
+use Rattle.ados_readargs.specs.Phrases.{Phrase, words_in, fillings, plain_words, IsKeyword, EndsInBlanks, IsPhrase, IsLastPhrase, ArePhrases}
 
 -- phrases that are these words, and what was read after them by what was read before
 pub record Says (options : List TemplateOption) (line : List ℕ) (before after : Readings) (whole : List LineWord) (phrases : List Phrase) : Type 0 where
@@ -35,7 +35,7 @@ pub says-none : (options : List TemplateOption) (line : List ℕ) (readings : Re
 says-none options line readings = ([], record { words = refl; said = tt; given = sym (append-nil _); plain = sym (append-nil _) })
 
 pub says-more : (options : List TemplateOption) (line : List ℕ) (before after : Readings) (phrase : Phrase) (words : List LineWord)
-    → IsPhrase options line before.given phrase → ((tail : List Phrase) → IsLast phrase tail)
+    → IsPhrase options line before.given phrase → ((tail : List Phrase) → IsLastPhrase phrase tail)
     → Said options line (with_phrase before phrase) after words → Said options line before after (words_in phrase ++ words)
 says-more options line before after phrase words here last p =
     let s = p.1 in (

@@ -16,9 +16,9 @@ use Rattle.ados_readargs.specs.declared.meanings.Meaning.{Meaning}
 use Rattle.ados_readargs.specs.declared.meanings.Meaning.TheVariants as says
 use Rattle.ados_readargs.specs.Options.{takes_value, option_qualifiers}
 use Rattle.ados_readargs.specs.Readings.{Readings, is_filled, no_readings}
-use Rattle.ados_readargs.specs.Words.{item_of, is_open_quote, is_equal}
+use Rattle.ados_readargs.specs.Words.{item_of, is_open_quote, is_equals_sign}
 use Rattle.ados_readargs.specs.Meanings.{keyword_of, trimmed_end, is_full, given_meaning, keyword_value_meaning, switch_meaning, keyword_meaning, plain_meaning, word_meaning, value_meaning, next_meaning, rest_of, free_meaning, next_open, read_by_meaning, read_from}
-use Rattle.ados_readargs.specs.Phrases.{Phrase, Switch, Joined, Parted, Direct, Rest, Plain, words_in, fillings, plain_words, IsKeyword, is_whole, has_value, may_fill, is_rest_next, IsBetween, IsPlainWord, IsPhrase, IsLast}
+use Rattle.ados_readargs.specs.Phrases.{Phrase, Switch, Joined, Parted, Direct, Rest, Plain, words_in, fillings, plain_words, IsKeyword, is_whole, has_value, may_fill, is_rest_next, IsBetween, IsPlainWord, IsPhrase, IsLastPhrase}
 use Rattle.ados_readargs.specs.FirstFault.{IsSkippedEqual, IsFaultAt, twice, full_joined, full_parted, no_value, open_value, open_word}
 use Rattle.ados_readargs.proofs.PhraseLemmas.{Said, with_phrase, says-none, keyword-is, no-keyword, trimmed-is}
 use Rattle.ados_readargs.proofs.FaultSteps.{Comes, comes-more, first-free, full-is, full-not, given-nil, named-not, plain-nil, stop, switch-not, takes-not, toggle-free}
@@ -26,7 +26,7 @@ use Rattle.ados_readargs.proofs.FaultSteps.{Comes, comes-more, first-free, full-
 -- the words so far, if a keyword waits for its value: the keyword, and an `=` alone that was skipped
 abbrev IsPassed : LineWord → Bool → List LineWord → Type 0
 IsPassed keyword equal [] = equal ≡ is_whole keyword
-IsPassed keyword equal (passed ∷ []) = (equal ≡ false) × ((is_whole keyword && is_equal passed) ≡ true)
+IsPassed keyword equal (passed ∷ []) = (equal ≡ false) × ((is_whole keyword && is_equals_sign passed) ≡ true)
 IsPassed keyword equal (passed ∷ other ∷ more) = ⊥
 
 record IsWaiting (options : List TemplateOption) (line : List ℕ) (given : List Reading) (place : ℕ) (equal : Bool) (front : List LineWord) (keyword : LineWord) (passed : List LineWord) : Type 0 where
@@ -62,7 +62,7 @@ given-said options line words readings answer full place it whole refuses then_ 
 
 -- a phrase that fills an option, and what follows it
 filling-said : (options : List TemplateOption) (line : List ℕ) (words : List LineWord) (readings : Readings) (answer : Result Readings ArgFault) (phrase : Phrase) (reading : Reading)
-    → fillings phrase ≡ reading ∷ [] → plain_words phrase ≡ [] → IsPhrase options line readings.given phrase → ((after : List Phrase) → IsLast phrase after)
+    → fillings phrase ≡ reading ∷ [] → plain_words phrase ≡ [] → IsPhrase options line readings.given phrase → ((after : List Phrase) → IsLastPhrase phrase after)
     → GoesOn options line words answer → read_from options line (record readings { given = readings.given ++ reading ∷ [] }) Free words ≡ answer
     → Comes options line readings (words_in phrase ++ words) answer
 filling-said options line words readings answer phrase reading fills nothing here last goes e =
@@ -166,7 +166,7 @@ free-said options line words readings answer said (Some place) open_is goes =
 
 -- an `=` alone is skipped
 passes : (options : List TemplateOption) (line : List ℕ) (given : List Reading) (place : ℕ) (equal : Bool) (front : List LineWord) (keyword : LineWord) (passed : List LineWord) (said : LineWord)
-    → IsWaiting options line given place equal front keyword passed → (equal && is_equal said) ≡ true
+    → IsWaiting options line given place equal front keyword passed → (equal && is_equals_sign said) ≡ true
     → IsWaiting options line given place false (front ++ said ∷ []) keyword (said ∷ [])
 passes options line given place equal front keyword [] said w alone =
     record {
@@ -175,23 +175,23 @@ passes options line given place equal front keyword [] said w alone =
       takes = w.takes;
       alone = w.alone;
       no_rest = w.no_rest;
-      between = (refl, ap (λ b. b && is_equal said) (sym w.between) ∙ alone);
+      between = (refl, ap (λ b. b && is_equals_sign said) (sym w.between) ∙ alone);
     }
 passes options line given place equal front keyword (one ∷ []) said w alone =
-    let no : (equal && is_equal said) ≡ false = ap (λ b. b && is_equal said) w.between.0 in cc
+    let no : (equal && is_equals_sign said) ≡ false = ap (λ b. b && is_equals_sign said) w.between.0 in cc
 passes options line given place equal front keyword (one ∷ other ∷ more) said w alone = absurd w.between
 
 -- the word is the value
 parted : (options : List TemplateOption) (line : List ℕ) (words : List LineWord) (readings : Readings) (answer : Result Readings ArgFault) (said : LineWord) (place : ℕ) (equal : Bool) (front : List LineWord)
     (keyword : LineWord) (passed : List LineWord) → IsWaiting options line readings.given place equal front keyword passed → is_open_quote said ≡ false
-    → (equal && is_equal said) ≡ false → may_fill options readings.given place ≡ true → GoesOn options line words answer
+    → (equal && is_equals_sign said) ≡ false → may_fill options readings.given place ≡ true → GoesOn options line words answer
     → read_from options line (record readings { given = readings.given ++ Given place (item_of said) ∷ [] }) Free words ≡ answer
     → Comes options line readings (front ++ said ∷ words) answer
 parted options line words readings answer said place equal front keyword [] w closed other free goes e =
     let P : List LineWord → Type 0 = λ l. Comes options line readings l answer in
     subst P (ap (λ l. l ++ said ∷ words) (sym w.front_is))
     (filling-said options line words readings answer (Parted place keyword [] said) (Given place (item_of said)) refl refl
-    (record { keyword = w.named; free = free; no_rest = w.no_rest }, w.takes, w.alone, ap (λ b. b && is_equal said) (sym w.between) ∙ other, closed)
+    (record { keyword = w.named; free = free; no_rest = w.no_rest }, w.takes, w.alone, ap (λ b. b && is_equals_sign said) (sym w.between) ∙ other, closed)
     (λ _. tt) goes e)
 parted options line words readings answer said place equal front keyword (one ∷ []) w closed other free goes e =
     let P : List LineWord → Type 0 = λ l. Comes options line readings l answer in
@@ -202,8 +202,8 @@ parted options line words readings answer said place equal front keyword (one �
 parted options line words readings answer said place equal front keyword (one ∷ two ∷ more) w closed other free goes e = absurd w.between
 
 -- what follows a keyword that waits for its value, in the words of phrases
-between-is : (keyword said : LineWord) (equal : Bool) (passed : List LineWord) → IsPassed keyword equal passed → (equal && is_equal said) ≡ false → IsBetween keyword passed said
-between-is keyword said equal [] p other = ap (λ b. b && is_equal said) (sym p) ∙ other
+between-is : (keyword said : LineWord) (equal : Bool) (passed : List LineWord) → IsPassed keyword equal passed → (equal && is_equals_sign said) ≡ false → IsBetween keyword passed said
+between-is keyword said equal [] p other = ap (λ b. b && is_equals_sign said) (sym p) ∙ other
 between-is keyword said equal (one ∷ []) p other = p.1
 between-is keyword said equal (one ∷ two ∷ more) p other = absurd p
 
@@ -212,7 +212,7 @@ over-is keyword equal [] p = tt
 over-is keyword equal (one ∷ []) p = p.1
 over-is keyword equal (one ∷ two ∷ more) p = absurd p
 
-open-apart : (said : LineWord) (equal : Bool) → is_open_quote said ≡ true → (equal && is_equal said) ≡ false
+open-apart : (said : LineWord) (equal : Bool) → is_open_quote said ≡ true → (equal && is_equals_sign said) ≡ false
 open-apart (word.Run from key to) equal e = cc
 open-apart (word.Quoted from to) equal e = cc
 open-apart (word.Open from) true e = refl
@@ -229,7 +229,7 @@ opened-at options line words given said place equal front keyword passed w opene
 
 full-at : (options : List TemplateOption) (line : List ℕ) (words : List LineWord) (given : List Reading) (said : LineWord) (place : ℕ) (equal : Bool) (front : List LineWord)
     (keyword : LineWord) (passed : List LineWord) → IsWaiting options line given place equal front keyword passed → is_open_quote said ≡ false
-    → (equal && is_equal said) ≡ false → is_full (option_qualifiers options place) (is_filled place given) ≡ true
+    → (equal && is_equals_sign said) ≡ false → is_full (option_qualifiers options place) (is_filled place given) ≡ true
     → IsFaultAt options line given (front ++ said ∷ words) fault.TooMany
 full-at options line words given said place equal front keyword passed w closed other taken =
     let P : List LineWord → Type 0 = λ l. IsFaultAt options line given (l ++ said ∷ words) fault.TooMany in
@@ -257,7 +257,7 @@ waiting-said options line words readings answer said place equal front keyword p
     (λ opened e. stop options line readings (front ++ said ∷ words) fault.Unmatched answer
     (opened-at options line words readings.given said place equal front keyword passed w opened) e)
     (λ closed.
-    cond_both (equal && is_equal said) (says.Wait place false) (given_meaning full place (item_of said)) P
+    cond_both (equal && is_equals_sign said) (says.Wait place false) (given_meaning full place (item_of said)) P
     (λ alone e.
     let Q : List LineWord → Type 0 = λ l. Comes options line readings l answer in
     subst Q (append_assoc front (said ∷ []) words)

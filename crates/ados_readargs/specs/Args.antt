@@ -29,12 +29,12 @@ one_of line [] = Absent
 one_of line (item ∷ items) = One (value_of line item)
 
 -- a switch or toggle that was named `named` times is on
-abbrev pub is_named : Qualifiers → ℕ → Bool
-is_named q named = if q.switch then nat_lt 0 named else named % 2 == 1
+abbrev pub sets_flag : Qualifiers → ℕ → Bool
+sets_flag q named = if q.switch then nat_lt 0 named else named % 2 == 1
 
 -- the argument of a switch or toggle that was named `named` times
 abbrev pub named_arg : Qualifiers → ℕ → Arg
-named_arg q named = switch_arg (is_named q named)
+named_arg q named = switch_arg (sets_flag q named)
 
 -- the argument of an option that takes values and holds the items
 abbrev pub value_arg : Qualifiers → Bytes → List Item → Arg
@@ -62,11 +62,11 @@ texts_in (One text) = text ∷ []
 texts_in (Many texts) = texts
 
 -- the argument is on
-abbrev pub is_set : Arg → Bool
-is_set Absent = false
-is_set On = true
-is_set (One text) = false
-is_set (Many texts) = false
+abbrev pub is_flag_set : Arg → Bool
+is_flag_set Absent = false
+is_flag_set On = true
+is_flag_set (One text) = false
+is_flag_set (Many texts) = false
 
 -- the text of an argument without /M
 abbrev pub text_in : Arg → Option Text
@@ -87,7 +87,7 @@ or_absent (Some arg) = arg
 
 -- the option at a place is on
 abbrev pub has_switch : List Arg → ℕ → Bool
-has_switch args place = option_map_or is_set (slice_get args place) false
+has_switch args place = option_map_or is_flag_set (slice_get args place) false
 
 -- the text of the option at a place
 abbrev pub option_text : List Arg → ℕ → Option Text

@@ -6,12 +6,12 @@ use Rattle.ados_items.specs.Items.{bytes_between}
 use Rattle.ados_readargs.specs.declared.buffers.Span.{Span}
 
 -- the text of a span
-abbrev pub text_in : Bytes → Span → Text
-text_in bytes span = bytes_between bytes span.from span.to
+abbrev pub span_text : Bytes → Span → Text
+span_text bytes span = bytes_between bytes span.from span.to
 
 -- the texts of the spans
-abbrev pub texts_in : Bytes → List Span → List Text
-texts_in bytes spans = map (text_in bytes) spans
+abbrev pub span_texts : Bytes → List Span → List Text
+span_texts bytes spans = map (span_text bytes) spans
 
 -- the span is within the first `count` bytes
 abbrev pub LiesIn : ℕ → Span → Type 0

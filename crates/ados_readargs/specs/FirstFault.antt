@@ -11,10 +11,10 @@ use Rattle.ados_readargs.specs.Args.{args_of}
 use Rattle.ados_readargs.specs.Checks.{lacks, has_bad}
 use Rattle.ados_readargs.specs.Fill.{parsed_args}
 use Rattle.ados_readargs.specs.Options.{takes_value, option_qualifiers}
-use Rattle.ados_readargs.specs.Phrases.{Phrase, words_in, IsKeyword, IsBetween, IsLast, ArePhrases, has_value, is_rest_next, is_whole, may_fill, readings_of_phrases}
+use Rattle.ados_readargs.specs.Phrases.{Phrase, words_in, IsKeyword, IsBetween, IsLastPhrase, ArePhrases, has_value, is_rest_next, is_whole, may_fill, readings_of_phrases}
 use Rattle.ados_readargs.specs.Readings.{is_filled}
 use Rattle.ados_readargs.specs.Shares.{is_left}
-use Rattle.ados_readargs.specs.Words.{is_equal, is_open_quote, line_words_of}
+use Rattle.ados_readargs.specs.Words.{is_equals_sign, is_open_quote, line_words_of}
 
 -- a keyword of the option at a place, which takes a value
 pub record TakesValue (options : List TemplateOption) (line : Bytes) (before : List Reading) (place : ℕ) (keyword : LineWord) : Type 0 where
@@ -25,7 +25,7 @@ pub record TakesValue (options : List TemplateOption) (line : Bytes) (before : L
 -- nothing follows a keyword, or only an `=` alone that is skipped
 abbrev pub IsSkippedEqual : LineWord → List LineWord → Type 0
 IsSkippedEqual keyword [] = Unit {0}
-IsSkippedEqual keyword (equal ∷ []) = (is_whole keyword && is_equal equal) ≡ true
+IsSkippedEqual keyword (equal ∷ []) = (is_whole keyword && is_equals_sign equal) ≡ true
 IsSkippedEqual keyword (equal ∷ other ∷ more) = ⊥
 
 -- The fault at the beginning of words, after these fillings: a switch that was set before; a value for an option that
@@ -51,7 +51,7 @@ pub data IsFaultAt (options : List TemplateOption) (line : Bytes) (before : List
 -- words may follow these phrases: none of them is the rest of the line
 abbrev pub MayContinue : List Phrase → Type 0
 MayContinue [] = Unit {0}
-MayContinue (phrase ∷ phrases) = ((after : List Phrase) → IsLast phrase after) × MayContinue phrases
+MayContinue (phrase ∷ phrases) = ((after : List Phrase) → IsLastPhrase phrase after) × MayContinue phrases
 
 -- the words of the line are these phrases, and then these words
 pub record ArePhrasesAndWords (options : List TemplateOption) (line : Bytes) (phrases : List Phrase) (after : List LineWord) : Type 0 where

@@ -18,7 +18,7 @@ use Rattle.ados_readargs.specs.declared.meanings.Pending.TheVariants.{Free, Valu
 use Rattle.ados_readargs.specs.declared.meanings.Meaning.{Meaning}
 use Rattle.ados_readargs.specs.declared.meanings.Meaning.TheVariants.{Read, Plain, Wait, Stop, Refuse}
 use Rattle.ados_readargs.specs.Options.{has_name, is_rest, takes_value, option_qualifiers}
-use Rattle.ados_readargs.specs.Words.{item_of, start_of, is_open_quote, is_equal}
+use Rattle.ados_readargs.specs.Words.{item_of, start_of, is_open_quote, is_equals_sign}
 use Rattle.ados_readargs.specs.Readings.{Readings, no_readings, is_filled, first_vacant}
 
 -- a run whose first Word is the name, and which ends there or not, is a keyword of the option
@@ -75,7 +75,7 @@ word_meaning options given vacant word (Some place) = keyword_meaning (option_qu
 abbrev pub value_meaning : Bool → ℕ → Bool → LineWord → Meaning
 value_meaning full place equal word =
     if is_open_quote word then Refuse fault.Unmatched else
-    (if equal && is_equal word then Wait place false else given_meaning full place (item_of word))
+    (if equal && is_equals_sign word then Wait place false else given_meaning full place (item_of word))
 
 -- what a word says that is not the rest of the line
 abbrev pub next_meaning : List TemplateOption → Bytes → List Reading → LineWord → Option ℕ → Meaning

@@ -26,8 +26,8 @@ abbrev pub no_qualifiers : Qualifiers
 no_qualifiers = record { required = false; keyword = false; switch = false; toggle = false; number = false; many = false; rest = false }
 
 -- none of /K, /S and /T
-abbrev pub is_plain : Qualifiers → Bool
-is_plain q = not (q.keyword || q.switch || q.toggle)
+abbrev pub is_positional : Qualifiers → Bool
+is_positional q = not (q.keyword || q.switch || q.toggle)
 
 -- neither /S nor /T
 abbrev pub takes_value : Qualifiers → Bool

@@ -18,7 +18,7 @@ use Rattle.ados_readargs.specs.Meanings.{is_keyword, next_open}
 use Rattle.ados_readargs.specs.Options.{takes_value, option_qualifiers}
 use Rattle.ados_readargs.specs.Readings.{Readings, is_filled}
 use Rattle.ados_readargs.specs.Shares.{TakesAll}
-use Rattle.ados_readargs.specs.Words.{line_words_of, item_of, start_of, is_open_quote, is_equal}
+use Rattle.ados_readargs.specs.Words.{line_words_of, item_of, start_of, is_open_quote, is_equals_sign}
 
 -- Words of a line that say one thing, with the place of the option of which they say it: a keyword that takes no value;
 -- a keyword and its value after the `=`, in one run; a keyword, what is between, and the word that is its value; a
@@ -100,8 +100,8 @@ pub record IsKeyed (options : List TemplateOption) (line : Bytes) (before : List
 
 -- the value of a keyword is the next word; if the keyword has no `=`, one that is a word of its own is skipped
 abbrev pub IsBetween : LineWord → List LineWord → LineWord → Type 0
-IsBetween keyword [] value = (is_whole keyword && is_equal value) ≡ false
-IsBetween keyword (equal ∷ []) value = (is_whole keyword && is_equal equal) ≡ true
+IsBetween keyword [] value = (is_whole keyword && is_equals_sign value) ≡ false
+IsBetween keyword (equal ∷ []) value = (is_whole keyword && is_equals_sign equal) ≡ true
 IsBetween keyword (equal ∷ other ∷ more) value = ⊥
 
 -- a word that is not a keyword, and not the rest of the line
@@ -130,19 +130,19 @@ IsPhrase options line before (Rest place word after end) = (next_open options be
 IsPhrase options line before (Plain word) = IsPlainWord options line before word × (next_open options before ≡ None)
 
 -- nothing follows the rest of the line
-abbrev pub IsLast : Phrase → List Phrase → Type 0
-IsLast (Switch place keyword) after = Unit {0}
-IsLast (Joined place keyword) after = Unit {0}
-IsLast (Parted place keyword between value) after = Unit {0}
-IsLast (Direct place word) after = Unit {0}
-IsLast (Rest place word words end) after = after ≡ []
-IsLast (Plain word) after = Unit {0}
+abbrev pub IsLastPhrase : Phrase → List Phrase → Type 0
+IsLastPhrase (Switch place keyword) after = Unit {0}
+IsLastPhrase (Joined place keyword) after = Unit {0}
+IsLastPhrase (Parted place keyword between value) after = Unit {0}
+IsLastPhrase (Direct place word) after = Unit {0}
+IsLastPhrase (Rest place word words end) after = after ≡ []
+IsLastPhrase (Plain word) after = Unit {0}
 
 -- the phrases come in order, after the fillings before them
 abbrev pub ArePhrases : List TemplateOption → Bytes → List Reading → List Phrase → Type 0
 ArePhrases options line before [] = Unit {0}
 ArePhrases options line before (phrase ∷ after) =
-    IsPhrase options line before phrase × IsLast phrase after × ArePhrases options line (before ++ fillings phrase) after
+    IsPhrase options line before phrase × IsLastPhrase phrase after × ArePhrases options line (before ++ fillings phrase) after
 
 -- what the phrases say: the fillings and the plain words, in order
 abbrev pub readings_of_phrases : List Phrase → Readings

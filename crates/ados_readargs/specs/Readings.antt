@@ -6,7 +6,7 @@ use Rattle.ados_readargs.specs.declared.options.Qualifiers.{Qualifiers}
 use Rattle.ados_readargs.specs.declared.options.TemplateOption.{TemplateOption}
 use Rattle.ados_readargs.specs.declared.readings.Reading.{Reading}
 use Rattle.ados_readargs.specs.declared.readings.Reading.TheVariants.{Named, Given}
-use Rattle.ados_readargs.specs.Options.{is_plain}
+use Rattle.ados_readargs.specs.Options.{is_positional}
 
 -- what the words of a line were read as: what is said of options, and the plain words, which options take once all words are read
 pub record Readings : Type 0 where
@@ -28,7 +28,7 @@ is_filled place given = list_any (fills_option place) given
 
 -- the option is plain, and no reading fills it
 abbrev pub is_vacant : ℕ → Qualifiers → List Reading → Bool
-is_vacant place q given = is_plain q && not (is_filled place given)
+is_vacant place q given = is_positional q && not (is_filled place given)
 
 -- the first option that is vacant, in options that begin at a place
 abbrev pub first_vacant_from : ℕ → List TemplateOption → List Reading → Option ℕ

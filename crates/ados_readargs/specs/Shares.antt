@@ -3,7 +3,7 @@ use Rattle.std.specs.Prelude.{◌≡◌, ℕ, zero, suc, ◌+◌, ◌-◌, ◌==
 use Rattle.ados_items.specs.declared.items.Item.{Item}
 use Rattle.ados_readargs.specs.declared.options.TemplateOption.{TemplateOption}
 use Rattle.ados_readargs.specs.declared.readings.Reading.{Reading}
-use Rattle.ados_readargs.specs.Options.{is_plain, option_qualifiers}
+use Rattle.ados_readargs.specs.Options.{is_positional, option_qualifiers}
 use Rattle.ados_readargs.specs.Readings.{Readings, is_vacant, given_items}
 
 -- how many of the options, which begin at a place, are vacant, and have /A if that is `needed`
@@ -14,7 +14,7 @@ vacant_count needed place (option ∷ options) given =
 
 -- the option is plain and has /M
 abbrev pub is_middle : TemplateOption → Bool
-is_middle option = is_plain option.qualifiers && option.qualifiers.many
+is_middle option = is_positional option.qualifiers && option.qualifiers.many
 
 -- the place of the plain /M
 abbrev pub middle_of : List TemplateOption → Option ℕ

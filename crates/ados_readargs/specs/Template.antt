@@ -18,10 +18,10 @@ with_letter c q =
     (if c == 102 && not q.rest then Some (record q { rest = true }) else None))))))
 
 -- the same by the text of a qualifier
-abbrev pub with_piece : Bytes → Qualifiers → Option Qualifiers
-with_piece [] q = None
-with_piece (c ∷ []) q = with_letter (fold_of c) q
-with_piece (c ∷ d ∷ more) q = None
+abbrev pub with_qualifier : Bytes → Qualifiers → Option Qualifiers
+with_qualifier [] q = None
+with_qualifier (c ∷ []) q = with_letter (fold_of c) q
+with_qualifier (c ∷ d ∷ more) q = None
 
 -- the same if there are qualifiers
 abbrev pub if_qualifiers : (Qualifiers → Option Qualifiers) → Option Qualifiers → Option Qualifiers
@@ -31,7 +31,7 @@ if_qualifiers next (Some q) = next q
 -- the qualifiers with those of the pieces
 abbrev pub parsed_qualifiers : Qualifiers → List Bytes → Option Qualifiers
 parsed_qualifiers q [] = Some q
-parsed_qualifiers q (piece ∷ pieces) = if_qualifiers (λ more. parsed_qualifiers more pieces) (with_piece piece q)
+parsed_qualifiers q (piece ∷ pieces) = if_qualifiers (λ more. parsed_qualifiers more pieces) (with_qualifier piece q)
 
 -- /S and /T occur with no other qualifier
 abbrev pub qualifiers_if_alone : ℕ → Qualifiers → Option Qualifiers

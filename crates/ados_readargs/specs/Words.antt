@@ -65,7 +65,7 @@ is_open_quote (Quoted from to) = false
 is_open_quote (Open from) = true
 
 -- the word is `=` alone
-abbrev pub is_equal : LineWord → Bool
-is_equal (Run from key to) = from == key && to == from + 1
-is_equal (Quoted from to) = false
-is_equal (Open from) = false
+abbrev pub is_equals_sign : LineWord → Bool
+is_equals_sign (Run from key to) = from == key && to == from + 1
+is_equals_sign (Quoted from to) = false
+is_equals_sign (Open from) = false

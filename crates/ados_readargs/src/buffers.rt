@@ -1,7 +1,7 @@
 ghost use Rattle.std.specs.Prelude.{◌≡◌, ◌++◌, ◌+◌, ◌≤◌, [], ◌∷◌, length, map, take, drop, get_or, IfOk, OnOk, OnErr};
 ghost use Rattle.ados_text.specs.Text.{IsText};
 ghost use Rattle.ados_items.specs.Items.{value_of};
-ghost use Rattle.ados_readargs.specs.Buffers.{AreLaid, texts_in};
+ghost use Rattle.ados_readargs.specs.Buffers.{AreLaid, span_texts};
 
 use ados_items::{Item, push_value};
 use ados_text::NoMemory;
@@ -24,11 +24,11 @@ pub struct Buffer {
 
 impl Model for Buffer {
     ghost use Rattle.std.specs.Prelude.{List, ℕ};
-    ghost use Rattle.ados_readargs.specs.Buffers.{AreLaid, texts_in};
+    ghost use Rattle.ados_readargs.specs.Buffers.{AreLaid, span_texts};
 
     ghost Value = { List (List ℕ) };
 
-    ghost view = { λ b. texts_in b.bytes.items b.spans.items };
+    ghost view = { λ b. span_texts b.bytes.items b.spans.items };
 
     ghost invariant = { λ b. AreLaid b.bytes.items b.spans.items };
 }
@@ -124,7 +124,7 @@ fn lay_words(
     requires laid { AreLaid bytes.now spans.old.items }
     requires copied { drop base bytes.now ≡ line.now }
     requires len { base + length line.now ≡ length bytes.now }
-    ensures ok { IfOk result (λ count. texts_in bytes.now spans.new.items ≡ texts_in bytes.now spans.old.items ++ map (value_of line.now) (take count items.now)) }
+    ensures ok { IfOk result (λ count. span_texts bytes.now spans.new.items ≡ span_texts bytes.now spans.old.items ++ map (value_of line.now) (take count items.now)) }
     ensures within { IfOk result (λ count. count ≤ length items.now) }
     ensures laid { AreLaid bytes.now spans.new.items }
     ensures grown { length spans.old.items ≤ length spans.new.items }

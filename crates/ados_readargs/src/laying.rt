@@ -1,5 +1,5 @@
 ghost use Rattle.std.specs.Prelude.{◌≡◌, ◌++◌, ◌∷◌, [], ◌<◌, length, OnOk};
-ghost use Rattle.ados_readargs.specs.Args.{is_named, arg_at, args_of};
+ghost use Rattle.ados_readargs.specs.Args.{sets_flag, arg_at, args_of};
 
 use crate::option_list::OptionList;
 use crate::options::Qualifiers;
@@ -9,8 +9,8 @@ use crate::slots::Slots;
 use ados_text::NoMemory;
 
 // Whether a switch or toggle that was named `named` times is on.
-fn is_named(q: Qualifiers, named: usize) -> bool
-    ensures { result ≡ is_named q named }
+fn sets_flag(q: Qualifiers, named: usize) -> bool
+    ensures { result ≡ sets_flag q named }
 {
     if q.switch { named > 0 } else { named % 2 == 1 }
 }
@@ -32,7 +32,7 @@ fn lay_option(
     if q.takes_value() {
         slots.push_values(q, line, given, place, share(options, readings, place))
     } else {
-        slots.push_switch(is_named(q, named_count(given, place)))
+        slots.push_switch(sets_flag(q, named_count(given, place)))
     }
 }
 

@@ -131,7 +131,7 @@ fn value_meaning(full: bool, place: usize, equal: bool, word: LineWord) -> Meani
 {
     if word.is_open_quote() {
         Meaning::Refuse(ArgFault::Unmatched)
-    } else if equal && word.is_equal() {
+    } else if equal && word.is_equals_sign() {
         Meaning::Wait {
             option: place,
             equal: false,

@@ -147,7 +147,7 @@ fn has_number(options: &[TemplateOption]) -> bool
 fn is_middle(option: &TemplateOption) -> bool
     ensures { result ≡ is_middle option.now }
 {
-    option.qualifiers.is_plain() && option.qualifiers.many
+    option.qualifiers.is_positional() && option.qualifiers.many
 }
 
 // The place of the plain /M.

@@ -1,5 +1,5 @@
 ghost use Rattle.std.specs.Prelude.{◌≡◌};
-ghost use Rattle.ados_readargs.specs.Options.{has_name, is_plain, takes_value, no_qualifiers, option_qualifiers, is_rest};
+ghost use Rattle.ados_readargs.specs.Options.{has_name, is_positional, takes_value, no_qualifiers, option_qualifiers, is_rest};
 ghost use Rattle.std.specs.List.{list_any};
 
 use ados_text::{Texts, same_name};
@@ -40,8 +40,8 @@ impl Qualifiers {
     }
 
     /// Whether plain words can fill the option: it has none of `/K`, `/S` and `/T`.
-    pub fn is_plain(self) -> bool
-        ensures { result ≡ is_plain self }
+    pub fn is_positional(self) -> bool
+        ensures { result ≡ is_positional self }
     {
         !(self.keyword || self.switch || self.toggle)
     }

@@ -87,7 +87,7 @@ pub fn is_filled(given: &[Reading], place: usize) -> bool
 pub fn is_vacant(place: usize, q: Qualifiers, given: &[Reading]) -> bool
     ensures { result ≡ is_vacant place q given.now }
 {
-    q.is_plain() && !is_filled(given, place)
+    q.is_positional() && !is_filled(given, place)
 }
 
 /// The first option that is vacant.

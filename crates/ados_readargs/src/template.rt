@@ -6,7 +6,7 @@ ghost use Rattle.ados_readargs.specs.Checks.{has_bad};
 ghost use Rattle.ados_readargs.specs.Fill.{fill_of, LosesNoWord};
 ghost use Rattle.ados_readargs.specs.Faults.{IsFaultOf, IsBadTemplate};
 ghost use Rattle.ados_readargs.specs.Phrases.{IsFilled};
-ghost use Rattle.ados_readargs.specs.Template.{IsTemplate, with_letter, with_piece, parsed_qualifiers, qualifiers_of_pieces, is_byte, names_of, option_of, parsed_options, is_many, occurs_again, is_twice, has_twice, is_template, template_of, options_of};
+ghost use Rattle.ados_readargs.specs.Template.{IsTemplate, with_letter, with_qualifier, parsed_qualifiers, qualifiers_of_pieces, is_byte, names_of, option_of, parsed_options, is_many, occurs_again, is_twice, has_twice, is_template, template_of, options_of};
 
 use crate::args::Args;
 use crate::errors::ArgFault;
@@ -129,8 +129,8 @@ fn with_letter(letter: u8, q: Qualifiers) -> Option<Qualifiers>
     }
 }
 
-fn with_piece(piece: &[u8], q: Qualifiers) -> Option<Qualifiers>
-    ensures { result ≡ with_piece piece.now q }
+fn with_qualifier(piece: &[u8], q: Qualifiers) -> Option<Qualifiers>
+    ensures { result ≡ with_qualifier piece.now q }
 {
     match piece {
         [letter] => with_letter(fold(*letter), q),
@@ -153,7 +153,7 @@ fn letters_of(pieces: &[&[u8]]) -> Option<Qualifiers>
 {
     let mut q = Qualifiers::none();
     for piece in pieces {
-        q = with_piece(piece, q)?;
+        q = with_qualifier(piece, q)?;
     }
     Some(q)
 }

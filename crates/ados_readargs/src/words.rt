@@ -1,7 +1,7 @@
 ghost use Rattle.std.specs.Prelude.{◌≡◌, ◌+◌, true, length};
 ghost use Rattle.std.specs.List.{list_any};
 ghost use Rattle.ados_items.specs.Items.{item_at};
-ghost use Rattle.ados_readargs.specs.Words.{run_end, run_end_from, word_of, line_words_of, item_of, start_of, is_open_quote, is_equal};
+ghost use Rattle.ados_readargs.specs.Words.{run_end, run_end_from, word_of, line_words_of, item_of, start_of, is_open_quote, is_equals_sign};
 
 use ados_items::{Item, next_item};
 
@@ -48,8 +48,8 @@ impl LineWord {
     }
 
     /// Whether it is `=` alone.
-    pub fn is_equal(self) -> bool
-        ensures { result ≡ is_equal self }
+    pub fn is_equals_sign(self) -> bool
+        ensures { result ≡ is_equals_sign self }
     {
         match self {
             LineWord::Run { from, key, to } => from == key && to > from && to - from == 1,

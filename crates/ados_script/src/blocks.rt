@@ -40,7 +40,7 @@ pub fn push_entry(entries: &mut Vec<Ends>, line: usize, head: Head) -> Result<()
     ensures { OnOk result (entries.new.items ≡ with_entry entries.old.items (ends_above entries.old.items line head)) }
 {
     // Below the last line that ends a block no line has an end, so no entry is kept for it.
-    if entries.is_empty() && !is_end(head) {
+    if entries.is_empty() && !is_block_end(head) {
         return Ok(());
     }
     entries.push(ends_above(entries, line, head))?;
@@ -48,7 +48,7 @@ pub fn push_entry(entries: &mut Vec<Ends>, line: usize, head: Head) -> Result<()
 }
 
 // The line ends a block, or the first part of one.
-fn is_end(head: Head) -> bool
+fn is_block_end(head: Head) -> bool
     ensures { result ≡ is_end true head }
 {
     matches!(head, Head::EndIf | Head::Else)

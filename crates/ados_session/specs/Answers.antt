@@ -30,8 +30,8 @@ byte_in (Some (pos n)) = if nat_lt n 256 then Some n else None
 byte_in _ = None
 
 -- the exit status that digits write: 0 to 255
-abbrev pub status_of : Text → Option ℕ
-status_of digits = if is_negative digits then None else byte_in (number_of digits)
+abbrev pub status_from_digits : Text → Option ℕ
+status_from_digits digits = if is_negative digits then None else byte_in (number_of digits)
 
 -- the answer of these bytes, if they are 1 to 4,096
 abbrev pub piece : Bytes → Option Answer
@@ -45,7 +45,7 @@ bytes_answer (Err fault) = None
 -- the answer of a word that is followed by a value
 abbrev pub valued_answer : Text → Text → Option Answer
 valued_answer word value =
-    if bytes_eq word (codes "exit") then option_map Exit (status_of value) else
+    if bytes_eq word (codes "exit") then option_map Exit (status_from_digits value) else
     (if bytes_eq word (codes "bytes") then bytes_answer (decode_of value) else None)
 
 -- the answer that a text writes

@@ -101,13 +101,13 @@ abbrev pub are_records : Form → List Text → Bool
 are_records form lines = list_all (λ line. is_record (record_line form line)) lines && is_session (session_of_lines form lines)
 
 -- the form that the first line of a recording names
-abbrev pub form_of : Text → Option Form
-form_of line = if bytes_eq line (codes "amishell 1") then Some First else (if bytes_eq line (codes "amishell 2") then Some Second else None)
+abbrev pub recording_form : Text → Option Form
+recording_form line = if bytes_eq line (codes "amishell 1") then Some First else (if bytes_eq line (codes "amishell 2") then Some Second else None)
 
 -- the lines of a recording
 abbrev pub is_recording : List Text → Bool
 is_recording [] = false
-is_recording (first ∷ lines) = option_map_or (λ form. are_records form lines) (form_of first) false
+is_recording (first ∷ lines) = option_map_or (λ form. are_records form lines) (recording_form first) false
 
 -- the session that its lines record
 abbrev pub session_of : Option Form → List Text → Option RecordedSession
@@ -115,7 +115,7 @@ session_of form lines = option_map (λ found. session_of_lines found lines) form
 
 abbrev pub session_in : List Text → Option RecordedSession
 session_in [] = None
-session_in (first ∷ lines) = session_of (form_of first) lines
+session_in (first ∷ lines) = session_of (recording_form first) lines
 
 -- a fault names the first invalid line: the first, which names no form or is missing, or one after it
 abbrev pub IsFaultAfterFirst : Option Form → List Text → FileFault → Type 0
@@ -126,4 +126,4 @@ IsFaultAfterFirst None lines NoMemory = Unit {0}
 abbrev pub IsRecordingFault : List Text → FileFault → Type 0
 IsRecordingFault [] (BadLine number) = number ≡ 1
 IsRecordingFault [] NoMemory = Unit {0}
-IsRecordingFault (first ∷ lines) fault = IsFaultAfterFirst (form_of first) lines fault
+IsRecordingFault (first ∷ lines) fault = IsFaultAfterFirst (recording_form first) lines fault

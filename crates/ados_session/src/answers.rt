@@ -2,7 +2,7 @@
 ghost use Rattle.std.specs.Prelude.{◌≡◌, IfOk};
 ghost use Rattle.ados_text.specs.Text.{IsText};
 ghost use Rattle.hex.specs.Hex.{decode_of};
-ghost use Rattle.ados_session.specs.Answers.{answer_of, bytes_answer, piece, plain_answer, status_of, valued_answer};
+ghost use Rattle.ados_session.specs.Answers.{answer_of, bytes_answer, piece, plain_answer, status_from_digits, valued_answer};
 
 use crate::parts::parted;
 use ados_text::{NoMemory, Octets, PIECE_BYTES, bounded_number};
@@ -53,7 +53,7 @@ fn valued_answer(alloc: Global, word: &[u8], value: &[u8]) -> Result<Option<Answ
     ensures { IfOk result (λ answer. answer ≡ valued_answer word.now value.now) }
 {
     if word == b"exit".as_slice() {
-        Ok(status_of(value).map(Answer::Exit))
+        Ok(status_from_digits(value).map(Answer::Exit))
     } else if word == b"bytes".as_slice() {
         bytes_answer(alloc, value)
     } else {
@@ -62,8 +62,8 @@ fn valued_answer(alloc: Global, word: &[u8], value: &[u8]) -> Result<Option<Answ
 }
 
 // The exit status that digits write: 0 to 255.
-fn status_of(digits: &[u8]) -> Option<u8>
-    ensures { result ≡ status_of digits.now }
+fn status_from_digits(digits: &[u8]) -> Option<u8>
+    ensures { result ≡ status_from_digits digits.now }
 {
     if matches!(digits, [b'-', ..]) {
         return None;

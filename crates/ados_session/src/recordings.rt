@@ -5,7 +5,7 @@ ghost use Rattle.ados_text.specs.Text.{IsText};
 ghost use Rattle.ados_session.specs.Breaks.{are_rising};
 ghost use Rattle.ados_session.specs.Faults.{IsFault};
 ghost use Rattle.ados_session.specs.Hosts.{are_free};
-ghost use Rattle.ados_session.specs.Recordings.{IsRecordingFault, answer_line, are_records, break_line, break_line_in_form, form_of, is_record, is_recording, is_session, joined_sessions, record_line, record_of, session_of_lines, session_in};
+ghost use Rattle.ados_session.specs.Recordings.{IsRecordingFault, answer_line, are_records, break_line, break_line_in_form, recording_form, is_record, is_recording, is_session, joined_sessions, record_line, record_of, session_of_lines, session_in};
 
 use crate::answers::answer_of;
 use crate::breaks::{add_break, break_of};
@@ -84,15 +84,15 @@ pub fn read_recording(alloc: Global, bytes: &[u8]) -> Result<Recording, FileFaul
     let [first, records @ ..] = lines.as_slice() else {
         return Err(FileFault::BadLine(1));
     };
-    match form_of(first) {
+    match recording_form(first) {
         Some(form) => read_records(alloc, form, records),
         None => Err(FileFault::BadLine(1)),
     }
 }
 
 // The form that a first line names.
-fn form_of(line: &Text) -> Option<Form>
-    ensures { result ≡ form_of line.now }
+fn recording_form(line: &Text) -> Option<Form>
+    ensures { result ≡ recording_form line.now }
 {
     if line.as_bytes() == b"amishell 1".as_slice() {
         Some(Form::First)

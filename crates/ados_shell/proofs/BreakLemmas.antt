@@ -13,7 +13,7 @@ use Rattle.ados_machine.specs.declared.refusals.Refusal.TheVariants.{NotReady}
 use Rattle.ados_machine.specs.Breaks.{has_script, kept_after_break, marked_in}
 use Rattle.ados_machine.specs.Course.{Course}
 use Rattle.ados_machine.specs.Completions.{Completion}
-use Rattle.ados_machine.specs.Items.{Item, Broke, break_of, broken_codes, reports_of}
+use Rattle.ados_machine.specs.Items.{Item, Broke, break_item, broken_codes, reports_of}
 use Rattle.ados_machine.specs.Requests.{request_of}
 use Rattle.ados_machine.specs.Settle.{turn_by_rule, said_of}
 use Rattle.ados_machine.specs.Settled.{RuleState, RuleResult, after_break, with_items_first, end_at_break, finish, with_limit}
@@ -129,7 +129,7 @@ break-deeper scene before popped reported mid after frame frames there s f r scr
     let giving : Course → Course = λ c. record c { kept = kept_after_break frame.kind c.kept } in
     let given : Course = giving course in
     let further : RuleResult = end_at_break frames (said_of given) in
-    let item = break_of (suc (length frames)) frame in
+    let item = break_item (suc (length frames)) frame in
     let left : frames_of scene reported ≡ frames = ap (frames_of scene) r.same ∙ f in
     let below : frames_of scene mid ≡ frames = ap (drafted_frames scene.shell.now) u.frames ∙ left in
     let same : course_of scene reported ≡ course = ap (course_of scene) r.same ∙ still-course scene before popped s in
@@ -162,7 +162,7 @@ break-ends scene before popped reported after limit frame frames there s f r scr
     let course = course_of scene before in
     let said = said_of course in
     let mid : Draft = record reported { shell = record reported.shell { limit = limit } } in
-    let items = break_of (suc (length frames)) frame ∷ [] in
+    let items = break_item (suc (length frames)) frame ∷ [] in
     let left : frames_of scene reported ≡ frames = ap (frames_of scene) r.same ∙ f in
     let held : held_state reported ≡ held_state before = ap held_state r.same ∙ s.held in
     let same : course_of scene reported ≡ course = ap (course_of scene) r.same ∙ still-course scene before popped s in

@@ -13,7 +13,7 @@ use Rattle.ados_resident.specs.declared.commands.Builtin.{Builtin}
 use Rattle.ados_machine.specs.Course.{Course, Put}
 use Rattle.ados_machine.specs.Completions as machine
 use Rattle.ados_machine.specs.Completions.{Here, completion_after_input, completion_after_output}
-use Rattle.ados_machine.specs.Lines.{action_completion, action_in, put_completion, with_arguments, work_completion}
+use Rattle.ados_machine.specs.Lines.{action_completion, action_in, put_completion, with_argument_devices, work_completion}
 use Rattle.ados_machine.specs.Opening.{OpenedOutput, line_output}
 use Rattle.ados_machine.specs.Prompts.{input_lines}
 use Rattle.ados_machine.specs.Settle.{here_of, turn_of_completion}
@@ -102,12 +102,12 @@ output-ends scene before mid after word work target output ended e h g =
 
 -- the arguments of a command used devices, and its row runs
 pub work-ends : (scene : Scene) (before mid after : Draft) (builtin : Builtin) (line : Line) (target : Option Target) (input : Option (List Text)) (action : Action) (ended : Result Completion Stop)
-    → HasUsed scene before mid (with_arguments builtin line (course_of scene before))
+    → HasUsed scene before mid (with_argument_devices builtin line (course_of scene before))
     → action ≡ action_in builtin line target (next_line_place scene before) (course_of scene before)
     → HasEnded scene mid after line.command ended (action_completion line.command target input action (next_line_place scene mid) (course_of scene mid))
     → HasEnded scene before after line.command ended (work_completion builtin line target input (next_line_place scene before) (course_of scene before))
 work-ends scene before mid after builtin line target input action ended u e h =
-    subst (λ a. HasEnded scene before after line.command ended (action_completion line.command target input a (next_line_place scene before) (with_arguments builtin line (course_of scene before)))) e
+    subst (λ a. HasEnded scene before after line.command ended (action_completion line.command target input a (next_line_place scene before) (with_argument_devices builtin line (course_of scene before)))) e
     (used-ends scene before mid after line.command ended (λ here course. action_completion line.command target input action here course) _ u h)
 
 -- output was put, and the command returns

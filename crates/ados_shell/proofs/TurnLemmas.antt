@@ -12,7 +12,7 @@ use Rattle.ados_flow.specs.Frames.{FrameState, is_over, is_ended, limit_above_fr
 use Rattle.ados_machine.specs.declared.outs.EndReport.{EndReport}
 use Rattle.ados_machine.specs.Phases.{Ready, GoingOn}
 use Rattle.ados_machine.specs.CodeRule.{failed_line}
-use Rattle.ados_machine.specs.Items.{Item, Ended, answered_item, end_of, reports_of}
+use Rattle.ados_machine.specs.Items.{Item, Ended, answered_item, end_item, reports_of}
 use Rattle.ados_machine.specs.Course.{Course}
 use Rattle.ados_machine.specs.Completions.{Passes}
 use Rattle.ados_machine.specs.Settled.{RuleState, RuleResult, with_items_first, rule_at_rest, with_answer, with_limit, newest_kept, without_tick, after_end, finish, pass_line}
@@ -128,7 +128,7 @@ leads last frames codes said =
 
 -- the same with the frame's end in the trace
 abbrev pub led : FrameState → List FrameState → Codes → RuleState → RuleResult
-led last frames codes said = with_items_first (end_of (suc (length frames)) last ∷ []) (leads last frames codes said)
+led last frames codes said = with_items_first (end_item (suc (length frames)) last ∷ []) (leads last frames codes said)
 
 -- the code rule goes on from the middle, before which it gave these items
 pub step-ruled : (scene : Scene) (before mid after : Draft) (rs : List EndReport) (items : List Item) (settled settled' : RuleResult)
@@ -169,8 +169,8 @@ script-leads scene mid ended after name command codes last k e g =
     let said = with_limit (limit_above_frames frames last.limit) (said_in scene mid) in
     let answer = finish (caller_word last.kind) codes false frames said in
     let depth = suc (length frames) in
-    step-ruled scene mid ended after (report_of scene.number name last ∷ []) (end_of depth last ∷ []) _ _
-    (ap (with_items_first (end_of depth last ∷ []))
+    step-ruled scene mid ended after (report_of scene.number name last ∷ []) (end_item depth last ∷ []) _ _
+    (ap (with_items_first (end_item depth last ∷ []))
     (ap (λ x. after_end x answer frames (said_in scene mid)) k
     ∙ ap (λ x. finish (caller_word x) codes false frames said) k
     ∙ ap (λ x. finish command codes false (drafted_frames scene.shell.now x) said) (sym e.frames)

@@ -14,7 +14,7 @@ use Rattle.ados_machine.specs.Uses.{shared_with_bound}
 use Rattle.ados_shell.specs.declared.scenes.Scene.{Scene}
 use Rattle.ados_shell.specs.declared.drafts.Draft.{Draft}
 use Rattle.ados_shell.specs.Drafts.{Settles, course_of, frames_of, next_line_place}
-use Rattle.ados_shell.specs.Outputs.{LeadsTo, opened_course}
+use Rattle.ados_shell.specs.Outputs.{OpensOutput, opened_course}
 use Rattle.ados_shell.specs.Stacks.{drafted_frames}
 use Rattle.ados_shell.specs.Uses.{HasUsed}
 use Rattle.ados_shell.proofs.TurnLemmas.{goes-same}
@@ -32,9 +32,9 @@ used-goes scene before mid after work course u g =
 
 -- an output was opened, and its device is used
 pub opened-used : (scene : Scene) (before mid after : Draft) (output : Redirection) (target : Option Target) (opened : OpenedOutput)
-    → LeadsTo scene before mid target opened (opened_course (course_of scene before) opened)
+    → OpensOutput scene before mid target opened (opened_course (course_of scene before) opened)
     → HasUsed scene mid after (with_devices_used (device_named output.name) (course_of scene mid))
-    → LeadsTo scene before after target opened (with_devices_used (output_devices (Some output)) (opened_course (course_of scene before) opened))
+    → OpensOutput scene before after target opened (with_devices_used (output_devices (Some output)) (opened_course (course_of scene before) opened))
 opened-used scene before mid after output target opened l u = record {
   frames = u.frames ∙ l.frames;
   target_is = l.target_is;

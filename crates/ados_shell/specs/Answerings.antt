@@ -9,12 +9,12 @@ use Rattle.ados_shell.specs.declared.answers.Answering.{Answering}
 use Rattle.ados_shell.specs.declared.answers.Answering.TheVariants.{WrongAnswer, Goes}
 use Rattle.ados_shell.specs.declared.scenes.Scene.{Scene}
 use Rattle.ados_shell.specs.declared.drafts.Draft.{Draft}
-use Rattle.ados_shell.specs.Drafts.{IsDrafted, Settles, start_of}
+use Rattle.ados_shell.specs.Drafts.{IsDrafted, Settles, event_start}
 use Rattle.ados_shell.specs.Turnings.{MayWantMemory}
 
 -- the machine's answering of the scene's shell, with this input
 abbrev pub scene_answering : Scene → machine.Input → Answer → machine.Turning
-scene_answering scene input answer = machine.turning_of_answer input scene.shell.now.frames (start_of scene) scene.shell.now.phase answer
+scene_answering scene input answer = machine.turning_of_answer input scene.shell.now.frames (event_start scene) scene.shell.now.phase answer
 
 -- an answering is that of the machine: the shell does not wait for the answer, or goes on by it; its lines wait on
 abbrev pub IsAnswering : Scene → List Text → Answering → Draft → machine.Turning → Type 0

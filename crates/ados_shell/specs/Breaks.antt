@@ -3,7 +3,7 @@ use Rattle.std.specs.Prelude.{◌≡◌, ℕ, [], ◌∷◌, ◌++◌, List}
 use Rattle.ados_text.specs.Text.{Text}
 use Rattle.ados_flow.specs.Frames.{FrameState}
 use Rattle.ados_machine.specs.Breaks.{kept_after_break}
-use Rattle.ados_machine.specs.Items.{break_of, reports_of}
+use Rattle.ados_machine.specs.Items.{break_item, reports_of}
 use Rattle.ados_machine.specs.Turning as machine
 use Rattle.ados_shell.specs.declared.scenes.Input.{Input}
 use Rattle.ados_shell.specs.declared.scenes.Scene.{Scene}
@@ -19,7 +19,7 @@ broken_turning scene input queue =
 -- the end of a frame at a break was reported, if the frame is a script's, and nothing else was done
 pub record ReportsBreak (scene : Scene) (before after : Draft) (frame : FrameState) : Type 0 where
   pub same : after ≡ record before { reports = after.reports }
-  pub reports : (depth : ℕ) → after.reports.items ≡ before.reports.items ++ reports_of scene.number (break_of depth frame ∷ [])
+  pub reports : (depth : ℕ) → after.reports.items ≡ before.reports.items ++ reports_of scene.number (break_item depth frame ∷ [])
 
 -- the output of a frame that ended at a break was dropped, if the frame is that of a command substitution, and nothing else was done
 pub record GivesUp (scene : Scene) (before after : Draft) (frame : FrameState) : Type 0 where

@@ -78,12 +78,12 @@ abbrev pub parts_of : Scene → Draft → Parts
 parts_of scene draft = (drafted_shell draft.shell scene.shell.now).parts
 
 -- an event of the scene's shell begins: nothing is done yet
-abbrev pub start_of : Scene → Course
-start_of scene = new_course scene.shell.now.parts scene.shell.now.kept scene.shared.now (seen_shells scene.shells.now) scene.shell.now.flagged
+abbrev pub event_start : Scene → Course
+event_start scene = new_course scene.shell.now.parts scene.shell.now.kept scene.shared.now (seen_shells scene.shells.now) scene.shell.now.flagged
 
 -- a turn begins: it clears the flag
 abbrev pub turn_start : Scene → Course
-turn_start scene = course_without_flag (start_of scene)
+turn_start scene = course_without_flag (event_start scene)
 
 -- what a turn holds that no answer changes
 pub record HeldState : Type 0 where

@@ -33,7 +33,7 @@ IsOpened shared _ _ = ⊥
 
 -- a turn after what a line's redirection opens was opened: it leads there, and the shared state is a new one; if it
 -- was refused, nothing changed
-pub record LeadsTo (scene : Scene) (before after : Draft) (target : Option Target) (opened : line.OpenedOutput) (course : Course) : Type 0 where
+pub record OpensOutput (scene : Scene) (before after : Draft) (target : Option Target) (opened : line.OpenedOutput) (course : Course) : Type 0 where
   pub frames : after.shell.frames ≡ before.shell.frames
   pub target_is : target ≡ opened.target
   pub course_is : course_of scene after ≡ course
@@ -45,7 +45,7 @@ abbrev pub opened_course : Course → line.OpenedOutput → Course
 opened_course course opened = record course { shared = opened.shared }
 
 abbrev pub HasHeld : Scene → Draft → Draft → Result (Option Target) Stop → Result line.OpenedOutput Result2 → Type 0
-HasHeld scene before after (Ok target) (Ok opened) = LeadsTo scene before after target opened (opened_course (course_of scene before) opened)
+HasHeld scene before after (Ok target) (Ok opened) = OpensOutput scene before after target opened (opened_course (course_of scene before) opened)
 HasHeld scene before after (Err (Refused fault)) (Err other) = (fault ≡ other) × (after ≡ before)
 HasHeld scene before after (Err NoMemory) opened = Unit {0}
 HasHeld scene before after _ _ = ⊥
@@ -53,7 +53,7 @@ HasHeld scene before after _ _ = ⊥
 -- and its device is used
 abbrev pub HasOpened : Scene → Draft → Draft → Option Redirection → Result (Option Target) Stop → Result line.OpenedOutput Result2 → Type 0
 HasOpened scene before after output (Ok target) (Ok opened) =
-    LeadsTo scene before after target opened (with_devices_used (line.output_devices output) (opened_course (course_of scene before) opened))
+    OpensOutput scene before after target opened (with_devices_used (line.output_devices output) (opened_course (course_of scene before) opened))
 HasOpened scene before after output (Err (Refused fault)) (Err other) = (fault ≡ other) × (after ≡ before)
 HasOpened scene before after output (Err NoMemory) opened = Unit {0}
 HasOpened scene before after output _ _ = ⊥

@@ -44,14 +44,14 @@ abbrev pub console_turning : Scene → Input → List Text → machine.Turning
 console_turning scene input queue = machine.console_turning queue input.is_ended (turn_start scene)
 
 -- the turn is the one that the machine takes, whatever lines wait after the first; `turning` gives that one by the lines that wait
-abbrev pub Gives : Scene → Input → (List Text → machine.Turning) → Turning → Draft → Type 0
-Gives scene input turning turn draft =
+abbrev pub GivesTurning : Scene → Input → (List Text → machine.Turning) → Turning → Draft → Type 0
+GivesTurning scene input turning turn draft =
     (queue : List Text) → IsFirst (option_copied input.line) queue → IsTurning scene queue turn draft (turning queue)
 
 -- the next line of the newest frame
-abbrev pub next_of : List FrameState → Option Text
-next_of [] = None
-next_of (frame ∷ frames) = slice_get frame.lines frame.position
+abbrev pub next_frame_line : List FrameState → Option Text
+next_frame_line [] = None
+next_frame_line (frame ∷ frames) = slice_get frame.lines frame.position
 
 -- the draft holds what the next line of the newest frame leaves
 abbrev pub IsScriptDrafted : Scene → Draft → List FrameState → Type 0
@@ -66,5 +66,5 @@ MayWantMemory machine.Ends = ⊥
 MayWantMemory (machine.Takes rest turned) = Unit {0}
 
 -- the machine goes on at the turn, whatever lines wait after the first, so an allocation may fail
-abbrev pub LacksMemory : Input → (List Text → machine.Turning) → Type 0
-LacksMemory input turning = (queue : List Text) → IsFirst (option_copied input.line) queue → MayWantMemory (turning queue)
+abbrev pub MayLackMemory : Input → (List Text → machine.Turning) → Type 0
+MayLackMemory input turning = (queue : List Text) → IsFirst (option_copied input.line) queue → MayWantMemory (turning queue)

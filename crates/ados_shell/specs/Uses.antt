@@ -15,8 +15,8 @@ pub record HasUsed (scene : Scene) (before after : Draft) (course : Course) : Ty
   pub reports : after.reports.items ≡ before.reports.items
 
 -- this is the shared state with the assigns that it used bound, or none, if that stays as it is
-abbrev pub IsBound : Scene → Draft → Option SharedState → Type 0
-IsBound scene draft new =
+abbrev pub HasUsedBound : Scene → Draft → Option SharedState → Type 0
+HasUsedBound scene draft new =
     version (course_of scene draft).shared new ≡ with_assigns (course_of scene draft).shared
     (with_used_bound (course_of scene draft).used (course_of scene draft).shared.files (course_of scene draft).shared.assigns)
 

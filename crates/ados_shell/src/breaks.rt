@@ -40,15 +40,15 @@ impl Shell {
 
 impl Draft {
     ghost use Rattle.ados_shell.specs.Breaks.{GivesUp, ReportsBreak, broken_turning};
-    ghost use Rattle.ados_shell.specs.Turnings.{Gives, LacksMemory};
+    ghost use Rattle.ados_shell.specs.Turnings.{GivesTurning, MayLackMemory};
     ghost use Rattle.ados_shell.specs.Drafts.{IsDrafted, IsRuled, course_of, frames_of, turn_start};
 
     /// A turn of a shell that is flagged, in which a script runs: if it can take one, its scripts end instead of
     /// what it would have done, and its input stays.
     pub(crate) fn broken_turn(&mut self, scene: &Scene, input: &Input) -> Result<Turning, NoMemory>
         requires { has_script scene.now.shell.now.frames ≡ true }
-        ensures turn { IfOk result (λ turn. Gives scene.now input.now (broken_turning scene.now input.now) turn self.new) }
-        ensures memory { OnErr result (LacksMemory input.now (broken_turning scene.now input.now)) }
+        ensures turn { IfOk result (λ turn. GivesTurning scene.now input.now (broken_turning scene.now input.now) turn self.new) }
+        ensures memory { OnErr result (MayLackMemory input.now (broken_turning scene.now input.now)) }
     {
         if scene.shell.can_take(input.has_lines()) {
             self.break_off(scene)?;

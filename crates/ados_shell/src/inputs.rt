@@ -1,7 +1,7 @@
 // The input of a command, and the arguments that it is asked for.
 ghost use Rattle.std.specs.Prelude.{◌≡◌};
 ghost use Rattle.ados_items.specs.Items.{IsWithin};
-ghost use Rattle.ados_machine.specs.Prompts.{asks, is_question, lines_in};
+ghost use Rattle.ados_machine.specs.Prompts.{is_prompt, is_question, lines_in};
 ghost use Rattle.ados_flow.specs.Gathering.{is_end};
 ghost use Rattle.ados_find.specs.Targets.{read_by, target_of};
 ghost use Rattle.ados_ram.specs.FileOperations.{read_result};
@@ -50,7 +50,7 @@ fn lines_at(
 
 /// The arguments ask for others: they are the single unquoted word `?`.
 pub fn asks(args: &Text) -> bool
-    ensures { result ≡ asks args.now }
+    ensures { result ≡ is_prompt args.now }
 {
     let args = args.as_bytes();
     is_question(args, next_item(args, 0))

@@ -20,8 +20,8 @@ impl Draft {
     ghost use Rattle.ados_line.specs.declared.lines.Expanded.{Expanded};
     ghost use Rattle.std.specs.Prelude.{Result};
     ghost use Rattle.ados_line.specs.Expansion.{expand_raw_line};
-    ghost use Rattle.ados_line.specs.Values.{visible_variables as variables_by};
-    ghost use Rattle.ados_machine.specs.Lines.{visible_variables};
+    ghost use Rattle.ados_line.specs.Values.{visible_variables};
+    ghost use Rattle.ados_machine.specs.Lines.{course_variables};
     ghost use Rattle.ados_find.specs.Parts.{locals_of};
     ghost use Rattle.ados_vars.specs.Locals.{shown_pairs};
 
@@ -48,7 +48,7 @@ impl Draft {
     {
         match expanded {
             Err(LineFault::NoMemory) => Err(NoMemory),
-            Err(fault) => self.fault_line(scene, fault.result2()),
+            Err(fault) => self.refuse_line(scene, fault.result2()),
             Ok(Expanded::Nothing) => self.pass(scene),
             Ok(Expanded::Ready(line)) => self.seek(scene, &line),
             Ok(Expanded::Tick(tick)) => self.tick(scene, tick),
@@ -56,7 +56,7 @@ impl Draft {
     }
 
     /// The line is invalid: it uses nothing.
-    pub(crate) fn fault_line(&mut self, scene: &Scene, fault: Result2) -> Result<(), NoMemory>
+    pub(crate) fn refuse_line(&mut self, scene: &Scene, fault: Result2) -> Result<(), NoMemory>
         ensures { OnOk result (Settles scene.now self.old self.new (line_fault fault (course_of scene.now self.old))) }
     {
         self.use_nothing(scene);
@@ -66,7 +66,7 @@ impl Draft {
     /// The expansion of a raw line, with the shell and the shared state as it is now.
     fn expanded(&self, scene: &Scene, raw: &Text) -> Result<Expanded, LineFault>
         requires { IsUnset self.now }
-        ensures { Gives result (expand_raw_line (course_of scene.now self.now).parts.settings.aliases (visible_variables (course_of scene.now self.now)) raw.now) }
+        ensures { Gives result (expand_raw_line (course_of scene.now self.now).parts.settings.aliases (course_variables (course_of scene.now self.now)) raw.now) }
     {
         let scope = self.scope(scene);
         expand(&scope, raw)
@@ -76,7 +76,7 @@ impl Draft {
     pub(crate) fn scope<'b>(&'b self, scene: &'b Scene) -> Scope<'b>
         requires { IsUnset self.now }
         ensures aliases { result.aliases.now ≡ (course_of scene.now self.now).parts.settings.aliases }
-        ensures variables { variables_by result ≡ visible_variables (course_of scene.now self.now) }
+        ensures variables { visible_variables result ≡ course_variables (course_of scene.now self.now) }
         ensures locals { shown_pairs result.locals.now result.code result.result2 ≡ locals_of (course_of scene.now self.now).parts }
     {
         let shared = self.current(scene);

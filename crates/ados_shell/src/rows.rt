@@ -3,7 +3,7 @@ ghost use Rattle.std.specs.Prelude.{◌≡◌, None, IfOk, OnOk};
 ghost use Rattle.std.specs.Option.{option_copied, option_map};
 ghost use Rattle.ados_find.specs.Effects.{effect_of};
 ghost use Rattle.ados_flow.specs.Actions.{action_effect};
-ghost use Rattle.ados_machine.specs.Lines.{action_completion, action_in, busy_files, command_completion, shell_names, view_of, with_arguments};
+ghost use Rattle.ados_machine.specs.Lines.{action_completion, action_in, busy_files, command_completion, shell_names, view_of, with_argument_devices};
 
 use crate::completions::Completion;
 use crate::drafts::{Draft, ShellDraft};
@@ -91,7 +91,7 @@ impl Draft {
         requires { IsUnset self.old }
         ensures action { IfOk result (λ action. action_effect (course_of scene.now self.old).shared action
             ≡ action_in builtin line.now (option_copied target.entry) (next_line_place scene.now self.old) (course_of scene.now self.old)) }
-        ensures used { OnOk result (HasUsed scene.now self.old self.new (with_arguments builtin line.now (course_of scene.now self.old))) }
+        ensures used { OnOk result (HasUsed scene.now self.old self.new (with_argument_devices builtin line.now (course_of scene.now self.old))) }
     {
         let others = self.others_for(scene, builtin, &line.command, target)?;
         let shared = match &self.shared {

@@ -3,11 +3,11 @@ ghost use Rattle.std.specs.Prelude.{◌≡◌, ◌≤◌, ◌+◌, length, ◌++
 ghost use Rattle.std.specs.List.{slice_set};
 ghost use Rattle.std.specs.Option.{option_copied};
 ghost use Rattle.ados_assign.specs.InUse.{busy_of};
-ghost use Rattle.ados_machine.specs.Course.{directories_of, outputs_of, uses_of, with_use};
+ghost use Rattle.ados_machine.specs.Course.{current_directories, outputs_of, uses_of, with_use};
 ghost use Rattle.ados_machine.specs.Shells.{seen_of};
 ghost use Rattle.ados_machine.specs.Sinks.{held_while, frame_outputs};
 ghost use Rattle.ados_machine.specs.Lines.{name_seen};
-ghost use Rattle.ados_machine.specs.Names.{name_in, waiting_word};
+ghost use Rattle.ados_machine.specs.Names.{innermost_name, waiting_word};
 ghost use Rattle.ados_machine.specs.Numbers.{first_free_number, free_number};
 ghost use Rattle.ados_find.specs.Targets.{open_places};
 ghost use Rattle.ados_machine.specs.World.{seen_shells};
@@ -51,14 +51,14 @@ pub fn in_use(
     target: Option<&Target>,
     assigns: &Assigns,
 ) -> Result<Busy, NoMemory>
-    ensures { IfOk result (λ busy. busy ≡ busy_of (directories_of (seen_shells shells.now)) (open_places (option_copied target.entry) ++ outputs_of (seen_shells shells.now)) assigns.now) }
+    ensures { IfOk result (λ busy. busy ≡ busy_of (current_directories (seen_shells shells.now)) (open_places (option_copied target.entry) ++ outputs_of (seen_shells shells.now)) assigns.now) }
 {
     assigns.busy(directories(alloc, shells)?, outputs(alloc, shells, target)?)
 }
 
 /// The current directories of the shells that run, in order of their numbers.
 fn directories(alloc: Global, shells: &[Option<Shell>; 20]) -> Result<Vec<Place>, NoMemory>
-    ensures { IfOk result (λ places. places.items ≡ directories_of (seen_shells shells.now)) }
+    ensures { IfOk result (λ places. places.items ≡ current_directories (seen_shells shells.now)) }
 {
     let mut places = Vec::new(alloc);
     for shell in shells {
@@ -217,7 +217,7 @@ fn word(wait: &Wait) -> &Text
 
 /// The full path of the innermost script of frames, of which the newest is the last.
 fn script_name(alloc: Global, frames: &[Frame]) -> Result<Text, NoMemory>
-    ensures { IfOk result (λ name. name ≡ name_in (reverse frames.now)) }
+    ensures { IfOk result (λ name. name ≡ innermost_name (reverse frames.now)) }
 {
     let Some((frame, below)) = frames.split_last() else {
         return Text::from_bytes(alloc, b"No command");

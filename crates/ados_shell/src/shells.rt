@@ -1,7 +1,7 @@
 // A shell: its frames, what it waits for, its parts.
 ghost use Rattle.std.specs.Prelude.{◌≡◌, ◌∷◌, [], reverse, IfOk};
 ghost use Rattle.std.specs.Option.{option_copied};
-ghost use Rattle.ados_machine.specs.Shells.{begun_shell, entry_in, fresh_shell};
+ghost use Rattle.ados_machine.specs.Shells.{begun_shell, phase_entry, fresh_shell};
 ghost use Rattle.ados_flow.specs.Frames.{new_frame, first_limit};
 ghost use Rattle.ados_flow.specs.declared.kinds.Kind.TheVariants.{Lines};
 
@@ -207,7 +207,7 @@ impl Shell {
     /// The name of the resident entry from which it runs: if it starts a program from one, reads its output, or waits
     /// for its end.
     pub fn entry(&self) -> Option<&Text>
-        ensures { option_copied result ≡ entry_in self.now.phase }
+        ensures { option_copied result ≡ phase_entry self.now.phase }
     {
         match self.phase.as_deref() {
             Some(Suspension::Waiting(wait)) => wait.entry(),

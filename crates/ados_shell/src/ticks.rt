@@ -33,7 +33,7 @@ impl Draft {
             else Ticks tick.before tick.command tick.after (course_of scene.now self.old))) }
     {
         if self.shell.frames.is_full(scene.shell) {
-            self.fault_line(scene, Result2::TOO_MANY_LEVELS)
+            self.refuse_line(scene, Result2::TOO_MANY_LEVELS)
         } else {
             self.begin_tick(scene, tick)
         }

@@ -5,7 +5,7 @@ ghost use Rattle.ados_machine.specs.Lines.{answer_completion, line_completion, p
 ghost use Rattle.ados_machine.specs.NewShells.{gathered_completion, joined_completion};
 ghost use Rattle.ados_machine.specs.Settle.{here_of, turn_of_completion};
 ghost use Rattle.ados_shell.specs.Stacks.{HasRoom};
-ghost use Rattle.ados_shell.specs.Turnings.{next_of};
+ghost use Rattle.ados_shell.specs.Turnings.{next_frame_line};
 
 use crate::drafts::Draft;
 use crate::scenes::{Input, Scene};
@@ -31,7 +31,7 @@ impl Draft {
     ghost use Rattle.ados_shell.specs.Drafts.{IsDrafted, turn_start};
     ghost use Rattle.ados_machine.specs.Phases.{Ready, Waiting};
     ghost use Rattle.ados_machine.specs.declared.phases.Wait.TheVariants.{ForAnswer, ForLines};
-    ghost use Rattle.ados_shell.specs.Turnings.{console_turning, Gives, IsScriptDrafted, LacksMemory, plain_turning, scene_turning};
+    ghost use Rattle.ados_shell.specs.Turnings.{console_turning, GivesTurning, IsScriptDrafted, MayLackMemory, plain_turning, scene_turning};
 
     /// A turn of the scene's shell: if it goes on, the draft is filled with what is to be changed. Nothing else is
     /// changed, and what the draft held before is forgotten.
@@ -45,8 +45,8 @@ impl Draft {
     /// `NoMemory` if there is none for what the turn makes, and only if the shell has something to
     /// take: its end needs no memory.
     pub fn turn(&mut self, scene: &Scene, input: &Input) -> Result<Turning, NoMemory>
-        ensures turn { IfOk result (λ turn. Gives scene.now input.now (scene_turning scene.now input.now) turn self.new) }
-        ensures memory { OnErr result (LacksMemory input.now (scene_turning scene.now input.now)) }
+        ensures turn { IfOk result (λ turn. GivesTurning scene.now input.now (scene_turning scene.now input.now) turn self.new) }
+        ensures memory { OnErr result (MayLackMemory input.now (scene_turning scene.now input.now)) }
     {
         let shell = scene.shell;
         if shell.flagged && shell.has_script() {
@@ -58,8 +58,8 @@ impl Draft {
 
     /// The same if no flag is found.
     fn plain_turn(&mut self, scene: &Scene, input: &Input) -> Result<Turning, NoMemory>
-        ensures turn { IfOk result (λ turn. Gives scene.now input.now (plain_turning scene.now input.now scene.now.shell.now.phase) turn self.new) }
-        ensures memory { OnErr result (LacksMemory input.now (plain_turning scene.now input.now scene.now.shell.now.phase)) }
+        ensures turn { IfOk result (λ turn. GivesTurning scene.now input.now (plain_turning scene.now input.now scene.now.shell.now.phase) turn self.new) }
+        ensures memory { OnErr result (MayLackMemory input.now (plain_turning scene.now input.now scene.now.shell.now.phase)) }
     {
         let shell = scene.shell;
         match &shell.phase {
@@ -94,8 +94,8 @@ impl Draft {
 
     /// A turn of a shell in the phase Ready.
     fn ready_turn(&mut self, scene: &Scene, input: &Input) -> Result<Turning, NoMemory>
-        ensures turn { IfOk result (λ turn. Gives scene.now input.now (plain_turning scene.now input.now Ready) turn self.new) }
-        ensures memory { OnErr result (LacksMemory input.now (plain_turning scene.now input.now Ready)) }
+        ensures turn { IfOk result (λ turn. GivesTurning scene.now input.now (plain_turning scene.now input.now Ready) turn self.new) }
+        ensures memory { OnErr result (MayLackMemory input.now (plain_turning scene.now input.now Ready)) }
     {
         let shell = scene.shell;
         if shell.frames.is_empty() {
@@ -113,8 +113,8 @@ impl Draft {
         gathering: &Gathering,
         input: &Input,
     ) -> Result<Turning, NoMemory>
-        ensures turn { IfOk result (λ turn. Gives scene.now input.now (plain_turning scene.now input.now (Waiting (ForLines gathering.now))) turn self.new) }
-        ensures memory { OnErr result (LacksMemory input.now (plain_turning scene.now input.now (Waiting (ForLines gathering.now)))) }
+        ensures turn { IfOk result (λ turn. GivesTurning scene.now input.now (plain_turning scene.now input.now (Waiting (ForLines gathering.now))) turn self.new) }
+        ensures memory { OnErr result (MayLackMemory input.now (plain_turning scene.now input.now (Waiting (ForLines gathering.now)))) }
     {
         match input.line {
             Some(line) => {
@@ -161,8 +161,8 @@ impl Draft {
         asking: &Asking,
         input: &Input,
     ) -> Result<Turning, NoMemory>
-        ensures turn { IfOk result (λ turn. Gives scene.now input.now (plain_turning scene.now input.now (Waiting (ForAnswer asking.now))) turn self.new) }
-        ensures memory { OnErr result (LacksMemory input.now (plain_turning scene.now input.now (Waiting (ForAnswer asking.now)))) }
+        ensures turn { IfOk result (λ turn. GivesTurning scene.now input.now (plain_turning scene.now input.now (Waiting (ForAnswer asking.now))) turn self.new) }
+        ensures memory { OnErr result (MayLackMemory input.now (plain_turning scene.now input.now (Waiting (ForAnswer asking.now)))) }
     {
         match input.line {
             Some(line) => {
@@ -190,8 +190,8 @@ impl Draft {
     /// A turn of a shell in the phase Ready that runs no frame.
     fn console_turn(&mut self, scene: &Scene, input: &Input) -> Result<Turning, NoMemory>
         requires { scene.now.shell.now.frames ≡ [] }
-        ensures turn { IfOk result (λ turn. Gives scene.now input.now (console_turning scene.now input.now) turn self.new) }
-        ensures memory { OnErr result (LacksMemory input.now (console_turning scene.now input.now)) }
+        ensures turn { IfOk result (λ turn. GivesTurning scene.now input.now (console_turning scene.now input.now) turn self.new) }
+        ensures memory { OnErr result (MayLackMemory input.now (console_turning scene.now input.now)) }
     {
         match input.line {
             Some(line) => {
@@ -235,7 +235,7 @@ impl Draft {
 impl Shell {
     /// The next line of the newest frame; `None` if none is left.
     fn next_line(&self) -> Option<&Text>
-        ensures line { option_copied result ≡ next_of self.now.frames }
+        ensures line { option_copied result ≡ next_frame_line self.now.frames }
         ensures below { OnSome result (HasRoom self.now.frames) }
     {
         match self.frames.last() {

@@ -16,7 +16,7 @@ impl Draft {
     ghost use Rattle.ados_find.specs.Parts.{locals_of};
     ghost use Rattle.ados_line.specs.Globals.{asks_global};
     ghost use Rattle.ados_shell.specs.Drafts.{IsUnset, course_of, parts_of};
-    ghost use Rattle.ados_shell.specs.Uses.{HasBound, HasUsed, IsBound};
+    ghost use Rattle.ados_shell.specs.Uses.{HasBound, HasUsed, HasUsedBound};
 
     /// The device of a path's text is used.
     #[tactic(auto, unfolding(ados_machine::specs::Uses::devices_reached))]
@@ -136,7 +136,7 @@ impl Draft {
 
     /// The shared state with the used assigns of Defer bound; `None` if nothing can bind.
     fn bound(&self, scene: &Scene) -> Result<Option<Shared>, NoMemory>
-        ensures { IfOk result (λ new. IsBound scene.now self.now new) }
+        ensures { IfOk result (λ new. HasUsedBound scene.now self.now new) }
     {
         let shared = self.current(scene);
         if !shared.assigns.has_defers() {

@@ -18,7 +18,7 @@ use Rattle.ados_subst.specs.declared.slots.Slot.{Slot}
 use Rattle.ados_subst.specs.Above.{initial_above}
 use Rattle.ados_subst.specs.Directives.{slots_of_args, slots_of_template, above_of_slots, key_result, default_of, above_of_default, default_result, mark_result, directive_named, named_directive_result, is_remark, directive_result}
 use Rattle.ados_subst.specs.Faults.{args_fault}
-use Rattle.ados_subst.specs.FirstFault.{NamesNone, IsDirectiveFault, unknown, second_template, not_filled, no_option, no_character, Leads, here, directive, other, FaultBelow, IsFirstFault}
+use Rattle.ados_subst.specs.FirstFault.{NamesNone, IsDirectiveFault, unknown, second_template, not_filled, no_option, no_character, LinesLead, here, directive, other, FaultBelow, IsFirstFault}
 use Rattle.ados_subst.specs.Lines.{substituted_line}
 use Rattle.ados_subst.specs.References.{reference_value}
 use Rattle.ados_subst.specs.Scripts.{directive_text, with_line, lines_after_directive, lines_from_line, substituted_lines, is_dotted, script_of}
@@ -146,7 +146,7 @@ fault-directed above args number body fault none it =
 
 -- one more line before others, which has no fault
 extend : (args : Bytes) (above next : Above) (number : ℕ) (line : Text) (lines : List Text) (fault : SubstFault) →
-    ((front : List Text) (end : Above) → Leads args next (number + 1) front end → Leads args above number (line ∷ front) end) →
+    ((front : List Text) (end : Above) → LinesLead args next (number + 1) front end → LinesLead args above number (line ∷ front) end) →
     FaultBelow args next (number + 1) lines fault → FaultBelow args above number (line ∷ lines) fault
 extend args above next number line lines fault leads below =
     let same : number + 1 + length below.front ≡ number + length (line ∷ below.front) = omega arith in
@@ -211,7 +211,7 @@ lines-fault args process number (line ∷ lines) above fault e =
     line-fault args process above number line lines (directive_text above.marks.dot line) fault (lines-fault args process (number + 1) lines) refl e
 
 -- and a fault below it is the fault of the lines
-led-fault : (args : Bytes) (process : Text) {above there : Above} {number : ℕ} {front : List Text} → Leads args above number front there →
+led-fault : (args : Bytes) (process : Text) {above there : Above} {number : ℕ} {front : List Text} → LinesLead args above number front there →
     (line : Text) (rest : List Text) (body : Text) (fault : SubstFault) → directive_text there.marks.dot line ≡ Some body →
     directive_result there args (number + length front) body ≡ Err fault → substituted_lines args process above number (front ++ line ∷ rest) ≡ Err fault
 led-fault args process (here above number) line rest body fault some bad =

@@ -13,12 +13,12 @@ use Rattle.ados_subst.specs.Above.{initial_above}
 use Rattle.ados_subst.specs.Directives.{directive_result, directive_named, is_remark}
 use Rattle.ados_subst.specs.Faults.{args_fault}
 use Rattle.ados_subst.specs.Scripts.{directive_text}
-use Rattle.ados_subst.specs.Slots.{slot_of}
+use Rattle.ados_subst.specs.Slots.{find_slot}
 use Rattle.ados_items.specs.Parts.{first_word, rest_of}
 
 -- a name that no option has: above the template there are no options, and an empty name is not a name
 abbrev pub NamesNone : Option (List Slot) → Text → Type 0
-NamesNone slots name = (name ≡ []) ⊎ (slot_of (unwrap_or slots []) name ≡ None)
+NamesNone slots name = (name ≡ []) ⊎ (find_slot (unwrap_or slots []) name ≡ None)
 
 -- The fault of a directive with this after its dot, in the line with a number: an unknown word; a second template; a template
 -- that is bad, or that the arguments do not fill; a default of no option; and another character that is not just one.
@@ -34,13 +34,13 @@ pub data IsDirectiveFault (above : Above) (args : Bytes) (number : ℕ) (body : 
       → IsDirectiveFault above args number body (BadDirective number)
 
 -- lines without a fault lead from what holds above them to what holds above the next one
-pub data Leads (args : Bytes) : Above → ℕ → List Text → Above → Type 0 where
-  here : (above : Above) (number : ℕ) → Leads args above number [] above
+pub data LinesLead (args : Bytes) : Above → ℕ → List Text → Above → Type 0 where
+  here : (above : Above) (number : ℕ) → LinesLead args above number [] above
   directive : (above next end : Above) (number : ℕ) (line body : Text) (lines : List Text)
       → directive_text above.marks.dot line ≡ Some body → directive_result above args number body ≡ Ok next
-      → Leads args next (number + 1) lines end → Leads args above number (line ∷ lines) end
+      → LinesLead args next (number + 1) lines end → LinesLead args above number (line ∷ lines) end
   other : (above end : Above) (number : ℕ) (line : Text) (lines : List Text) → directive_text above.marks.dot line ≡ None
-      → Leads args above (number + 1) lines end → Leads args above number (line ∷ lines) end
+      → LinesLead args above (number + 1) lines end → LinesLead args above number (line ∷ lines) end
 
 -- a fault is in a directive among lines, the first of which has a number, and no line before that has one
 pub record FaultBelow (args : Bytes) (above : Above) (number : ℕ) (lines : List Text) (fault : SubstFault) : Type 0 where
@@ -50,7 +50,7 @@ pub record FaultBelow (args : Bytes) (above : Above) (number : ℕ) (lines : Lis
   pub body : Text
   pub there : Above
   pub joined : lines ≡ front ++ line ∷ rest
-  pub led : Leads args above number front there
+  pub led : LinesLead args above number front there
   pub directive : directive_text there.marks.dot line ≡ Some body
   pub no_remark : is_remark body ≡ false
   pub bad : IsDirectiveFault there args (number + length front) body fault

@@ -31,8 +31,8 @@ abbrev pub is_named : Text → Slot → Bool
 is_named name slot = list_any (λ own. is_same own name) slot.names
 
 -- the option with a name
-abbrev pub slot_of : List Slot → Text → Option Slot
-slot_of slots name = find (is_named name) slots
+abbrev pub find_slot : List Slot → Text → Option Slot
+find_slot slots name = find (is_named name) slots
 
 -- the text that the option was given, otherwise another one
 abbrev pub value_or : Text → Slot → Text

@@ -85,7 +85,7 @@ impl Model for Slots {
 }
 
 impl Slots {
-    ghost use Rattle.ados_subst.specs.Slots.{slot_of};
+    ghost use Rattle.ados_subst.specs.Slots.{find_slot};
 
     /// The options of a template with their arguments; none has a default yet.
     pub fn filled(alloc: Global, template: &Template, args: &Args) -> Result<Slots, NoMemory>
@@ -103,7 +103,7 @@ impl Slots {
 
     /// The option with a name.
     pub fn get(&self, name: &[u8]) -> Option<&Slot>
-        ensures { option_copied result ≡ slot_of self.now name.now }
+        ensures { option_copied result ≡ find_slot self.now name.now }
     {
         self.items.iter().find(|slot| slot.is_named(name))
     }

@@ -3,18 +3,18 @@ use Rattle.std.proofs.Common.{ℕ, zero, suc, ◌≡◌, ◌<◌, ◌+◌, ◌-�
 use Rattle.std.proofs.lemmas.List.{take_all}
 use Rattle.std.specs.List.{starts_with}
 use Rattle.ados_text.specs.Text.{Bytes}
-use Rattle.ados_transfer.specs.Account.{is_within}
+use Rattle.ados_transfer.specs.Account.{is_substring}
 
 after-place : (bytes all : Bytes) (from : ℕ) → from < length all → starts_with ◌==◌ (drop from all) bytes ≡ false
-    → is_within bytes (drop from all) ≡ is_within bytes (drop (suc from) all)
+    → is_substring bytes (drop from all) ≡ is_substring bytes (drop (suc from) all)
 after-place bytes [] from inside missed = absurd (omega (arith, inside))
-after-place bytes (x ∷ xs) zero inside missed = ap (λ b. b || is_within bytes xs) missed
+after-place bytes (x ∷ xs) zero inside missed = ap (λ b. b || is_substring bytes xs) missed
 after-place bytes (x ∷ xs) (suc n) inside missed = after-place bytes xs n (omega (arith, inside)) missed
 
 -- they do not begin at this place: `found` tells
 pub within_kept : (bytes all : Bytes) (from : ℕ) (found : Bool) → from < length all
     → found ≡ starts_with ◌==◌ (take (length all - from) (drop from all)) bytes → found ≡ false
-    → is_within bytes all ≡ is_within bytes (drop from all) → is_within bytes all ≡ is_within bytes (drop (from + 1) all)
+    → is_substring bytes all ≡ is_substring bytes (drop from all) → is_substring bytes all ≡ is_substring bytes (drop (from + 1) all)
 within_kept bytes all from found inside is missed kept =
     let whole : take (length all - from) (drop from all) ≡ drop from all = take_all (length all - from) (drop from all) (omega (arith, length-drop from all)) in
     kept ∙ rw add-one (after-place bytes all from inside (ap (λ rest. starts_with ◌==◌ rest bytes) (sym whole) ∙ sym is ∙ missed))

@@ -7,7 +7,7 @@ use Rattle.std.specs.List.{prefix_len, list_all}
 use Rattle.ados_text.specs.Text.{to_ascii, IsText, Bytes}
 use Rattle.ados_items.specs.declared.items.Item.TheVariants.{Word, Quoted}
 use Rattle.ados_items.specs.Items.{is_blank, is_word_byte, closing_place, quoted_item, item_by_first, item_at, escape_of, unescaped_bytes, bytes_between, value_of}
-use Rattle.ados_transfer.specs.Words.{equal_signs, has_plain_ends, quoted_body, needs_no_quotes, is_plain, needs_star, quoted_word, word_of, IsApart, ReadsAs, end_of}
+use Rattle.ados_transfer.specs.Words.{equal_signs, has_plain_ends, quoted_body, needs_no_quotes, is_literal_byte, needs_star, quoted_word, word_of, IsApart, ReadsAs, end_of}
 
 -- the closing quote is the one after the text
 closing-inside : (t : Bytes) (place : ℕ) (after : Bytes) → closing_place place false (quoted_body t ++ 34 ∷ after) ≡ Some (place + length (quoted_body t))
@@ -95,32 +95,32 @@ not-true true e = absurd cc
 not-true false e = refl
 
 -- a plain byte differs from one that is not plain
-plain-other : (c k : ℕ) → is_plain c ≡ true → is_plain k ≡ false → (c == k) ≡ false
+plain-other : (c k : ℕ) → is_literal_byte c ≡ true → is_literal_byte k ≡ false → (c == k) ≡ false
 plain-other c k plain other =
     false_from_ne_true (c == k) (λ e.
     let same : c ≡ k = grind (arith, nat_tests) in
-    both_ways (is_plain k) other (sym (ap is_plain same) ∙ plain))
+    both_ways (is_literal_byte k) other (sym (ap is_literal_byte same) ∙ plain))
 
-plain-no-blank : (c : ℕ) → is_plain c ≡ true → is_blank c ≡ false
+plain-no-blank : (c : ℕ) → is_literal_byte c ≡ true → is_blank c ≡ false
 plain-no-blank c plain = rw (plain-other c 32 plain refl) (plain-other c 9 plain refl)
 
-plain-in-word : (c : ℕ) → is_plain c ≡ true → is_word_byte false c ≡ true
+plain-in-word : (c : ℕ) → is_literal_byte c ≡ true → is_word_byte false c ≡ true
 plain-in-word c plain = rw (plain-no-blank c plain) (rw (plain-other c 59 plain refl) refl)
 
 -- plain bytes are one word, up to a blank or the end
-plain-run : (t after : Bytes) → list_all is_plain t ≡ true → IsApart after → prefix_len (is_word_byte false) (t ++ after) ≡ length t
+plain-run : (t after : Bytes) → list_all is_literal_byte t ≡ true → IsApart after → prefix_len (is_word_byte false) (t ++ after) ≡ length t
 plain-run [] [] plain apart = refl
 plain-run [] (c ∷ cs) plain apart = rw apart refl
 plain-run (c ∷ cs) after plain apart =
-    let rest = plain-run cs after (both-right (is_plain c) (list_all is_plain cs) plain) apart in
-    rw (plain-in-word c (both-left (is_plain c) (list_all is_plain cs) plain)) (omega arith)
+    let rest = plain-run cs after (both-right (is_literal_byte c) (list_all is_literal_byte cs) plain) apart in
+    rw (plain-in-word c (both-left (is_literal_byte c) (list_all is_literal_byte cs) plain)) (omega arith)
 
 bare-item : (before : Bytes) (c : ℕ) (cs after : Bytes) (line : Bytes) → line ≡ before ++ 32 ∷ ((c ∷ cs) ++ after)
-    → list_all is_plain (c ∷ cs) ≡ true → IsApart after
+    → list_all is_literal_byte (c ∷ cs) ≡ true → IsApart after
     → item_at false line (length before) ≡ Word (length before + 1) (length before + 1 + length (c ∷ cs))
 bare-item before c cs after line e plain apart =
     let rest : Bytes = 32 ∷ ((c ∷ cs) ++ after) in
-    let first : is_plain c ≡ true = both-left (is_plain c) (list_all is_plain cs) plain in
+    let first : is_literal_byte c ≡ true = both-left (is_literal_byte c) (list_all is_literal_byte cs) plain in
     let here : drop (length before) line ≡ rest = rw e (drop-append_seam before rest) in
     let next : drop (length before + 1) line ≡ (c ∷ cs) ++ after = rw e (drop-append-add before rest 1) in
     let blank : prefix_len is_blank rest ≡ 1 = rw (plain-no-blank c first) refl in
@@ -138,8 +138,8 @@ bare-reads before (c ∷ cs) after text bare apart =
     let t : Bytes = c ∷ cs in
     let line : Bytes = (before ++ 32 ∷ (c ∷ cs)) ++ after in
     let parts : line ≡ before ++ 32 ∷ ((c ∷ cs) ++ after) = append_assoc before (32 ∷ (c ∷ cs)) after in
-    let rest : (list_all is_plain (c ∷ cs) && nat_lt (equal_signs (c ∷ cs)) 2) ≡ true = both-right (has_plain_ends (c ∷ cs)) _ bare in
-    let plain : list_all is_plain (c ∷ cs) ≡ true = both-left (list_all is_plain (c ∷ cs)) (nat_lt (equal_signs (c ∷ cs)) 2) rest in
+    let rest : (list_all is_literal_byte (c ∷ cs) && nat_lt (equal_signs (c ∷ cs)) 2) ≡ true = both-right (has_plain_ends (c ∷ cs)) _ bare in
+    let plain : list_all is_literal_byte (c ∷ cs) ≡ true = both-left (list_all is_literal_byte (c ∷ cs)) (nat_lt (equal_signs (c ∷ cs)) 2) rest in
     let item = bare-item before c cs after line parts plain apart in
     let dropped : drop (length before + 1) line ≡ (c ∷ cs) ++ after = rw parts (drop-append-add before (32 ∷ ((c ∷ cs) ++ after)) 1) in
     let many : (length before + 1 + length (c ∷ cs)) - (length before + 1) ≡ length (c ∷ cs) = omega arith in

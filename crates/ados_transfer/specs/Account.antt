@@ -16,10 +16,10 @@ with_bytes_of all Directory = all
 with_bytes_of all (File bytes) = all ++ bytes ∷ []
 
 -- the first bytes occur in the second ones, in one piece
-abbrev pub is_within : Bytes → Bytes → Bool
-is_within bytes [] = false
-is_within bytes (c ∷ cs) = starts_with ◌==◌ (c ∷ cs) bytes || is_within bytes cs
+abbrev pub is_substring : Bytes → Bytes → Bool
+is_substring bytes [] = false
+is_substring bytes (c ∷ cs) = starts_with ◌==◌ (c ∷ cs) bytes || is_substring bytes cs
 
 -- the bytes are not empty, and occur in one of the files that could not be written
 abbrev pub is_in_unwritten : List Bytes → Bytes → Bool
-is_in_unwritten all bytes = not (length bytes == 0) && list_any (is_within bytes) all
+is_in_unwritten all bytes = not (length bytes == 0) && list_any (is_substring bytes) all

@@ -47,17 +47,17 @@ abbrev pub has_changed : {A : Type 0} → Files → BTreeMap (String A) Record �
 has_changed files records key row = bytes_eq (string_bytes row.0) key && not (is_unchanged files (get_by_text records (string_bytes row.0)) row.1)
 
 -- a byte is a slash
-abbrev pub is_slash : Option ℕ → Bool
-is_slash None = false
-is_slash (Some c) = c == 47
+abbrev pub is_some_slash : Option ℕ → Bool
+is_some_slash None = false
+is_some_slash (Some c) = c == 47
 
 -- a key is that of an object below a folder
-abbrev pub is_below : Bytes → Bytes → Bool
-is_below folder key = starts_with ◌==◌ key folder && (length folder == 0 || is_slash (slice_get key (length folder)))
+abbrev pub is_descendant : Bytes → Bytes → Bool
+is_descendant folder key = starts_with ◌==◌ key folder && (length folder == 0 || is_some_slash (slice_get key (length folder)))
 
 -- what could not be read is the object of this key, or a folder above it
 abbrev pub hides : Bytes → Unread → Bool
-hides key unread = bytes_eq (string_bytes unread.key) key || is_below (string_bytes unread.key) key
+hides key unread = bytes_eq (string_bytes unread.key) key || is_descendant (string_bytes unread.key) key
 
 -- the object of a record, with this key, is gone: it is not there, and is not in what could not be read
 abbrev pub is_gone : {A : Type 0} → Look → Bytes → String A → Bool

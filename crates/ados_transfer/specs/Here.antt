@@ -4,7 +4,7 @@ use Rattle.ados_text.specs.Text.{Bytes}
 use Rattle.ados_transfer.specs.declared.stamps.Stamp.{Stamp}
 use Rattle.ados_transfer.specs.declared.here.Here.{Here}
 use Rattle.ados_transfer.specs.declared.here.Here.TheVariants.{Absent, Directory, File, Large, Foreign, Unread}
-use Rattle.ados_transfer.specs.Account.{is_in_unwritten, is_within}
+use Rattle.ados_transfer.specs.Account.{is_in_unwritten, is_substring}
 use Rattle.ados_transfer.specs.Mirror.{is_same_stamp}
 
 -- the stamp that it had, if it was a file or a folder
@@ -27,5 +27,5 @@ has_stamp here found = is_stamped (stamp_of here) found
 -- The bytes of a file that was seen were moved: they occur in a file that could not be written, and not in `new`, the bytes that are
 -- to replace the file.
 abbrev pub is_moved_away : Here → Bytes → List Bytes → Bool
-is_moved_away (File bytes stamp mode) new unwritten = not (is_within bytes.items new) && is_in_unwritten unwritten bytes.items
+is_moved_away (File bytes stamp mode) new unwritten = not (is_substring bytes.items new) && is_in_unwritten unwritten bytes.items
 is_moved_away _ new unwritten = false

@@ -21,13 +21,13 @@ is_same_stamp a b = a.size == b.size && (a.number == b.number && (is_same_time a
 
 -- the objects on two sides are alike: nothing, directories, files with the same bytes, or with the same stamp if they are too large
 -- for the Shell
-abbrev pub is_same : State → State → Bool
-is_same Absent Absent = true
-is_same Directory Directory = true
-is_same (File a) (File b) = bytes_eq a.now b.now
-is_same (Large a) (Large b) = is_same_stamp a b
-is_same Foreign Foreign = true
-is_same _ _ = false
+abbrev pub is_same_state : State → State → Bool
+is_same_state Absent Absent = true
+is_same_state Directory Directory = true
+is_same_state (File a) (File b) = bytes_eq a.now b.now
+is_same_state (Large a) (Large b) = is_same_stamp a b
+is_same_state Foreign Foreign = true
+is_same_state _ _ = false
 
 -- nothing is there
 abbrev pub is_absent : State → Bool
@@ -44,17 +44,17 @@ is_large _ = false
 -- touched.
 abbrev pub may_write : State → State → State → Bool → Bool
 may_write last Absent there may_delete = true
-may_write last Directory there may_delete = is_same Directory last
-may_write last (File bytes) there may_delete = is_same (File bytes) last
-may_write last (Large stamp) there may_delete = is_same (Large stamp) last && (is_absent there && may_delete)
+may_write last Directory there may_delete = is_same_state Directory last
+may_write last (File bytes) there may_delete = is_same_state (File bytes) last
+may_write last (Large stamp) there may_delete = is_same_state (Large stamp) last && (is_absent there && may_delete)
 may_write last Foreign there may_delete = false
 
 -- what is done: nothing if both sides are alike; otherwise the changed one is copied to the other side (`Bring` from this machine,
 -- `Write` to it), and if both changed the object of this machine stays (`Conflict`)
 abbrev pub decision : State → State → State → Bool → Decision
 decision last here there may_delete =
-    if is_same here there then Keep else
-    (if is_same there last then Bring else
+    if is_same_state here there then Keep else
+    (if is_same_state there last then Bring else
     (if may_write last here there may_delete then Write else Conflict))
 
 -- how an object of this machine is removed, given what is done with it: one that would be written over is deleted, unless it is gone

@@ -35,8 +35,8 @@ abbrev pub is_plain_sign : ℕ → Bool
 is_plain_sign c = list_any (λ sign. sign == c) (codes "_.,:/#?%~()|'@!^&+-=")
 
 -- the byte stands for itself outside quotes
-abbrev pub is_plain : ℕ → Bool
-is_plain c = is_letter_or_digit c || is_plain_sign c
+abbrev pub is_literal_byte : ℕ → Bool
+is_literal_byte c = is_letter_or_digit c || is_plain_sign c
 
 -- a word without quotes cannot begin with this byte: `?` would print the template, `+` continue a line, and `=` is an item of its own
 abbrev pub is_first_sign : ℕ → Bool
@@ -52,7 +52,7 @@ equal_signs text = length (filter (λ b. b == 61) text)
 
 -- The text stands for itself outside quotes, and may be the name of an option there, or set one by `=`.
 abbrev pub needs_no_quotes : Text → Bool
-needs_no_quotes text = has_plain_ends text && (list_all is_plain text && nat_lt (equal_signs text) 2)
+needs_no_quotes text = has_plain_ends text && (list_all is_literal_byte text && nat_lt (equal_signs text) 2)
 
 -- a text as a word of a typed line; `quotes` says that it is quoted in any case
 abbrev pub word_of : Bool → Text → Bytes

@@ -2,7 +2,7 @@
 ghost use Rattle.std.specs.Prelude.{◌≡◌, ◌++◌, ◌∷◌, [], OnOk, string_bytes};
 ghost use Rattle.std.specs.List.{list_any};
 ghost use Rattle.std.specs.Option.{option_map, is_some};
-ghost use Rattle.ados_transfer.specs.Account.{first_path, is_in_unwritten, is_within, with_bytes_of};
+ghost use Rattle.ados_transfer.specs.Account.{first_path, is_in_unwritten, is_substring, with_bytes_of};
 
 use crate::faults::TransferFault;
 use crate::records::Record;
@@ -154,14 +154,16 @@ impl Account {
 
 // The bytes are in one of the files.
 fn is_in_any(bytes: &[u8], files: &[FileBytes]) -> bool
-    ensures { result ≡ list_any (is_within bytes.now) files.now }
+    ensures { result ≡ list_any (is_substring bytes.now) files.now }
 {
-    files.iter().any(|file| is_within(bytes, file.as_bytes()))
+    files
+        .iter()
+        .any(|file| is_substring(bytes, file.as_bytes()))
 }
 
 /// The second bytes have the first ones in them.
-pub fn is_within(bytes: &[u8], all: &[u8]) -> bool
-    ensures { result ≡ is_within bytes.now all.now }
+pub fn is_substring(bytes: &[u8], all: &[u8]) -> bool
+    ensures { result ≡ is_substring bytes.now all.now }
 {
     for from in 0..all.len() {
         if all[from..].starts_with(bytes) {

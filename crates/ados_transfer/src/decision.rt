@@ -1,6 +1,6 @@
 //! What is done with an object of a shared folder.
 ghost use Rattle.std.specs.Prelude.{◌≡◌, ◌⊎◌, true, false, if◌then◌else◌};
-ghost use Rattle.ados_transfer.specs.Mirror.{decision, is_absent, is_same, is_large, may_write, removal};
+ghost use Rattle.ados_transfer.specs.Mirror.{decision, is_absent, is_same_state, is_large, may_write, removal};
 
 use crate::stamps::Stamp;
 
@@ -50,7 +50,7 @@ pub enum Removal {
 impl State<'_> {
     /// The two are alike.
     pub fn is_same(&self, other: &State<'_>) -> bool
-        ensures { result ≡ is_same self.now other.now }
+        ensures { result ≡ is_same_state self.now other.now }
     {
         match (self, other) {
             (State::Absent, State::Absent) => true,
@@ -75,16 +75,16 @@ impl State<'_> {
 pub fn decide(last: &State<'_>, here: &State<'_>, there: &State<'_>, may_delete: bool) -> Decision
     ensures decision { result ≡ decision last.now here.now there.now may_delete }
     // Nothing is overwritten or deleted on this machine unless it is what was there at the last comparison.
-    ensures safe { result ≡ Decision.Write → (is_absent here.now ≡ true) ⊎ (is_same here.now last.now ≡ true) }
+    ensures safe { result ≡ Decision.Write → (is_absent here.now ≡ true) ⊎ (is_same_state here.now last.now ≡ true) }
     // A file that is too large for the Shell is never written, and is deleted only if that is allowed.
     ensures large { result ≡ Decision.Write → is_large here.now ≡ true → (is_absent there.now ≡ true) × (may_delete ≡ true) }
     // If neither changed nothing is done.
-    ensures kept { is_same here.now last.now ≡ true → is_same there.now last.now ≡ true → result ≡ Decision.Keep }
+    ensures kept { is_same_state here.now last.now ≡ true → is_same_state there.now last.now ≡ true → result ≡ Decision.Keep }
     // If both changed this machine's object stays.
-    ensures conflict { is_same here.now last.now ≡ false → is_same there.now last.now ≡ false → is_same here.now there.now ≡ false →
+    ensures conflict { is_same_state here.now last.now ≡ false → is_same_state there.now last.now ≡ false → is_same_state here.now there.now ≡ false →
         is_absent here.now ≡ false → result ≡ Decision.Conflict }
     // The Shell's own change is never overwritten.
-    ensures brought { result ≡ Decision.Bring → is_same there.now last.now ≡ true }
+    ensures brought { result ≡ Decision.Bring → is_same_state there.now last.now ≡ true }
 {
     if here.is_same(there) {
         return Decision::Keep;
@@ -111,7 +111,7 @@ pub fn decide_removal(
     // Nothing is deleted while anything that the Shell has is unwritten.
     ensures nothing_unwritten { result ≡ Removal.Delete → has_unwritten ≡ false }
     // What is deleted is there, and is what was there at the last comparison.
-    ensures safe { result ≡ Removal.Delete → (is_absent here.now ≡ false) × (is_same here.now last.now ≡ true) }
+    ensures safe { result ≡ Removal.Delete → (is_absent here.now ≡ false) × (is_same_state here.now last.now ≡ true) }
     // A file that is too large for the Shell is deleted only if the Shell's is gone, and if that is allowed.
     ensures large { result ≡ Removal.Delete → is_large here.now ≡ true → (is_absent there.now ≡ true) × (may_delete ≡ true) }
     ensures removal { result ≡ removal last.now here.now there.now may_delete has_unwritten }

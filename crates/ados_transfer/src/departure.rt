@@ -7,7 +7,7 @@ ghost use Rattle.ados_transfer.specs.Paths.{IsBelow};
 ghost use Rattle.ados_transfer.specs.Records.{has_key};
 
 use crate::faults::TransferFault;
-use crate::folders::{is_below, is_unshared};
+use crate::folders::{is_descendant, is_unshared};
 use crate::here::Here;
 use crate::paths::step_into;
 use crate::placing::{Draft, place_whole};
@@ -103,7 +103,7 @@ impl<'a> Departures<'a> {
             return Ok(
                 self.kind_changes
                     .iter()
-                    .any(|above| is_below(above.as_str(), key)),
+                    .any(|above| is_descendant(above.as_str(), key)),
             );
         }
         self.kind_changes

@@ -2,7 +2,7 @@
 ghost use Rattle.std.specs.Prelude.{◌≡◌};
 ghost use Rattle.std.specs.List.{list_any};
 ghost use Rattle.std.specs.Option.{option_copied};
-ghost use Rattle.ados_transfer.specs.Changes.{hides, is_below, is_slash};
+ghost use Rattle.ados_transfer.specs.Changes.{hides, is_descendant, is_some_slash};
 ghost use Rattle.ados_transfer.specs.Paths.{is_unshared};
 
 use crate::choice::{Named, is_chosen, order};
@@ -279,20 +279,20 @@ pub fn lower(alloc: Global, path: &str) -> Result<String, AllocError> {
 fn hides(key: &str, unread: &Unread) -> bool
     ensures { result ≡ hides key.now unread.now }
 {
-    unread.key.as_str() == key || is_below(unread.key.as_str(), key)
+    unread.key.as_str() == key || is_descendant(unread.key.as_str(), key)
 }
 
 /// A key is that of an object below a folder.
-pub fn is_below(folder: &str, key: &str) -> bool
-    ensures { result ≡ is_below folder.now key.now }
+pub fn is_descendant(folder: &str, key: &str) -> bool
+    ensures { result ≡ is_descendant folder.now key.now }
 {
     key.as_bytes().starts_with(folder.as_bytes())
-        && (folder.is_empty() || is_slash(key.as_bytes().get(folder.len())))
+        && (folder.is_empty() || is_some_slash(key.as_bytes().get(folder.len())))
 }
 
 // A byte is a slash.
-fn is_slash(byte: Option<&u8>) -> bool
-    ensures { result ≡ is_slash (option_copied byte.entry) }
+fn is_some_slash(byte: Option<&u8>) -> bool
+    ensures { result ≡ is_some_slash (option_copied byte.entry) }
 {
     matches!(byte, Some(b'/'))
 }

@@ -1,6 +1,6 @@
 //! Paths of this machine, and places of the Shell's files.
 ghost use Rattle.std.specs.Prelude.{◌≡◌, IfOk, string_bytes};
-ghost use Rattle.ados_transfer.specs.Paths.{is_step, path_in, separator};
+ghost use Rattle.ados_transfer.specs.Paths.{is_file_name, path_in, separator};
 
 use crate::faults::{TransferFault, named};
 use ados_names::{Path, Step, is_name};
@@ -32,8 +32,8 @@ pub fn last_piece(path: &str) -> &str {
 }
 
 /// The name of an object in a folder, which leads nowhere else.
-pub fn is_step(name: &str) -> bool
-    ensures { result ≡ is_step name.now }
+pub fn is_file_name(name: &str) -> bool
+    ensures { result ≡ is_file_name name.now }
 {
     !matches!(name, "" | "." | "..") && !name.as_bytes().contains(&b'/')
 }

@@ -2,7 +2,7 @@
 
 use crate::faults::TransferFault;
 use crate::lines::{command_line, literal, start, too_long};
-use crate::stand_ins::{comment_of, is_stand_in};
+use crate::stand_ins::{is_stand_in, stand_in_comment};
 use crate::words::push_word;
 use ados_ram::{Entry, Place, Ram};
 use ados_text::{LINE_BYTES, Text};
@@ -118,7 +118,7 @@ impl ShareLines {
             self.add(b"\"amishell-protect\"", &path, b" +w")?;
         }
         self.add(b"\"amishell-bring\" >", &place.path(self.alloc)?, b"")?;
-        let comment = comment_of(self.alloc, size)?;
+        let comment = stand_in_comment(self.alloc, size)?;
         let comment = start(self.alloc, comment.as_bytes())?;
         let mut words = Text::new(self.alloc);
         push_word(&mut words, &comment, true)?;

@@ -1,7 +1,7 @@
 //! Stand-ins: empty files of the Shell in place of files of this machine that are too large for it.
 ghost use Rattle.std.specs.Prelude.{◌≡◌, ◌&&◌, not};
 ghost use Rattle.std.specs.Option.{option_copied};
-ghost use Rattle.ados_transfer.specs.StandIns.{is_empty, is_stand_in, own_entry, next_watch};
+ghost use Rattle.ados_transfer.specs.StandIns.{is_empty_file, is_stand_in, own_entry, next_watch};
 
 use crate::faults::TransferFault;
 use crate::mirror::Mirror;
@@ -17,7 +17,7 @@ const STANDS_IN: &[u8] = b" bytes, on this machine alone";
 pub fn is_stand_in(entry: &Entry) -> bool
     ensures { result ≡ is_stand_in entry.now }
 {
-    is_empty(entry) && entry.comment.as_bytes().ends_with(STANDS_IN)
+    is_empty_file(entry) && entry.comment.as_bytes().ends_with(STANDS_IN)
 }
 
 /// The entry, if it is the Shell's own: a stand-in counts as nothing, and so is never written to this machine.
@@ -31,7 +31,7 @@ pub fn own_entry(entry: Option<&Entry>) -> Option<&Entry>
 }
 
 /// The comment of the stand-in of a file of this size.
-pub fn comment_of(alloc: Global, size: u64) -> Result<String, NoMemory> {
+pub fn stand_in_comment(alloc: Global, size: u64) -> Result<String, NoMemory> {
     Ok(format!(in alloc; "{size} bytes, on this machine alone")?)
 }
 
@@ -60,7 +60,7 @@ impl Watch {
         ensures { result ≡ next_watch self (option_copied entry.entry) }
     {
         match entry {
-            Some(entry) if is_empty(entry) => Watch {
+            Some(entry) if is_empty_file(entry) => Watch {
                 had_delete: entry.bits.delete,
                 is_spared: self.is_spared || entry.bits.read,
                 ..self
@@ -81,8 +81,8 @@ impl Watch {
 }
 
 // The entry is a file without bytes.
-fn is_empty(entry: &Entry) -> bool
-    ensures { result ≡ is_empty entry.now }
+fn is_empty_file(entry: &Entry) -> bool
+    ensures { result ≡ is_empty_file entry.now }
 {
     !entry.is_directory() && entry.bytes().is_empty()
 }
@@ -117,7 +117,7 @@ impl Mirror {
     fn has_stray(&self, files: &Ram) -> Result<bool, TransferFault> {
         for place in &files.contents(&Place::root(self.alloc))? {
             let entry = files.look(place);
-            if entry.is_some_and(is_empty) && !self.is_known(place, entry)? {
+            if entry.is_some_and(is_empty_file) && !self.is_known(place, entry)? {
                 return Ok(true);
             }
         }

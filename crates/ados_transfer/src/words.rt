@@ -2,7 +2,7 @@
 ghost use Rattle.std.specs.Prelude.{◌≡◌, ◌<◌, ◌++◌, ◌∷◌, [], List, ℕ, length, true, false, OnOk, if◌then◌else◌};
 ghost use Rattle.std.specs.List.{list_all};
 ghost use Rattle.ados_text.specs.Text.{IsText};
-ghost use Rattle.ados_transfer.specs.Words.{equal_signs, escaped_byte, has_plain_ends, quoted_body, needs_no_quotes, is_first_sign, is_plain, needs_star, quoted_word, word_of, IsApart, ReadsAs};
+ghost use Rattle.ados_transfer.specs.Words.{equal_signs, escaped_byte, has_plain_ends, quoted_body, needs_no_quotes, is_first_sign, is_literal_byte, needs_star, quoted_word, word_of, IsApart, ReadsAs};
 
 use ados_text::{NoMemory, Text};
 
@@ -104,9 +104,9 @@ fn has_plain_ends(text: &[u8]) -> bool
 
 // Each byte stands for itself outside quotes.
 fn are_plain(text: &[u8]) -> bool
-    ensures { result ≡ list_all is_plain text.now }
+    ensures { result ≡ list_all is_literal_byte text.now }
 {
-    text.iter().all(|byte| is_plain(*byte))
+    text.iter().all(|byte| is_literal_byte(*byte))
 }
 
 // How many equal signs are in a text.
@@ -124,8 +124,8 @@ fn is_first_sign(byte: u8) -> bool
 }
 
 // The byte stands for itself outside quotes.
-fn is_plain(byte: u8) -> bool
-    ensures { result ≡ is_plain byte }
+fn is_literal_byte(byte: u8) -> bool
+    ensures { result ≡ is_literal_byte byte }
 {
     byte.is_ascii_alphanumeric() || PLAIN_SIGNS.contains(&byte)
 }

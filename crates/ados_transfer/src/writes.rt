@@ -3,7 +3,7 @@ ghost use Rattle.std.specs.Prelude.{◌≡◌};
 ghost use Rattle.ados_ram.specs.Entry.{bytes_of};
 ghost use Rattle.ados_transfer.specs.Here.{is_moved_away};
 
-use crate::account::{Account, is_within};
+use crate::account::{Account, is_substring};
 use crate::decision::Decision;
 use crate::departure::{Departure, write_entry};
 use crate::faults::TransferFault;
@@ -183,7 +183,7 @@ fn is_moved_away(draft: &Draft<'_>, account: &Account) -> bool
 {
     match draft.here {
         Here::File { bytes, .. } => {
-            !is_within(bytes.as_slice(), draft.entry.bytes())
+            !is_substring(bytes.as_slice(), draft.entry.bytes())
                 && account.is_in_unwritten(bytes.as_slice())
         }
         _ => false,

@@ -1,9 +1,9 @@
 //! How files and folders of this machine are written: to a temporary file in the same folder, which then takes the file's
 //! name. No link is followed.
 ghost use Rattle.std.specs.Prelude.{◌≡◌, true, IfOk, OnOk, string_bytes};
-ghost use Rattle.ados_transfer.specs.Paths.{is_step, path_in};
+ghost use Rattle.ados_transfer.specs.Paths.{is_file_name, path_in};
 
-use crate::paths::{is_step, step_into};
+use crate::paths::{is_file_name, step_into};
 use ados_text::Name;
 use std::alloc::Global;
 use std::fs::{OpenFile, OpenOptions, Permissions};
@@ -49,7 +49,7 @@ impl Manner {
 
 /// The path of a folder in a folder; it is made if it is not there. One that is a link is refused.
 pub fn enter<R: AllocGlobal + Files>(rt: &R, folder: &str, name: &str) -> io::Result<String>
-    ensures step { OnOk result (is_step name.now ≡ true) }
+    ensures step { OnOk result (is_file_name name.now ≡ true) }
     ensures path { IfOk result (λ path. string_bytes path ≡ path_in folder.now name.now) }
 {
     let path = path_of(rt.alloc(), folder, name)?;
@@ -66,9 +66,9 @@ pub fn enter<R: AllocGlobal + Files>(rt: &R, folder: &str, name: &str) -> io::Re
 
 /// A name that does not lead elsewhere.
 pub fn checked(name: &str) -> io::Result<()>
-    ensures { OnOk result (is_step name.now ≡ true) }
+    ensures { OnOk result (is_file_name name.now ≡ true) }
 {
-    if is_step(name) {
+    if is_file_name(name) {
         Ok(())
     } else {
         Err(io::Error::from(ErrorKind::InvalidInput))
@@ -77,7 +77,7 @@ pub fn checked(name: &str) -> io::Result<()>
 
 /// The path of an object in a folder; a name that leads elsewhere is refused.
 pub fn path_of(alloc: Global, folder: &str, name: &str) -> io::Result<String>
-    ensures step { OnOk result (is_step name.now ≡ true) }
+    ensures step { OnOk result (is_file_name name.now ≡ true) }
     ensures path { IfOk result (λ path. string_bytes path ≡ path_in folder.now name.now) }
 {
     checked(name)?;

@@ -4,7 +4,7 @@ use Rattle.std.proofs.lemmas.Cmp.{on_equiv, nat_list_eq_equiv}
 use Rattle.std.specs.Map.{lookup, lookup_key, remove_entry}
 use Rattle.indexmap.specs.IndexMap.{insert_entry}
 use Rattle.ados_text.specs.Text.{Text, folded_text, is_same}
-use Rattle.ados_vars.specs.Vars.{Pairs, set_pair, value_in, name_in, remove_pair}
+use Rattle.ados_vars.specs.Vars.{Pairs, set_pair, value_in, first_spelling, remove_pair}
 
 -- the same with the definitions of the map
 pub insert_entry-is : (pairs : Pairs) (name value : Text) → insert_entry is_same pairs name value ≡ set_pair pairs name value
@@ -17,8 +17,8 @@ unfolding value_in
 lookup-is [] name = refl
 lookup-is (p ∷ ps) name = ap (cond (is_same name p.0) _) (lookup-is ps name)
 
-pub lookup_key-is : (pairs : Pairs) (name : Text) → lookup_key (is_same name) pairs ≡ name_in pairs name
-unfolding name_in
+pub lookup_key-is : (pairs : Pairs) (name : Text) → lookup_key (is_same name) pairs ≡ first_spelling pairs name
+unfolding first_spelling
 lookup_key-is [] name = refl
 lookup_key-is (p ∷ ps) name = ap (cond (is_same name p.0) _) (lookup_key-is ps name)
 

@@ -28,9 +28,9 @@ value_in [] name = None
 value_in (p ∷ ps) name = if is_same name p.0 then Some p.1 else value_in ps name
 
 -- a name as it was first spelled
-unfoldable pub name_in : Pairs → Text → Option Text
-name_in [] name = None
-name_in (p ∷ ps) name = if is_same name p.0 then Some p.0 else name_in ps name
+unfoldable pub first_spelling : Pairs → Text → Option Text
+first_spelling [] name = None
+first_spelling (p ∷ ps) name = if is_same name p.0 then Some p.0 else first_spelling ps name
 
 -- the pairs without that of a name; the others keep their order
 unfoldable pub remove_pair : Pairs → Text → Pairs

@@ -1,6 +1,6 @@
 ghost use Rattle.std.specs.Prelude.{◌≡◌, [], None, option_map, IfOk, OnOk, OnErr};
 ghost use Rattle.std.specs.Option.{option_copied};
-ghost use Rattle.ados_vars.specs.Vars.{AreDistinct, name_in, set_pair, value_in, remove_pair};
+ghost use Rattle.ados_vars.specs.Vars.{AreDistinct, first_spelling, set_pair, value_in, remove_pair};
 
 use ados_text::{Name, NoMemory, Text};
 use indexmap::IndexMap;
@@ -63,7 +63,7 @@ impl Vars {
 
     /// A name as it was first spelled, with its value, if it has one. Nothing is allocated.
     pub fn pair(&self, name: &Name) -> Option<(&Name, &Text)>
-        ensures name { option_map (λ p. p.0.now) result ≡ name_in self.now name.now }
+        ensures name { option_map (λ p. p.0.now) result ≡ first_spelling self.now name.now }
         ensures value { option_map (λ p. p.1.now) result ≡ value_in self.now name.now }
     {
         self.map.get_key_value(name)

@@ -6,7 +6,7 @@ use Rattle.ados_find.specs.declared.outcomes.Breaking.{Breaking}
 use Rattle.ados_find.specs.declared.outcomes.Breaks.{Breaks}
 use Rattle.ados_machine.specs.Breaks.{broken_at, shells_after_break, broken_number, broken_place}
 use Rattle.ados_machine.specs.Shells.{ShellState}
-use Rattle.ados_machine.specs.World.{flatten}
+use Rattle.ados_machine.specs.World.{option_flatten}
 use Rattle.ados_machine.proofs.Places.{broken-after, broken-lost}
 use Rattle.ados_machine.proofs.Shells.{found, place_before}
 use Rattle.ados_world.specs.Breaks.{shells_with_broken}
@@ -23,7 +23,7 @@ others-broken (suc i) (Some breaking) shells shell now e =
 
 -- the shell at a place is broken, and no other
 pub place-broken : (breaks : Breaks) (shells : List (Option ShellState)) (i : ℕ)
-    → slice_set shells i (broken_place breaks (flatten (slice_get shells i))) ≡ broken_at breaks i shells
+    → slice_set shells i (broken_place breaks (option_flatten (slice_get shells i))) ≡ broken_at breaks i shells
 place-broken breaks [] i = refl
 place-broken breaks (shell ∷ shells) zero = refl
 place-broken breaks (shell ∷ shells) (suc i) = ap (λ l. shell ∷ l) (place-broken breaks shells i)
@@ -35,7 +35,7 @@ past-broken breaks (shell ∷ shells) (suc i) past = ap (λ l. shell ∷ l) (pas
 
 -- the same of a number
 pub number-broken : (breaks : Breaks) (shells : List (Option ShellState)) (n : ℕ) → 1 ≤ n
-    → slice_set shells (n - 1) (broken_place breaks (flatten (slice_get shells (n - 1)))) ≡ broken_number breaks n shells
+    → slice_set shells (n - 1) (broken_place breaks (option_flatten (slice_get shells (n - 1)))) ≡ broken_number breaks n shells
 number-broken breaks shells zero one = (let none : ⊥ = omega (arith, one) in absurd none)
 number-broken breaks shells (suc i) one = rw (place_before i) (place-broken breaks shells i)
 

@@ -13,7 +13,7 @@ use Rattle.ados_machine.specs.declared.outs.Out.{Out}
 use Rattle.ados_machine.specs.declared.refusals.Refusal.{Refusal}
 use Rattle.ados_machine.specs.Breaks.{has_script, kept_after_break}
 use Rattle.ados_machine.specs.Course.{Course}
-use Rattle.ados_machine.specs.Items.{Item, Began, Answered, Ended, Broke, break_of, reports_of}
+use Rattle.ados_machine.specs.Items.{Item, Began, Answered, Ended, Broke, break_item, reports_of}
 use Rattle.ados_machine.specs.Laws.{finds_flag, has_break, is_breakable}
 use Rattle.ados_machine.specs.Runs.{IsAnswer, Runs, resulting_world}
 use Rattle.ados_machine.specs.Settled.{RuleState, RuleResult, after_break, with_items_first, end_at_break}
@@ -52,7 +52,7 @@ told-later k depth (Tick before after) line log e = e
 -- the same if a script runs below a frame
 below-told : (k depth : ℕ) (frame : FrameState) (frames : List FrameState) (said : RuleState) (n : ℕ) (further : RuleResult) → nat_lt 0 n ≡ true →
     reports_break (reports_of k further.log) ≡ true →
-    reports_break (reports_of k (with_items_first (break_of depth frame ∷ []) (after_break n frame.kind frame.limit further frames said)).log) ≡ true
+    reports_break (reports_of k (with_items_first (break_item depth frame ∷ []) (after_break n frame.kind frame.limit further frames said)).log) ≡ true
 below-told k depth frame frames said zero further e told = cc
 below-told k depth frame frames said (suc n) further e told = told-later k depth frame.kind _ further.log told
 

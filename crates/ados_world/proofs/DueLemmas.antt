@@ -7,7 +7,7 @@ use Rattle.ados_flow.specs.Frames.{FrameState}
 use Rattle.ados_machine.specs.Phases.{Phase, Ready, GoingOn, Waiting}
 use Rattle.ados_machine.specs.Shells.{ShellState}
 use Rattle.ados_machine.specs.Turning.{Input}
-use Rattle.ados_machine.specs.World.{at_number, can_take, can_turn, flatten, has_frame, has_input, is_for_input}
+use Rattle.ados_machine.specs.World.{at_number, can_take, can_turn, option_flatten, has_frame, has_input, is_for_input}
 use Rattle.ados_machine.proofs.Shells.{slice_get-set_other}
 use Rattle.ados_world.specs.declared.due.DueShells.{DueShells}
 use Rattle.ados_world.specs.Due.{asks_now, is_set, takes_turns, Tells}
@@ -45,7 +45,7 @@ placed-asks (Some directory) (Some shell) = refl
 
 placed-at : (f : Option ShellState → Bool) → ((directory : Option Place) (shell : Option ShellState) → f (placed_shell directory shell) ≡ f shell)
     → (directories : List (Option Place)) (shells : List (Option ShellState)) (i : ℕ)
-    → f (flatten (slice_get (placed_shells directories shells) i)) ≡ f (flatten (slice_get shells i))
+    → f (option_flatten (slice_get (placed_shells directories shells) i)) ≡ f (option_flatten (slice_get shells i))
 placed-at f same [] shells i = refl
 placed-at f same (directory ∷ directories) [] i = refl
 placed-at f same (directory ∷ directories) (shell ∷ shells) zero = same directory shell
@@ -53,7 +53,7 @@ placed-at f same (directory ∷ directories) (shell ∷ shells) (suc i) = placed
 
 placed-number : (f : Option ShellState → Bool) → ((directory : Option Place) (shell : Option ShellState) → f (placed_shell directory shell) ≡ f shell)
     → (directories : List (Option Place)) (shells : List (Option ShellState)) (k : ℕ)
-    → f (flatten (at_number (placed_shells directories shells) k)) ≡ f (flatten (at_number shells k))
+    → f (option_flatten (at_number (placed_shells directories shells) k)) ≡ f (option_flatten (at_number shells k))
 placed-number f same directories shells zero = refl
 placed-number f same directories shells (suc i) = placed-at f same directories shells i
 
@@ -66,23 +66,23 @@ told-placed due directories shells tells = record {
 
 -- a shell changes, and its bits are renewed
 there : (shells : List (Option ShellState)) (n i : ℕ) (shell : Option ShellState) → n ≢ suc i
-    → flatten (at_number (slice_set shells i shell) n) ≡ flatten (at_number shells n)
+    → option_flatten (at_number (slice_set shells i shell) n) ≡ option_flatten (at_number shells n)
 there shells zero i shell apart = refl
-there shells (suc n) i shell apart = ap flatten (slice_get-set_other shells i shell n (λ same. apart (ap suc same)))
+there shells (suc n) i shell apart = ap option_flatten (slice_get-set_other shells i shell n (λ same. apart (ap suc same)))
 
 told-bit : (f : Option ShellState → Bool) (old new : ℕ) (shells changed : List (Option ShellState)) (n i k : ℕ) (shell : Option ShellState)
-    → n ≡ suc i → changed ≡ slice_set shells i shell → is_set old k ≡ f (flatten (at_number shells k))
-    → is_set new n ≡ f (flatten (at_number changed n)) → (k ≢ n → is_set new k ≡ is_set old k)
-    → is_set new k ≡ f (flatten (at_number changed k))
+    → n ≡ suc i → changed ≡ slice_set shells i shell → is_set old k ≡ f (option_flatten (at_number shells k))
+    → is_set new n ≡ f (option_flatten (at_number changed n)) → (k ≢ n → is_set new k ≡ is_set old k)
+    → is_set new k ≡ f (option_flatten (at_number changed k))
 told-bit f old new shells changed n i k shell next change tells renewed others =
     elim (cases_eq k n) [
-      | inl same ↦ subst (λ j. is_set new j ≡ f (flatten (at_number changed j))) (sym same) renewed
-      | inr other ↦ others other ∙ tells ∙ ap f (sym (ap (λ l. flatten (at_number l k)) change ∙ there shells k i shell (λ same. other (omega (arith, same, next)))))
+      | inl same ↦ subst (λ j. is_set new j ≡ f (option_flatten (at_number changed j))) (sym same) renewed
+      | inr other ↦ others other ∙ tells ∙ ap f (sym (ap (λ l. option_flatten (at_number l k)) change ∙ there shells k i shell (λ same. other (omega (arith, same, next)))))
     ]
 
 pub told-again : (due new : DueShells) (shells changed : List (Option ShellState)) (n i : ℕ) (shell : Option ShellState)
     → n ≡ suc i → changed ≡ slice_set shells i shell → Tells due shells
-    → is_set new.turning n ≡ takes_turns (flatten (at_number changed n)) → is_set new.pending n ≡ asks_now (flatten (at_number changed n))
+    → is_set new.turning n ≡ takes_turns (option_flatten (at_number changed n)) → is_set new.pending n ≡ asks_now (option_flatten (at_number changed n))
     → ((k : ℕ) → k ≤ 20 → k ≢ n → is_set new.turning k ≡ is_set due.turning k)
     → ((k : ℕ) → k ≤ 20 → k ≢ n → is_set new.pending k ≡ is_set due.pending k)
     → Tells new changed

@@ -3,7 +3,7 @@ use Rattle.std.proofs.Common.{◌≡◌, ℕ, true, Ok, refl}
 use Rattle.ados_machine.specs.declared.events.Event.{Event}
 use Rattle.ados_machine.specs.declared.outs.Out.{Out}
 use Rattle.ados_machine.specs.Given.{request_after_event}
-use Rattle.ados_machine.specs.InUse.{asks, entry_of, outputs_held, runs_program}
+use Rattle.ados_machine.specs.InUse.{has_request, entry_of, outputs_held, runs_program}
 use Rattle.ados_machine.specs.Limits.{IsSane}
 use Rattle.ados_machine.specs.World.{WorldState}
 use Rattle.ados_machine.specs.Step.{Response, Refused, Accepted, step_of}
@@ -36,12 +36,12 @@ step-gives w event out sane answer = request-given w event out (step_of w event)
 
 -- a resident entry stays in use
 entry-stays : (w : WorldState) (event : Event) (out : Out) (r : Response) → step_of w event ≡ r → IsAnswer event (Ok out) r →
-    (k : ℕ) → asks w k ≡ true → asks (resulting_world w (Ok out) r) k ≡ true → entry_of (resulting_world w (Ok out) r) k ≡ entry_of w k
+    (k : ℕ) → has_request w k ≡ true → has_request (resulting_world w (Ok out) r) k ≡ true → entry_of (resulting_world w (Ok out) r) k ≡ entry_of w k
 entry-stays w event out (Refused why) is answer k before after = absurd answer
 entry-stays w event out (Accepted world given items) is answer k before after = entries-stay w event world given items is k before after
 
 pub step-keeps-entries : (w : WorldState) (event : Event) (out : Out) → IsAnswer event (Ok out) (step_of w event) →
-    (k : ℕ) → asks w k ≡ true → asks (resulting_world w (Ok out) (step_of w event)) k ≡ true → entry_of (resulting_world w (Ok out) (step_of w event)) k ≡ entry_of w k
+    (k : ℕ) → has_request w k ≡ true → has_request (resulting_world w (Ok out) (step_of w event)) k ≡ true → entry_of (resulting_world w (Ok out) (step_of w event)) k ≡ entry_of w k
 step-keeps-entries w event out answer k before after = entry-stays w event out (step_of w event) refl answer k before after
 
 -- the outputs of a shell stay open while its program runs

@@ -26,9 +26,9 @@ use Rattle.ados_shell.specs.declared.drafts.Draft.{Draft}
 use Rattle.ados_shell.specs.declared.scenes.Scene.{Scene}
 use Rattle.ados_shell.specs.declared.turnings.Turning.{Turning}
 use Rattle.ados_shell.specs.declared.turnings.Turning.TheVariants as turn
-use Rattle.ados_shell.specs.Drafts.{start_of}
+use Rattle.ados_shell.specs.Drafts.{event_start}
 use Rattle.ados_shell.specs.declared.scenes.Input.{Input}
-use Rattle.ados_shell.specs.Turnings.{Gives, IsFirst, IsTurning, MayWantMemory, scene_turning}
+use Rattle.ados_shell.specs.Turnings.{GivesTurning, IsFirst, IsTurning, MayWantMemory, scene_turning}
 use Rattle.ados_world.specs.Scenes.{Shows}
 use Rattle.ados_world.specs.Steps.{step_answer, draft_out, ended_world, world_after_turn}
 use Rattle.ados_world.proofs.MemoryLemmas.{turn-may}
@@ -50,16 +50,16 @@ pub turning-is : (w : WorldState) (k : ℕ) (shell : ShellState) (scene : Scene)
     → scene_turning scene input (input_of w k).queue
     ≡ turning.flagged_turning shell.flagged (input_of w k) shell.frames (course_without_flag (start w shell)) shell.phase
 turning-is w k shell scene input s e =
-    ap (λ x. turning.flagged_turning scene.shell.now.flagged (record { queue = (input_of w k).queue; is_ended = x }) scene.shell.now.frames (course_without_flag (start_of scene)) scene.shell.now.phase) e
+    ap (λ x. turning.flagged_turning scene.shell.now.flagged (record { queue = (input_of w k).queue; is_ended = x }) scene.shell.now.frames (course_without_flag (event_start scene)) scene.shell.now.phase) e
     ∙ ap (λ x. turning.flagged_turning x.flagged (input_of w k) x.frames (course_without_flag (start_in scene.shared.now scene.shells.now x)) x.phase) s.shell_is
     ∙ ap (λ x. turning.flagged_turning shell.flagged (input_of w k) shell.frames (course_without_flag (start_in x scene.shells.now shell)) shell.phase) s.shared_is
     ∙ ap (λ x. turning.flagged_turning shell.flagged (input_of w k) shell.frames (course_without_flag (start_in w.shared x shell)) shell.phase) s.shells_are
 
 -- the turn that was given is the machine's, at the lines that wait
 pub given-turn : {found : Turning} (w : WorldState) (k : ℕ) (scene : Scene) (input : Input) (turn : Turning) (draft : Draft)
-    → found ≡ turn → Gives scene input (scene_turning scene input) found draft → IsFirst (option_copied input.line) (input_of w k).queue
+    → found ≡ turn → GivesTurning scene input (scene_turning scene input) found draft → IsFirst (option_copied input.line) (input_of w k).queue
     → IsTurning scene (input_of w k).queue turn draft (scene_turning scene input (input_of w k).queue)
-given-turn w k scene input turn draft is gives first = subst (λ t. Gives scene input (scene_turning scene input) t draft) is gives (input_of w k).queue first
+given-turn w k scene input turn draft is gives first = subst (λ t. GivesTurning scene input (scene_turning scene input) t draft) is gives (input_of w k).queue first
 
 -- an event is accepted, and leaves this world and gives this
 abbrev pub Accepts : Response → WorldState → Out → Type 0

@@ -5,13 +5,13 @@ use Rattle.std.proofs.lemmas.Bool.{cases_Bool}
 use Rattle.ados_text.specs.Text.{Text, is_same}
 use Rattle.ados_resident.specs.Residents.{count_of}
 use Rattle.ados_machine.specs.Course.{uses_of, with_use}
-use Rattle.ados_machine.specs.Shells.{ShellState, entry_in}
+use Rattle.ados_machine.specs.Shells.{ShellState, phase_entry}
 use Rattle.ados_machine.specs.World.{seen_shells}
 use Rattle.ados_world.specs.Shells.{runs_from}
 
-counts-one : (entry : Option Text) (shell : ShellState) (shells : List (Option ShellState)) (name : Text) → entry_in shell.phase ≡ entry →
+counts-one : (entry : Option Text) (shell : ShellState) (shells : List (Option ShellState)) (name : Text) → phase_entry shell.phase ≡ entry →
     length (filter (λ place. runs_from place name) shells) ≡ count_of (uses_of (seen_shells shells)) name →
-    length (filter (λ place. runs_from place name) (Some shell ∷ shells)) ≡ count_of (with_use (entry_in shell.phase) (uses_of (seen_shells shells))) name
+    length (filter (λ place. runs_from place name) (Some shell ∷ shells)) ≡ count_of (with_use (phase_entry shell.phase) (uses_of (seen_shells shells))) name
 counts-one None shell shells name is same = rw is same
 counts-one (Some entry) shell shells name is same =
     elim (cases_Bool (is_same entry name)) [
@@ -23,4 +23,4 @@ pub uses_counted : (shells : List (Option ShellState)) (name : Text) →
     length (filter (λ place. runs_from place name) shells) ≡ count_of (uses_of (seen_shells shells)) name
 uses_counted [] name = refl
 uses_counted (None ∷ shells) name = uses_counted shells name
-uses_counted (Some shell ∷ shells) name = counts-one (entry_in shell.phase) shell shells name refl (uses_counted shells name)
+uses_counted (Some shell ∷ shells) name = counts-one (phase_entry shell.phase) shell shells name refl (uses_counted shells name)

@@ -3,7 +3,7 @@ use Rattle.std.specs.Prelude.{◌≡◌, ◌≤◌, ◌-◌, ◌==◌, ℕ, List
 use Rattle.std.specs.Int.{bit_at}
 use Rattle.std.specs.List.{find, range_with_len}
 use Rattle.ados_machine.specs.Shells.{ShellState}
-use Rattle.ados_machine.specs.World.{at_number, can_turn, flatten, request_of_shell}
+use Rattle.ados_machine.specs.World.{at_number, can_turn, option_flatten, request_of_shell}
 use Rattle.ados_world.specs.declared.due.DueShells.{DueShells}
 
 -- the first number from this one on, up to 20, of which something is true
@@ -24,5 +24,5 @@ asks_now shell = is_some (request_of_shell shell)
 
 -- the words say of each number what its shell says
 pub record Tells (due : DueShells) (shells : List (Option ShellState)) : Type 0 where
-  pub turning : (k : ℕ) → k ≤ 20 → is_set due.turning k ≡ takes_turns (flatten (at_number shells k))
-  pub pending : (k : ℕ) → k ≤ 20 → is_set due.pending k ≡ asks_now (flatten (at_number shells k))
+  pub turning : (k : ℕ) → k ≤ 20 → is_set due.turning k ≡ takes_turns (option_flatten (at_number shells k))
+  pub pending : (k : ℕ) → k ≤ 20 → is_set due.pending k ≡ asks_now (option_flatten (at_number shells k))

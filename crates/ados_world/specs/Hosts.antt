@@ -22,13 +22,13 @@ abbrev pub is_host : List HostEntry → Text → Bool
 is_host hosts name = list_any (λ host. is_same name host.name) hosts
 
 -- a command has the name: an internal one, a disk command, or one of these
-abbrev pub is_taken : List HostEntry → Text → Bool
-is_taken hosts name = is_command name || is_host hosts name
+abbrev pub is_reserved_name : List HostEntry → Text → Bool
+is_reserved_name hosts name = is_command name || is_host hosts name
 
 -- why a name is refused, given its place (counted from 1) and the entries before it: it is not a name, or it is a command's
 abbrev pub name_fault : List HostEntry → ℕ → Text → Option NewFault
 name_fault before place name =
-    if not (is_name name) then Some (BadName place) else (if is_taken before name then Some (Double place) else None)
+    if not (is_name name) then Some (BadName place) else (if is_reserved_name before name then Some (Double place) else None)
 
 -- the fault of the first of these that has one; the number is that of the entries before them
 abbrev pub first_host_fault : List HostEntry → ℕ → List HostEntry → Option NewFault

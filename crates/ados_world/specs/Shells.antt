@@ -3,9 +3,9 @@ use Rattle.std.specs.Prelude.{◌≤◌, ◌-◌, ℕ, List, [], ◌∷◌, Bool
 use Rattle.ados_text.specs.Text.{Text, is_same}
 use Rattle.ados_ram.specs.Place.{Place}
 use Rattle.ados_find.specs.declared.outcomes.Renamed.{Renamed}
-use Rattle.ados_machine.specs.Shells.{ShellState, entry_in}
+use Rattle.ados_machine.specs.Shells.{ShellState, phase_entry}
 use Rattle.ados_machine.specs.Carrying.{carried_directory, carried_shell, carried_shells, in_directory}
-use Rattle.ados_machine.specs.World.{flatten, at_number}
+use Rattle.ados_machine.specs.World.{option_flatten, at_number}
 use Rattle.ados_shell.specs.declared.drafts.ShellDraft.{ShellDraft}
 use Rattle.ados_shell.specs.Drafts.{drafted_shell}
 
@@ -15,7 +15,7 @@ pub record IsShellNumber (number : ℕ) : Type 0 where
 
 -- the shell at a number is replaced by what a function makes of it
 abbrev pub with_shell : ℕ → (ShellState → ShellState) → List (Option ShellState) → List (Option ShellState) → List (Option ShellState)
-with_shell number change shells others = slice_set others (number - 1) (option_map change (flatten (at_number shells number)))
+with_shell number change shells others = slice_set others (number - 1) (option_map change (option_flatten (at_number shells number)))
 
 -- the shells after what a turn makes of one of them
 abbrev pub updated_shells : ℕ → ShellDraft → List (Option ShellState) → List (Option ShellState)
@@ -38,7 +38,7 @@ is_entry (Some entry) name = is_same entry name
 
 abbrev pub runs_from : Option ShellState → Text → Bool
 runs_from None name = false
-runs_from (Some shell) name = is_entry (entry_in shell.phase) name
+runs_from (Some shell) name = is_entry (phase_entry shell.phase) name
 
 -- the current directories of all shells, after they moved along with what was moved
 abbrev pub carried_directories : Renamed → List (Option ShellState) → List (Option Place)

@@ -9,7 +9,7 @@ use Rattle.ados_machine.specs.Carrying.{moved_object}
 use Rattle.ados_machine.specs.Numbers.{free_number}
 use Rattle.ados_machine.specs.Requests.{request_of}
 use Rattle.ados_machine.specs.Step.{event_out}
-use Rattle.ados_machine.specs.World.{WorldState, flatten, at_number}
+use Rattle.ados_machine.specs.World.{WorldState, option_flatten, at_number}
 use Rattle.ados_shell.specs.declared.drafts.Draft.{Draft}
 use Rattle.ados_shell.specs.Drafts.{out_of, drafted_phase}
 use Rattle.ados_world.specs.Breaks.{shells_with_broken}
@@ -31,7 +31,7 @@ shells_after_turn number draft w = shells_with_broken number draft.breaking (she
 abbrev pub world_after_turn : ℕ → Draft → WorldState → WorldState
 world_after_turn number draft w =
     (let shells = shells_after_turn number draft w in
-    let codes = final_codes number (flatten (at_number shells number)) in
+    let codes = final_codes number (option_flatten (at_number shells number)) in
     record w {
       shells = remaining_shells codes number shells;
       ended = recorded_codes codes number w.ended;
@@ -48,8 +48,8 @@ abbrev pub ended_world : ℕ → Codes → WorldState → WorldState
 ended_world number codes w = record w { shells = slice_set w.shells (number - 1) None; ended = slice_set w.ended (number - 1) codes }
 
 -- the world in which a line joined the queue
-abbrev pub with_line : List ℕ → WorldState → WorldState
-with_line line w = record w { queue = w.queue ++ line ∷ [] }
+abbrev pub with_queued_line : List ℕ → WorldState → WorldState
+with_queued_line line w = record w { queue = w.queue ++ line ∷ [] }
 
 -- the result of an event with this output, if it was accepted
 abbrev pub step_answer : {X : Type 0} → Out → Result X Refusal → Result Out Refusal

@@ -2,7 +2,7 @@
 ghost use Rattle.std.specs.Prelude.{◌≡◌, ◌<◌, ◌≤◌};
 ghost use Rattle.std.specs.List.{slice_get, slice_set};
 ghost use Rattle.ados_machine.specs.Breaks.{kind_breaks, broken_number, broken_place};
-ghost use Rattle.ados_machine.specs.World.{flatten};
+ghost use Rattle.ados_machine.specs.World.{option_flatten};
 ghost use Rattle.ados_world.specs.Breaks.{shells_with_broken};
 
 use crate::table::ShellTable;
@@ -34,7 +34,7 @@ pub fn break_number(shells: &mut [Option<Shell>; 20], number: usize, breaks: Bre
 /// The shell at a place is broken, if one runs.
 fn break_place(shells: &mut [Option<Shell>; 20], place: usize, breaks: Breaks)
     requires { place < 20 }
-    ensures { shells.new ≡ slice_set shells.old place (broken_place breaks (flatten (slice_get shells.old place))) }
+    ensures { shells.new ≡ slice_set shells.old place (broken_place breaks (option_flatten (slice_get shells.old place))) }
 {
     match &mut shells[place] {
         None => {}

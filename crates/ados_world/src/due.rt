@@ -1,7 +1,7 @@
 // Which shells are due, as two words with a bit for each number.
 ghost use Rattle.std.specs.Prelude.{◌≡◌, ◌≢◌, ◌≤◌, ℕ, false, IfSome};
 ghost use Rattle.std.specs.Option.{option_copied};
-ghost use Rattle.ados_machine.specs.World.{at_number, flatten};
+ghost use Rattle.ados_machine.specs.World.{at_number, option_flatten};
 ghost use Rattle.ados_world.specs.Due.{asks_now, first_number, is_set, takes_turns};
 ghost use Rattle.ados_world.specs.Shells.{IsShellNumber};
 
@@ -32,8 +32,8 @@ impl DueShells {
     /// Renews the bits of a number, by its shell among these.
     pub fn renew(&mut self, number: u8, shells: &[Option<Shell>; 20])
         requires { IsShellNumber number }
-        ensures turning { is_set self.new.turning number ≡ takes_turns (flatten (at_number shells.now number)) }
-        ensures pending { is_set self.new.pending number ≡ asks_now (flatten (at_number shells.now number)) }
+        ensures turning { is_set self.new.turning number ≡ takes_turns (option_flatten (at_number shells.now number)) }
+        ensures pending { is_set self.new.pending number ≡ asks_now (option_flatten (at_number shells.now number)) }
         ensures other_turning { (k : ℕ) → k ≤ 20 → k ≢ number → is_set self.new.turning k ≡ is_set self.old.turning k }
         ensures other_pending { (k : ℕ) → k ≤ 20 → k ≢ number → is_set self.new.pending k ≡ is_set self.old.pending k }
     {

@@ -1,7 +1,7 @@
 // The ends of shells.
 ghost use Rattle.std.specs.Prelude.{◌≡◌, ◌-◌, None};
 ghost use Rattle.std.specs.List.{slice_set};
-ghost use Rattle.ados_machine.specs.World.{flatten, at_number};
+ghost use Rattle.ados_machine.specs.World.{option_flatten, at_number};
 ghost use Rattle.ados_world.specs.Endings.{final_codes, recorded_codes, remaining_shells};
 ghost use Rattle.ados_world.specs.Shells.{IsShellNumber};
 
@@ -13,8 +13,8 @@ use ados_shell::Shell;
 /// The shell with this number ends, if it is a background shell that no longer runs a frame; its codes are kept.
 pub fn end_done(shells: &mut ShellTable, ended: &mut [Codes; 20], number: u8)
     requires { IsShellNumber number }
-    ensures shells { shells.new ≡ remaining_shells (final_codes number (flatten (at_number shells.old number))) number shells.old }
-    ensures ended { ended.new ≡ recorded_codes (final_codes number (flatten (at_number shells.old number))) number ended.old }
+    ensures shells { shells.new ≡ remaining_shells (final_codes number (option_flatten (at_number shells.old number))) number shells.old }
+    ensures ended { ended.new ≡ recorded_codes (final_codes number (option_flatten (at_number shells.old number))) number ended.old }
 {
     if let Some(codes) = codes_left(shells.places(), number) {
         end(shells, ended, number, codes);
@@ -33,7 +33,7 @@ pub fn end(shells: &mut ShellTable, ended: &mut [Codes; 20], number: u8, codes: 
 
 /// The codes that the shell with this number leaves, if it is a background shell that no longer runs a frame.
 fn codes_left(shells: &[Option<Shell>; 20], number: u8) -> Option<Codes>
-    ensures { result ≡ final_codes number (flatten (at_number shells.now number)) }
+    ensures { result ≡ final_codes number (option_flatten (at_number shells.now number)) }
 {
     match find_shell(shells, number) {
         Some(shell) if number != 1 && !shell.has_frame() => Some(shell.codes()),

@@ -1,7 +1,7 @@
 // The host's commands that a world is made with.
 ghost use Rattle.std.specs.Prelude.{◌≡◌};
 ghost use Rattle.ados_text.specs.Text.{is_same};
-ghost use Rattle.ados_world.specs.Hosts.{first_host_fault, hosts_fault, is_command, is_host, is_taken, name_fault};
+ghost use Rattle.ados_world.specs.Hosts.{first_host_fault, hosts_fault, is_command, is_host, is_reserved_name, name_fault};
 
 use ados_names::is_name;
 use ados_resident::{DiskCommand, HostEntry, InternalCommand};
@@ -57,7 +57,7 @@ fn name_fault(before: &[HostEntry], place: usize, name: &Text) -> Option<NewFaul
 {
     if !is_name(name) {
         Some(NewFault::BadName(place))
-    } else if is_taken(before, name) {
+    } else if is_reserved_name(before, name) {
         Some(NewFault::Double(place))
     } else {
         None
@@ -65,8 +65,8 @@ fn name_fault(before: &[HostEntry], place: usize, name: &Text) -> Option<NewFaul
 }
 
 /// A command has the name: an internal one, a disk command, or one of these.
-fn is_taken(hosts: &[HostEntry], name: &Text) -> bool
-    ensures { result ≡ is_taken hosts.now name.now }
+fn is_reserved_name(hosts: &[HostEntry], name: &Text) -> bool
+    ensures { result ≡ is_reserved_name hosts.now name.now }
 {
     is_command(name) || is_host(hosts, name)
 }

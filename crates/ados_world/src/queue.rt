@@ -6,7 +6,7 @@ ghost use Rattle.ados_machine.specs.Step.{Accepted, Refused, typing_response, en
 ghost use Rattle.ados_machine.specs.Runs.{IsAnswer, resulting_world};
 ghost use Rattle.ados_machine.specs.declared.refusals.Refusal.TheVariants.{NoMemory};
 ghost use Rattle.ados_shell.specs.Turnings.{IsFirst};
-ghost use Rattle.ados_world.specs.Steps.{step_answer, with_line};
+ghost use Rattle.ados_world.specs.Steps.{step_answer, with_queued_line};
 
 use crate::worlds::World;
 use ados_machine::{Event, Refusal};
@@ -30,7 +30,7 @@ impl World {
 
     /// A line may join the queue, unless an allocation fails.
     pub(crate) fn admit(&self, line: &Text) -> Result<(), Refusal>
-        ensures ok { OnOk result (typing_response self.now line.now ≡ Accepted (with_line line.now self.now) (event_out [] None []) []) }
+        ensures ok { OnOk result (typing_response self.now line.now ≡ Accepted (with_queued_line line.now self.now) (event_out [] None []) []) }
         ensures err { IfErr result (λ why. typing_response self.now line.now ≡ Refused why) }
     {
         if self.input_ended {
@@ -47,7 +47,7 @@ impl World {
 
     /// A line joins the queue.
     pub(crate) fn queue_line(&mut self, line: Text) -> Result<(), Refusal>
-        ensures ok { OnOk result (self.new ≡ with_line line self.old) }
+        ensures ok { OnOk result (self.new ≡ with_queued_line line self.old) }
         ensures err { IfErr result (λ why. why ≡ NoMemory) }
         ensures unchanged { OnErr result (self.new ≡ self.old) }
     {

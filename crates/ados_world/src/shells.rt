@@ -2,7 +2,7 @@
 ghost use Rattle.std.specs.Prelude.{◌≡◌, None, map, length, replicate, is_some, OnErr, OnOk, OnSome, true};
 ghost use Rattle.std.specs.List.{filter, list_any};
 ghost use Rattle.std.specs.Option.{option_copied};
-ghost use Rattle.ados_machine.specs.World.{flatten, at_number};
+ghost use Rattle.ados_machine.specs.World.{option_flatten, at_number};
 ghost use Rattle.ados_world.specs.Shells.{IsShellNumber, updated_carried_shells, is_entry, runs_from, shells_after_draft};
 
 use crate::carrying::carried_directories;
@@ -68,7 +68,7 @@ pub fn taken(shells: &[Option<Shell>; 20]) -> [bool; 20]
 
 /// The shell with this number, counted from 1.
 pub fn find_shell(shells: &[Option<Shell>; 20], number: u8) -> Option<&Shell>
-    ensures shell { option_copied result ≡ flatten (at_number shells.now number) }
+    ensures shell { option_copied result ≡ option_flatten (at_number shells.now number) }
     ensures number { OnSome result (IsShellNumber number) }
 {
     match number {
@@ -91,7 +91,7 @@ pub fn change_shell(
     moved: Option<&Renamed>,
 ) -> Result<(), NoMemory>
     requires number { IsShellNumber number }
-    requires runs { is_some (flatten (at_number shells.old number)) ≡ true }
+    requires runs { is_some (option_flatten (at_number shells.old number)) ≡ true }
     ensures ok { OnOk result (shells.new ≡ shells_after_draft number draft.old (option_copied moved.entry) shells.old) }
     ensures err { OnErr result (shells.new ≡ shells.old) }
 {
@@ -109,7 +109,7 @@ fn carry_in(
     moved: &Renamed,
 ) -> Result<(), NoMemory>
     requires number { IsShellNumber number }
-    requires runs { is_some (flatten (at_number shells.old number)) ≡ true }
+    requires runs { is_some (option_flatten (at_number shells.old number)) ≡ true }
     ensures ok { OnOk result (shells.new ≡ updated_carried_shells number moved.now draft.old shells.old) }
     ensures err { OnErr result (shells.new ≡ shells.old) }
 {

@@ -1,7 +1,7 @@
 // The step: what an event makes of a world.
 ghost use Rattle.std.specs.Prelude.{◌≡◌, ℕ, [], drop, false, IfErr, IfOk, OnErr, OnOk, is_some, true};
 ghost use Rattle.ados_machine.specs.Given.{request_after_event};
-ghost use Rattle.ados_machine.specs.InUse.{asks, entry_of, outputs_held, runs_program};
+ghost use Rattle.ados_machine.specs.InUse.{has_request, entry_of, outputs_held, runs_program};
 ghost use Rattle.ados_machine.specs.Laws.{finds_flag};
 ghost use Rattle.ados_machine.specs.Limits.{IsSane};
 ghost use Rattle.ados_machine.specs.World.{is_over, numbered_shell};
@@ -50,7 +50,7 @@ impl World {
         ensures request { IfOk result (λ out. out.request ≡ request_after_event self.new event.now) }
         ensures binding { OnOk result (BindsWhatItUsed self.old event.now self.new) }
         ensures breaks { IfOk result (λ out. reports_break out.reports ≡ finds_flag self.old event.now) }
-        ensures entries { OnOk result ((k : ℕ) → asks self.old k ≡ true → asks self.new k ≡ true → entry_of self.new k ≡ entry_of self.old k) }
+        ensures entries { OnOk result ((k : ℕ) → has_request self.old k ≡ true → has_request self.new k ≡ true → entry_of self.new k ≡ entry_of self.old k) }
         ensures outputs { OnOk result ((k : ℕ) → runs_program self.old k ≡ true → runs_program self.new k ≡ true → outputs_held self.new k ≡ outputs_held self.old k) }
     {
         let mut draft = Draft::new(self.alloc);

@@ -2,7 +2,7 @@
 ghost use Rattle.std.specs.Prelude.{◌≡◌, ◌∷◌, ◌-◌, ◌≤◌, None, Some, replicate, IfSome, OnErr, OnOk};
 ghost use Rattle.std.specs.List.{slice_set};
 ghost use Rattle.ados_machine.specs.Breaks.{broken_number};
-ghost use Rattle.ados_machine.specs.World.{at_number, flatten};
+ghost use Rattle.ados_machine.specs.World.{at_number, option_flatten};
 ghost use Rattle.ados_world.specs.Due.{asks_now, first_number, takes_turns};
 ghost use Rattle.ados_world.specs.Shells.{IsShellNumber, placed_shells, updated_shells};
 
@@ -60,7 +60,7 @@ impl ShellTable {
     /// The first shell from a number on that takes a turn once it has input.
     pub fn first_turning(&self, from: u8) -> Option<u8>
         requires { from ≤ 21 }
-        ensures number { result ≡ first_number from (λ k. takes_turns (flatten (at_number self.now k))) }
+        ensures number { result ≡ first_number from (λ k. takes_turns (option_flatten (at_number self.now k))) }
         ensures low { IfSome result (λ number. from ≤ number) }
         ensures high { IfSome result (λ number. number ≤ 20) }
     {
@@ -70,7 +70,7 @@ impl ShellTable {
     /// The first shell from a number on that asked a launcher for something, and waits for it.
     pub fn first_pending(&self, from: u8) -> Option<u8>
         requires { from ≤ 21 }
-        ensures number { result ≡ first_number from (λ k. asks_now (flatten (at_number self.now k))) }
+        ensures number { result ≡ first_number from (λ k. asks_now (option_flatten (at_number self.now k))) }
         ensures low { IfSome result (λ number. from ≤ number) }
         ensures high { IfSome result (λ number. number ≤ 20) }
     {

@@ -6,7 +6,7 @@ ghost use Rattle.ados_world.specs.Hosts.{Answers, hosts_fault};
 ghost use Rattle.ados_world.specs.Scenes.{Shows};
 ghost use Rattle.ados_world.specs.Shells.{IsShellNumber};
 ghost use Rattle.ados_machine.specs.Children.{child_in};
-ghost use Rattle.ados_machine.specs.InUse.{asks};
+ghost use Rattle.ados_machine.specs.InUse.{has_request};
 ghost use Rattle.ados_machine.specs.Limits.{IsSane};
 ghost use Rattle.ados_machine.specs.Starts.{use_count};
 ghost use Rattle.ados_machine.specs.World.{fresh_world, numbered_shell, is_over, is_ready, wants_line, codes_at, left_codes, running_numbers, pending_of};
@@ -152,7 +152,7 @@ impl World {
     /// [`pending`](World::pending) says.
     pub fn first_pending(&self, from: u8) -> Option<u8>
         requires { from ≤ 21 }
-        ensures number { result ≡ first_number from (asks self.now) }
+        ensures number { result ≡ first_number from (has_request self.now) }
         ensures low { IfSome result (λ number. from ≤ number) }
         ensures high { IfSome result (λ number. number ≤ 20) }
     {

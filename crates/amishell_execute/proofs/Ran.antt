@@ -8,7 +8,7 @@ use Rattle.ados_launch.specs.declared.alone.SystemEnd.{SystemEnd}
 use Rattle.ados_launch.specs.declared.alone.SystemEnd.TheVariants.{Ended, NoShell, StillRunning}
 use Rattle.ados_launch.specs.declared.alone.SystemFault.{SystemFault}
 use Rattle.ados_launch.specs.Alone.{EndedAs, IfEnded, IfRunning, IfUnopened, RunsOn, LineProgress}
-use Rattle.ados_launch.specs.Leads.{Reaches}
+use Rattle.ados_launch.specs.Leads.{IsReachable}
 use Rattle.ados_launch.proofs.LeadingAlone.{leads_alone}
 
 -- nothing was opened: the world stays, whatever else does
@@ -28,6 +28,6 @@ pub leads_ran : (w last : WorldState) (line : Text) (turns : ℕ) (is_full : Boo
     → IfRunning result (RunsOn w line turns is_full last before now calls calls_now)
     → IfUnopened result ((last ≡ w) × rest × more)
     → IfErr result (λ fault. IfSome fault.shell (LineProgress w line turns is_full fault last before now calls calls_now))
-    → Reaches w last
+    → IsReachable w last
 leads_ran w last line turns is_full before now calls calls_now result rest more ended running unopened fault =
     leads_alone w last line turns is_full before now calls calls_now result rest ended running (stays result (last ≡ w) rest more unopened) fault

@@ -2,7 +2,7 @@
 
 ghost use Rattle.std.specs.Prelude.{◌<◌, ◌^◌, ◌-◌, []};
 ghost use Rattle.ados_launch.specs.Agreement.{Agrees};
-ghost use Rattle.ados_launch.specs.Leads.{Reaches};
+ghost use Rattle.ados_launch.specs.Leads.{IsReachable};
 
 use crate::faults::Fault;
 use crate::launcher::Bringer;
@@ -40,7 +40,7 @@ pub fn play<R: AllocGlobal + Files + Input + Print + Eprint + Processes + Clone 
     share: Option<&mut Share>,
 ) -> Result<End, Fault>
     requires { Agrees world.old [] }
-    ensures leads { Reaches world.old world.new }
+    ensures leads { IsReachable world.old world.new }
 {
     let mut run = Run {
         rt,
@@ -83,7 +83,7 @@ impl<R: AllocGlobal + Files + Eprint + Processes + Clone + Drop + Clock, I: Read
         requires reader { self.old.reader.faults < 2 ^ 64 - 1 }
         requires writer { K.faults self.old.writer < 2 ^ 64 - 1 }
         requires agrees { Agrees world.old self.old.launcher.calls }
-        ensures leads { Reaches world.old world.new }
+        ensures leads { IsReachable world.old world.new }
     {
         let Some(share) = share else {
             let drive = Drive {

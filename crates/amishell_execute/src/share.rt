@@ -1,7 +1,7 @@
 //! A folder of this machine that is shared with the Shell.
 ghost use Rattle.std.specs.Prelude.{◌≡◌, ◌<◌, ◌^◌, ◌-◌, [], IsOk, OnOk};
 ghost use Rattle.ados_launch.specs.Agreement.{Agrees, IsOpenTable};
-ghost use Rattle.ados_launch.specs.Leads.{Reaches};
+ghost use Rattle.ados_launch.specs.Leads.{IsReachable};
 
 use crate::faults::{Fault, cannot_read, report};
 use crate::launcher::{Bringer, Start};
@@ -64,7 +64,7 @@ impl Share {
     ) -> Result<Share, Fault>
         requires agrees { Agrees world.old [] }
         ensures agrees { OnOk result (Agrees world.new []) }
-        ensures leads { Reaches world.old world.new }
+        ensures leads { IsReachable world.old world.new }
     {
         let alloc = rt.alloc();
         let Ok(home) = env::current_dir(rt) else {
@@ -109,7 +109,7 @@ impl Share {
         ensures agrees { OnOk result (Agrees world.new launcher.new.calls) }
         ensures children { OnOk result (IsOpenTable session.new.children launcher.new.calls) }
         ensures schedule { session.new.schedule ≡ session.old.schedule }
-        ensures leads { Reaches world.old world.new }
+        ensures leads { IsReachable world.old world.new }
     {
         self.mirror.watch(world.files());
         if !self.is_filled {
@@ -156,7 +156,7 @@ impl Share {
     ) -> Result<(), Fault>
         requires agrees { Agrees world.old launcher.old.calls }
         ensures agrees { OnOk result (Agrees world.new launcher.new.calls) }
-        ensures leads { Reaches world.old world.new }
+        ensures leads { IsReachable world.old world.new }
     {
         for arrival in self.mirror.arrivals(rt, world.files())? {
             let arrival = take_in(rt.alloc(), world, launcher, arrival)?;
@@ -217,7 +217,7 @@ fn take_in<R: Processes>(
 ) -> Result<Arrival, Fault>
     requires agrees { Agrees world.old launcher.old.calls }
     ensures agrees { OnOk result (Agrees world.new launcher.new.calls) }
-    ensures leads { Reaches world.old world.new }
+    ensures leads { IsReachable world.old world.new }
 {
     launcher.offer(arrival.bytes.take());
     run_lines(alloc, world, arrival.lines.as_slice(), launcher)?;
@@ -234,7 +234,7 @@ fn run_lines<L: Launcher>(
 ) -> Result<(), Fault>
     requires agrees { Agrees world.old (L.calls launcher.old) }
     ensures agrees { OnOk result (Agrees world.new (L.calls launcher.new)) }
-    ensures leads { Reaches world.old world.new }
+    ensures leads { IsReachable world.old world.new }
 {
     for line in lines {
         run_alone(alloc, world, line, launcher)?;
@@ -251,7 +251,7 @@ fn run_alone<L: Launcher>(
 ) -> Result<(), Fault>
     requires agrees { Agrees world.old (L.calls launcher.old) }
     ensures agrees { OnOk result (Agrees world.new (L.calls launcher.new)) }
-    ensures leads { Reaches world.old world.new }
+    ensures leads { IsReachable world.old world.new }
 {
     let mut printed = Vec::new(alloc);
     let ran = system(alloc, world, line, launcher, EVENTS, &mut printed);

@@ -2,7 +2,7 @@ use Rattle.std.proofs.Common.{◌≡◌, ◌∙◌, sym, ap, subst, List, ℕ, b
 use Rattle.std.proofs.lemmas.Result.{IfOk-weaker}
 use Rattle.ados_pattern.specs.declared.parts.Part.{Part}
 use Rattle.ados_pattern.specs.Form.{Form, Char, Any, Range, Then, Either, form_of}
-use Rattle.ados_pattern.specs.Matches.{Matches, in_range, is_any, is_same}
+use Rattle.ados_pattern.specs.Matches.{Matches, in_range, is_any, is_same_character}
 use Rattle.ados_pattern.specs.Reach.{Reaches}
 use Rattle.ados_pattern.proofs.Places.{reach-either, reach-step, reach-table, reach-then}
 use Rattle.ados_pattern.proofs.reaching.+reached.Goals as goal
@@ -12,7 +12,7 @@ at_part : (part : Part) (form : Form) (text : List ℕ) (starts ends : ℕ) → 
 at_part part form text starts ends e r = let P : Form → Type 0 = λ f. Reaches (Matches f) text starts ends in subst P (sym e) r
 
 pub returns-in-Char : goal.returns-in-Char
-returns-in-Char t c = at_part c.args.part.now (Char c.in-Char.c) c.args.text.now c.args.starts c.stepped.result (ap form_of c.in-Char.is) (reach-step (is_same c.in-Char.c) c.args.text.now c.args.starts c.stepped.result c.requires.short c.stepped.ensures)
+returns-in-Char t c = at_part c.args.part.now (Char c.in-Char.c) c.args.text.now c.args.starts c.stepped.result (ap form_of c.in-Char.is) (reach-step (is_same_character c.in-Char.c) c.args.text.now c.args.starts c.stepped.result c.requires.short c.stepped.ensures)
 
 pub returns-in-Any : goal.returns-in-Any
 returns-in-Any t c = at_part c.args.part.now Any c.args.text.now c.args.starts c.stepped-in-Any.result (ap form_of c.in-Any.is) (reach-step is_any c.args.text.now c.args.starts c.stepped-in-Any.result c.requires.short c.stepped-in-Any.ensures)

@@ -1,7 +1,7 @@
 use Rattle.std.proofs.Common.{◌≡◌, ◌∙◌, ◌-◌, Some, ap, sym}
 use Rattle.std.specs.Prelude.{option_map, slice_set}
 use Rattle.ados_machine.specs.Carrying.{carried_directory, carried_shell, carried_shells}
-use Rattle.ados_machine.specs.World.{flatten, at_number}
+use Rattle.ados_machine.specs.World.{option_flatten, at_number}
 use Rattle.ados_shell.specs.Drafts.{drafted_shell}
 use Rattle.ados_world.specs.Shells.{placed_shells, carried_directories}
 use Rattle.ados_world.proofs.CarryingLemmas.{placed-set}
@@ -15,8 +15,8 @@ returns-clause-ok c =
     let shell = c.in-Some.shell.now in
     let draft = c.args.draft.now in
     let new = drafted_shell draft shell in
-    let here : flatten (at_number shells n) ≡ Some shell =
-    ap (λ l. flatten (at_number l n)) (sym c.places.ensures) ∙ sym c.in-Some.ensures.shell in
+    let here : option_flatten (at_number shells n) ≡ Some shell =
+    ap (λ l. option_flatten (at_number l n)) (sym c.places.ensures) ∙ sym c.in-Some.ensures.shell in
     c.carry.ensures
     ∙ ap (λ l. placed_shells (slice_set l (n - 1) (Some c.in_ok-own.own)) c.move_in.new.self) (c.in_ok-directories.ensures ∙ ap (carried_directories moved) c.places-2.ensures)
     ∙ ap (λ d. placed_shells (slice_set (carried_directories moved shells) (n - 1) (Some d)) c.move_in.new.self) c.in_ok-own.ensures

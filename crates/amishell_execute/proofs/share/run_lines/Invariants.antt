@@ -1,9 +1,9 @@
 use Rattle.ados_launch.specs.Agreement.{Agrees}
-use Rattle.ados_launch.specs.Leads.{Reaches}
+use Rattle.ados_launch.specs.Leads.{IsReachable}
 use Rattle.amishell_execute.proofs.share.run_lines.Given as goal
 
 abbrev pub invariant-loop-line : goal.invariant-loop-line
 invariant-loop-line g l = record {
   agrees : Agrees l.world (g.L.Launcher.calls l.launcher);
-  leads : Reaches l.fn.world l.world;
+  leads : IsReachable l.fn.world l.world;
 }

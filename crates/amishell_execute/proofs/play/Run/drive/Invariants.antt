@@ -1,6 +1,6 @@
 use Rattle.std.proofs.Common.{◌≡◌, ◌≤◌}
 use Rattle.ados_launch.specs.Agreement.{Agrees, IsOpenTable}
-use Rattle.ados_launch.specs.Leads.{Reaches}
+use Rattle.ados_launch.specs.Leads.{IsReachable}
 use Rattle.amishell_execute.proofs.play.Run.drive.Given as goal
 
 abbrev pub invariant-loop : goal.invariant-loop
@@ -9,6 +9,6 @@ invariant-loop g l = record {
   writer : g.K.Sink.faults l.self.writer ≡ g.K.Sink.faults l.fn.self.writer;
   count : l.session.schedule.taken ≤ l.counter;
   agrees : Agrees l.world l.self.launcher.calls;
-  leads : Reaches l.fn.world l.world;
+  leads : IsReachable l.fn.world l.world;
   children : IsOpenTable l.session.children l.self.launcher.calls;
 }

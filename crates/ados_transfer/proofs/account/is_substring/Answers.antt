@@ -1,6 +1,6 @@
 use Rattle.std.proofs.Common.{rules}
 use Rattle.ados_transfer.proofs.WithinLemmas.{within_kept}
-use Rattle.ados_transfer.proofs.account.is_within.Goals as goal
+use Rattle.ados_transfer.proofs.account.is_substring.Goals as goal
 
 pub loop-from-preserved : goal.loop-from-preserved
 loop-from-preserved c =
