@@ -16,10 +16,10 @@ use Rattle.ados_names.proofs.PathLemmas.{path-text}
 use Rattle.ados_ram.specs.declared.entries.Entry.{Entry}
 use Rattle.ados_ram.specs.Place.{Key, Place, key_of, last_name}
 use Rattle.ados_ram.specs.Files.{AreNamed, Files, IsTree, is_some_directory}
-use Rattle.ados_ram.specs.Written.{slash_before, slash_joined, spelled_name, spelled_path, written_names, written_place}
+use Rattle.ados_ram.specs.Written.{slash_before, slash_joined, written_name, given_path, written_names, written_place}
 use Rattle.ados_ram.proofs.ChangeLemmas.{last-deeper}
 use Rattle.ados_assign.specs.Resolve.{Resolved, by_path, on_entry, resolve_path, walk_steps}
-use Rattle.ados_assign.specs.FullPaths.{FullPathsLeadBack, IsThere, SpelledPathsLeadBack, WrittenPlacesAreTheirs}
+use Rattle.ados_assign.specs.FullPaths.{FullPathsLeadBack, IsThere, GivenPathsLeadBack, WrittenPlacesAreTheSame}
 
 -- the steps into names
 abbrev steps_into : Place → List Step
@@ -39,7 +39,7 @@ written-slashed [] = refl
 written-slashed (name ∷ rest) =
     ap (λ (t : List ℕ). name ++ t) (after-slash rest (written-slashed rest)) ∙ sym (append_assoc name (slash_before rest) (slash_joined rest))
 
-text-spelled : (place : Place) → text_of (path_to place) ≡ spelled_path place
+text-spelled : (place : Place) → text_of (path_to place) ≡ given_path place
 text-spelled place = ap (λ (t : List ℕ). codes "RAM:" ++ t) (written-slashed place)
 
 -- its names may be used in it
@@ -47,7 +47,7 @@ steps-names : (names : Place) → list_all is_step (steps_into names) ≡ list_a
 steps-names [] = refl
 steps-names (name ∷ rest) = ap (λ b. is_name name && b) (steps-names rest)
 
-names-path : (place : Place) → IsTrue (list_all is_name place) → length (spelled_path place) ≤ path_limit → path_of (spelled_path place) ≡ Ok (path_to place)
+names-path : (place : Place) → IsTrue (list_all is_name place) → length (given_path place) ≤ path_limit → path_of (given_path place) ≡ Ok (path_to place)
 names-path place names fits =
     let is : IsPath (path_to place) = record { parts = steps-names place ∙ names; fits = subst (λ (t : List ℕ). length t ≤ path_limit) (sym (text-spelled place)) fits } in
     ap path_of (sym (text-spelled place)) ∙ path-text (path_to place) is
@@ -70,7 +70,7 @@ walks files from (name ∷ next ∷ more) are there =
     ∙ walks files here (next ∷ more) are below
     ∙ ap Ok (sym one)
 
-pub spelled-back : SpelledPathsLeadBack
+pub spelled-back : GivenPathsLeadBack
 spelled-back files place are is fits assigns current =
     ap (by_path (resolve_path assigns files current)) (names-path place is.names fits) ∙ walks files [] place are is.there
 
@@ -80,7 +80,7 @@ last-of [] name = refl
 last-of (x ∷ []) name = refl
 last-of (x ∷ y ∷ ys) name = last-deeper x y (ys ++ name ∷ []) ∙ last-of (y ∷ ys) name
 
-spelled-same : (files : Files) (above : Place) (name : Name) (o : Option Entry) → AreNamed files → files_map.get files (key_of (above ++ name ∷ [])) ≡ o → folded_text (spelled_name o name) ≡ folded_text name
+spelled-same : (files : Files) (above : Place) (name : Name) (o : Option Entry) → AreNamed files → files_map.get files (key_of (above ++ name ∷ [])) ≡ o → folded_text (written_name o name) ≡ folded_text name
 spelled-same files above name None are h = refl
 spelled-same files above name (Some e) are h =
     let named = are (key_of (above ++ name ∷ [])) e h in
@@ -93,7 +93,7 @@ below-same files above (name ∷ rest) are =
     ap (λ (n : Name). n ∷ key_of (written_names files here rest)) (spelled-same files above name (files_map.get files (key_of here)) are refl)
     ∙ ap (λ (k : Key). folded_text name ∷ k) (below-same files here rest are)
 
-pub written-same : WrittenPlacesAreTheirs
+pub written-same : WrittenPlacesAreTheSame
 written-same files place are = below-same files [] place are
 
 -- a byte that may be used in a name may be so in either case

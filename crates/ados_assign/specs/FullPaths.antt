@@ -7,7 +7,7 @@ use Rattle.ados_names.specs.Names.{is_name}
 use Rattle.ados_names.specs.Path.{path_limit, path_of}
 use Rattle.ados_ram.specs.Place.{Place, key_of}
 use Rattle.ados_ram.specs.Files.{AreFiles, AreNamed, Files, IsTree}
-use Rattle.ados_ram.specs.Written.{full_path, spelled_path, written_place}
+use Rattle.ados_ram.specs.Written.{full_path, given_path, written_place}
 use Rattle.ados_assign.specs.Assigns.{AssignMap}
 use Rattle.ados_assign.specs.Resolve.{by_path, resolve_path}
 
@@ -21,13 +21,13 @@ pub record IsThere (files : Files) (place : Place) : Type 0 where
   pub names : IsTrue (list_all is_name place)
 
 -- the path of a place, with its names as they are given, leads to it
-abbrev pub SpelledPathsLeadBack : Type 0
-SpelledPathsLeadBack = (files : Files) (place : Place) → IsTree files → IsThere files place →
-    length (spelled_path place) ≤ path_limit → LeadsTo files (spelled_path place) place
+abbrev pub GivenPathsLeadBack : Type 0
+GivenPathsLeadBack = (files : Files) (place : Place) → IsTree files → IsThere files place →
+    length (given_path place) ≤ path_limit → LeadsTo files (given_path place) place
 
 -- a place with its names as they are written in the files is the same place
-abbrev pub WrittenPlacesAreTheirs : Type 0
-WrittenPlacesAreTheirs = (files : Files) (place : Place) → AreNamed files → key_of (written_place files place) ≡ key_of place
+abbrev pub WrittenPlacesAreTheSame : Type 0
+WrittenPlacesAreTheSame = (files : Files) (place : Place) → AreNamed files → key_of (written_place files place) ≡ key_of place
 
 -- the full path of a place leads to it, as it is written in the files
 abbrev pub FullPathsLeadBack : Type 0

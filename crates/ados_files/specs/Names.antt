@@ -101,12 +101,12 @@ bases_there bases (Some e) = Ok (record { literal = true; places = bases })
 abbrev pub bases_at : Files → List Place → Result FoundPlaces Codes
 bases_at files bases = bases_there bases (entry_at files bases)
 
-abbrev pub bases_by : SharedState → Place → Text → Form → Option Text → Result FoundPlaces Codes
-bases_by shared directory head form (Some name) = if_found Err (bases_of shared directory (head ++ name)) (bases_at shared.files)
-bases_by shared directory head form None = if_found Err (bases_of shared directory head) (matches_at form shared.files)
+abbrev pub bases_by_form : SharedState → Place → Text → Form → Option Text → Result FoundPlaces Codes
+bases_by_form shared directory head form (Some name) = if_found Err (bases_of shared directory (head ++ name)) (bases_at shared.files)
+bases_by_form shared directory head form None = if_found Err (bases_of shared directory head) (matches_at form shared.files)
 
 abbrev pub bases_with : SharedState → Place → Text → Meaning → Result FoundPlaces Codes
-bases_with shared directory head pattern = bases_by shared directory head pattern.form pattern.name
+bases_with shared directory head pattern = bases_by_form shared directory head pattern.form pattern.name
 
 abbrev pub named_bases : SharedState → Place → Text → Result FoundPlaces Codes
 named_bases shared directory text = if_found Err (pattern_of (piece_of text)) (bases_with shared directory (directory_part text))

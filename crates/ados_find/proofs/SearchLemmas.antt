@@ -7,7 +7,7 @@ use Rattle.ados_ram.specs.Place.{Place}
 use Rattle.ados_find.specs.declared.codes.Codes.{Codes}
 use Rattle.ados_find.specs.declared.search.Found.{Found}
 use Rattle.ados_find.specs.Paths.{place_of}
-use Rattle.ados_find.specs.Search.{directory_at, file_lookup, file_or, first_file_before_c, first_file, found_file, found_in_c, is_path, places_before_c}
+use Rattle.ados_find.specs.Search.{directory_or_unknown, file_lookup, file_or, first_file_before_c, first_file, found_file, found_in_c, is_path, places_before_c}
 use Rattle.ados_find.specs.Shared.{SharedState}
 
 or-assoc : (a b c : Option Found) → option_or a (option_or b c) ≡ option_or (option_or a b) c
@@ -29,7 +29,7 @@ in_c s directory word = place_of s directory (codes "C:" ++ word)
 
 plain-found : (s : SharedState) (directory : Place) (path : List Place) (word : Text) → is_path word ≡ false →
     found_file s directory path word
-    ≡ file_or (option_or (first_file_before_c s directory path word) (file_lookup s (in_c s directory word))) (directory_at s.files (place_of s directory word))
+    ≡ file_or (option_or (first_file_before_c s directory path word) (file_lookup s (in_c s directory word))) (directory_or_unknown s.files (place_of s directory word))
 unfolding found_file
 plain-found s directory path word plain =
     rw (plain, first-append s (places_before_c s directory path word) (in_c s directory word ∷ []), or-none (file_lookup s (in_c s directory word))) refl
@@ -39,11 +39,11 @@ pub found-before : (s : SharedState) (directory : Place) (path : List Place) (wo
     first_file_before_c s directory path word ≡ Some found → found_file s directory path word ≡ found
 found-before s directory path word found plain is =
     plain-found s directory path word plain
-    ∙ ap (λ before. file_or (option_or before (file_lookup s (in_c s directory word))) (directory_at s.files (place_of s directory word))) is
+    ∙ ap (λ before. file_or (option_or before (file_lookup s (in_c s directory word))) (directory_or_unknown s.files (place_of s directory word))) is
 
 -- and if there is none
 pub found-after : (s : SharedState) (directory : Place) (path : List Place) (word : Text) → is_path word ≡ false →
     first_file_before_c s directory path word ≡ None → found_file s directory path word ≡ found_in_c s directory word
 found-after s directory path word plain is =
     plain-found s directory path word plain
-    ∙ ap (λ before. file_or (option_or before (file_lookup s (in_c s directory word))) (directory_at s.files (place_of s directory word))) is
+    ∙ ap (λ before. file_or (option_or before (file_lookup s (in_c s directory word))) (directory_or_unknown s.files (place_of s directory word))) is

@@ -6,14 +6,14 @@ use Rattle.ados_find.specs.Shared.{SharedState}
 use Rattle.ados_find.specs.Views.{IgnoresInUse}
 use Rattle.ados_resident.specs.declared.commands.FlowCommand.{FlowCommand}
 use Rattle.ados_resident.specs.declared.commands.FlowCommand.TheVariants.{Execute, If}
-use Rattle.ados_flow.specs.declared.tests.Test.{Test}
-use Rattle.ados_flow.specs.declared.tests.Test.TheVariants.{Warn, Error, Fail, Equal, Greater, GreaterOrEqual, Exists}
+use Rattle.ados_flow.specs.declared.conditions.Test.{Test}
+use Rattle.ados_flow.specs.declared.conditions.Test.TheVariants.{Warn, Error, Fail, Equal, Greater, GreaterOrEqual, Exists}
 use Rattle.ados_flow.specs.Actions.{codes_action}
 use Rattle.ados_flow.specs.Branches.{if_action, if_row}
 use Rattle.ados_flow.specs.Reads.{reads_in_use}
 use Rattle.ados_flow.specs.Frames.{ScriptLine}
 use Rattle.ados_flow.specs.Rows.{row_of}
-use Rattle.ados_flow.specs.Tests.{exists, holds, test_of}
+use Rattle.ados_flow.specs.Conditions.{exists, holds, test_of}
 use Rattle.std.proofs.Common.{ap}
 use Rattle.ados_find.specs.declared.codes.Codes.{Codes}
 use Rattle.ados_readargs.specs.Args.{has_switch, option_text}

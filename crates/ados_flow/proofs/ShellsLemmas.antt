@@ -14,14 +14,14 @@ use Rattle.ados_find.specs.Shared.{SharedState}
 use Rattle.ados_find.specs.Views.{IgnoresShells}
 use Rattle.ados_resident.specs.declared.commands.FlowCommand.{FlowCommand}
 use Rattle.ados_resident.specs.declared.commands.FlowCommand.TheVariants.{Execute, If}
-use Rattle.ados_flow.specs.declared.tests.Test.{Test}
-use Rattle.ados_flow.specs.declared.tests.Test.TheVariants.{Warn, Error, Fail, Equal, Greater, GreaterOrEqual, Exists}
+use Rattle.ados_flow.specs.declared.conditions.Test.{Test}
+use Rattle.ados_flow.specs.declared.conditions.Test.TheVariants.{Warn, Error, Fail, Equal, Greater, GreaterOrEqual, Exists}
 use Rattle.ados_flow.specs.Actions.{codes_action}
 use Rattle.ados_flow.specs.Branches.{if_action, if_row}
 use Rattle.ados_flow.specs.Execute.{execute_file, script_by_word, script_place, script_read, script_row}
 use Rattle.ados_flow.specs.Frames.{ScriptLine}
 use Rattle.ados_flow.specs.Rows.{row_of}
-use Rattle.ados_flow.specs.Tests.{exists, holds, test_of}
+use Rattle.ados_flow.specs.Conditions.{exists, holds, test_of}
 
 exists-ignores : (shared : SharedState) (word : Option Text) → IgnoresShells (λ view. exists shared view word)
 exists-ignores shared None = λ view names uses. refl

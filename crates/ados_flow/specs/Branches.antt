@@ -13,7 +13,7 @@ use Rattle.ados_find.specs.Shared.{SharedState}
 use Rattle.ados_find.specs.Views.{View}
 use Rattle.ados_flow.specs.Actions.{Action, Jumps, Quits, codes_action}
 use Rattle.ados_flow.specs.Frames.{ScriptLine}
-use Rattle.ados_flow.specs.Tests.{if_test}
+use Rattle.ados_flow.specs.Conditions.{if_test}
 
 -- a script continues where its jump leads, with 5 after an EndSkip; if nothing is found the script ends with 20 and 205
 abbrev pub jump_action : Jump → Action

@@ -7,20 +7,20 @@ use Rattle.ados_find.specs.Codes.{went_well}
 use Rattle.ados_find.specs.declared.targets.Target.{Target}
 use Rattle.ados_flow.specs.CodeRule.{is_reached}
 pub use Rattle.ados_flow.specs.declared.records.Record.{Record}
-pub use Rattle.ados_flow.specs.declared.kinds.Kind.{Kind}
-pub use Rattle.ados_flow.specs.declared.kinds.Kind.TheVariants.{Script, Lines, Tick}
+pub use Rattle.ados_flow.specs.declared.kinds.FrameKind.{FrameKind}
+pub use Rattle.ados_flow.specs.declared.kinds.FrameKind.TheVariants.{Script, RunCommands, Tick}
 
 -- the frame is that of a script
-abbrev pub is_script : Kind → Bool
+abbrev pub is_script : FrameKind → Bool
 is_script (Script name command) = true
-is_script Lines = false
+is_script RunCommands = false
 is_script (Tick before after) = false
 
 -- a frame that runs: what it is; its lines; the index of the next one, from 0; the number, from 1, of the line at which its
 -- command began, and 0 before the first; the fail limit in force at its beginning, which is so again after the end of a script
 -- in a script; its own output, which is open until it ends; and its last record
 pub record FrameState : Type 0 where
-  pub kind : Kind
+  pub kind : FrameKind
   pub lines : List Text
   pub position : ℕ
   pub line : ℕ
@@ -33,9 +33,9 @@ pub record ScriptLine : Type 0 where
   pub lines : List Text
   pub line : ℕ
 
-abbrev pub kind_script_line : Kind → FrameState → Option ScriptLine
+abbrev pub kind_script_line : FrameKind → FrameState → Option ScriptLine
 kind_script_line (Script name command) frame = Some (record { lines = frame.lines; line = frame.line })
-kind_script_line Lines frame = None
+kind_script_line RunCommands frame = None
 kind_script_line (Tick before after) frame = None
 
 -- where a command of a frame is, if the frame is a script
@@ -52,7 +52,7 @@ abbrev pub frame_limit : ℕ
 frame_limit = 32
 
 -- a frame that begins
-abbrev pub new_frame : Kind → List Text → Code → Option Target → FrameState
+abbrev pub new_frame : FrameKind → List Text → Code → Option Target → FrameState
 new_frame kind lines limit output = record { kind = kind; lines = lines; position = 0; line = 0; limit = limit; output = output; last = None }
 
 -- a frame takes a line: its position moves on before the command runs
@@ -107,7 +107,7 @@ is_at_limit (Some last) = is_reached last.limit last.codes.code
 
 -- it is a script whose last record reached the limit: such an end is reported as early, also if that command was Quit or stood
 -- on the last line
-abbrev pub is_early : Kind → Option Record → Bool
+abbrev pub is_early : FrameKind → Option Record → Bool
 is_early kind last = is_script kind && is_at_limit last
 
 -- the record of a command that began at the newest frame's line
@@ -123,7 +123,7 @@ abbrev pub is_ended : Bool → Codes → Code → FrameState → Bool
 is_ended quits answered limit frame = is_over frame || (is_script frame.kind && (quits || is_reached limit answered.code))
 
 -- the word of the command that called a script; the commands of a Run and a command substitution have none
-abbrev pub caller_word : Kind → Text
+abbrev pub caller_word : FrameKind → Text
 caller_word (Script name command) = command
-caller_word Lines = []
+caller_word RunCommands = []
 caller_word (Tick before after) = []

@@ -31,8 +31,8 @@ is_end (End at) = true
 is_end item = false
 
 -- there is no command in the text, apart from its `+`
-unfoldable pub asks_nothing : Text → Bool
-asks_nothing text = is_end (item_at true (without_plus text) 0)
+unfoldable pub has_no_command : Text → Bool
+has_no_command text = is_end (item_at true (without_plus text) 0)
 
 -- a text that takes no line after it
 abbrev pub single_gathered : Text → Gathered

@@ -12,8 +12,8 @@ ghost use Rattle.ados_flow.specs.Branches.{else_row, if_row, jump_action, skip_r
 ghost use Rattle.ados_flow.specs.Frames.{script_line_of};
 
 use crate::actions::Action;
+use crate::conditions::tested;
 use crate::frames::Frame;
-use crate::tests::tested;
 use ados_find::{Codes, Refusal, Shared, ShellView};
 use ados_readargs::Args;
 use ados_script::{Jump, Script};

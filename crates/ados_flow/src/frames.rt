@@ -3,7 +3,7 @@ ghost use Rattle.std.specs.Prelude.{◌≡◌, suc, ◌+◌, ◌<◌, ◌^◌, L
 ghost use Rattle.std.specs.Option.{option_copied, option_map};
 
 use crate::code_rule::is_reached;
-use crate::kinds::Kind;
+use crate::kinds::FrameKind;
 use crate::records::Record;
 use ados_find::{Codes, Target};
 use ados_script::Script;
@@ -18,7 +18,7 @@ pub const FRAME_LIMIT: usize = 32;
 /// The parts of a frame that do not change while it runs.
 #[derive(Drop)]
 struct Fixed {
-    kind: Kind,
+    kind: FrameKind,
     script: Script,
     output: Option<Target>,
 }
@@ -55,7 +55,7 @@ impl Frame {
     /// A frame that begins: what it is, its lines, the limit in force, and its own output, if it has one.
     pub fn new(
         alloc: Global,
-        kind: Kind,
+        kind: FrameKind,
         script: Script,
         limit: Code,
         output: Option<Target>,
@@ -142,8 +142,8 @@ impl Frame {
         ensures { option_map (λ here. record { lines = here.0.now; line = here.1 }) result ≡ script_line_of (Some self.now) }
     {
         match &self.fixed.kind {
-            Kind::Script { .. } => Some((&self.fixed.script, self.line)),
-            Kind::Lines | Kind::Tick { .. } => None,
+            FrameKind::Script { .. } => Some((&self.fixed.script, self.line)),
+            FrameKind::RunCommands | FrameKind::Tick { .. } => None,
         }
     }
 
@@ -174,7 +174,7 @@ impl Frame {
     }
 
     /// What it is.
-    pub fn kind(&self) -> &Kind
+    pub fn kind(&self) -> &FrameKind
         ensures { result.now ≡ self.now.kind }
     {
         &self.fixed.kind
@@ -184,7 +184,7 @@ impl Frame {
     pub fn is_script(&self) -> bool
         ensures { result ≡ is_script self.now.kind }
     {
-        matches!(self.fixed.kind, Kind::Script { .. })
+        matches!(self.fixed.kind, FrameKind::Script { .. })
     }
 
     /// The fail limit in force at its beginning.

@@ -1,7 +1,7 @@
 // What a Run takes: the commands of the new shell.
 ghost use Rattle.std.specs.Prelude.{◌≡◌, ◌≤◌, ◌+◌, ◌-◌, ◌++◌, [], ◌∷◌, length, IfOk, OnOk};
 ghost use Rattle.std.specs.Option.{option_map};
-ghost use Rattle.ados_flow.specs.Gathering.{asks_nothing, before_plus, run_gathering, number_line, run_limit, without_plus};
+ghost use Rattle.ados_flow.specs.Gathering.{has_no_command, before_plus, run_gathering, number_line, run_limit, without_plus};
 
 use ados_items::{Item, next_item};
 use ados_text::{NoMemory, Octets, Text, Texts, push_number};
@@ -47,9 +47,9 @@ pub fn without_plus(alloc: Global, text: &Text) -> Result<Text, NoMemory>
 }
 
 /// There is no command in the text, apart from its `+`.
-#[tactic(auto, unfolding(crate::specs::Gathering::asks_nothing))]
-pub fn asks_nothing(text: &Text) -> bool
-    ensures { result ≡ asks_nothing text.now }
+#[tactic(auto, unfolding(crate::specs::Gathering::has_no_command))]
+pub fn has_no_command(text: &Text) -> bool
+    ensures { result ≡ has_no_command text.now }
 {
     let text = text.as_bytes();
     let text = before_plus(text).unwrap_or(text);

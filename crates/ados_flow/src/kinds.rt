@@ -2,7 +2,7 @@ use ados_text::Text;
 
 /// What a frame is.
 #[derive(Drop)]
-pub enum Kind {
+pub enum FrameKind {
     /// A script.
     Script {
         /// The full path of its file.
@@ -11,7 +11,7 @@ pub enum Kind {
         command: Text,
     },
     /// The commands of a Run: the lines of its shell.
-    Lines,
+    RunCommands,
     /// The command of a command substitution, between two back-ticks.
     Tick {
         /// What is before them in the line that waits for it.

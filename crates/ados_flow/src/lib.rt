@@ -6,6 +6,7 @@ mod ask;
 mod branches;
 mod called;
 mod code_rule;
+mod conditions;
 mod devices;
 mod execute;
 mod frames;
@@ -15,7 +16,6 @@ mod quit;
 mod reads;
 mod records;
 mod rows;
-mod tests;
 
 pub use actions::Action;
 pub use ask::reply_of;
@@ -25,9 +25,9 @@ pub use devices::push_devices;
 pub use execute::call_script;
 pub use frames::{FRAME_LIMIT, Frame};
 pub use gathering::{
-    Gathered, RUN_LIMIT, asks_nothing, before_plus, gather, number_line, without_plus,
+    Gathered, RUN_LIMIT, before_plus, gather, has_no_command, number_line, without_plus,
 };
-pub use kinds::Kind;
+pub use kinds::FrameKind;
 pub use reads::reads_in_use;
 pub use records::Record;
 pub use rows::{COMMANDS, run, template};

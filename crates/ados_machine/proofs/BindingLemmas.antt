@@ -15,8 +15,8 @@ use Rattle.ados_ram.specs.Files.{Files, is_some_directory}
 use Rattle.ados_ram.specs.declared.entries.Entry.{Entry}
 use Rattle.ados_names.specs.Path.{path_of}
 use Rattle.ados_assign.specs.Assigns.{AssignMap, with_binding}
-use Rattle.ados_assign.specs.Resolve.{Resolved, by_path, directory_at, lead_text, text_place, on_entry, resolve_with_texts}
-use Rattle.ados_assign.specs.Uses.{with_rows_bound, with_row_bound, with_defer_bound, led_place, is_defer, is_used, deferred_place}
+use Rattle.ados_assign.specs.Resolve.{Resolved, by_path, resolved_directory, lead_text, text_place, on_entry, resolve_with_texts}
+use Rattle.ados_assign.specs.Uses.{with_assigns_bound, with_assign_bound, with_defer_bound, led_place, is_defer, is_used, deferred_place}
 use Rattle.ados_assign.specs.declared.assigns.Assign.{Assign}
 use Rattle.ados_assign.specs.declared.bindings.Binding.{Binding}
 use Rattle.ados_assign.specs.declared.bindings.Binding.TheVariants.{Dirs, Path, Defer}
@@ -33,7 +33,7 @@ entry-directory (Some e) there place h = of (is_directory e) h
     of true q = (refl, cc)
     of false q = absurd cc
 
-led-directory : (files : Files) (way : Resolved) (place : Place) → directory_at files way ≡ Ok place → is_some_directory (map.get files (key_of place)) ≡ true
+led-directory : (files : Files) (way : Resolved) (place : Place) → resolved_directory files way ≡ Ok place → is_some_directory (map.get files (key_of place)) ≡ true
 led-directory files (Err fault) place h = absurd cc
 led-directory files (Ok there) place h =
     let e = entry-directory (map.get files (key_of there)) there place h in
@@ -89,7 +89,7 @@ placed-at used files m a name (Some place) u h =
     ]
 
 row-at : (used : List Text) (files : Files) (m : AssignMap) (a : Assign) (name : Text)
-    → (map.get (with_row_bound files used m a) name ≡ map.get m name) ⊎ IsBound used files (a ∷ []) name (map.get (with_row_bound files used m a) name)
+    → (map.get (with_assign_bound files used m a) name ≡ map.get m name) ⊎ IsBound used files (a ∷ []) name (map.get (with_assign_bound files used m a) name)
 row-at used files m a name = of (is_used used a.name) refl
   where
     of : (b : Bool) → is_used used a.name ≡ b
@@ -130,10 +130,10 @@ first-of used files a rest name now now' e b = record {
     only (suc k) l q = absurd (omega (arith, l))
 
 each-at : (used : List Text) (files : Files) (m : AssignMap) (rows : List Assign) (name : Text)
-    → (map.get (with_rows_bound files used m rows) name ≡ map.get m name) ⊎ IsBound used files rows name (map.get (with_rows_bound files used m rows) name)
+    → (map.get (with_assigns_bound files used m rows) name ≡ map.get m name) ⊎ IsBound used files rows name (map.get (with_assigns_bound files used m rows) name)
 each-at used files m [] name = inl refl
 each-at used files m (a ∷ rest) name =
-    elim (each-at used files (with_row_bound files used m a) rest name) [
+    elim (each-at used files (with_assign_bound files used m a) rest name) [
       | inr b ↦ inr (among-more used files a rest name _ b)
       | inl still ↦ elim (row-at used files m a name) [
         | inl same ↦ inl (still ∙ same)

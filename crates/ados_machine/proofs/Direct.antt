@@ -8,8 +8,8 @@ use Rattle.ados_text.specs.declared.codes.TheConstants.Result2.{TOO_MANY_LEVELS}
 use Rattle.ados_find.specs.declared.codes.Codes.{Codes}
 use Rattle.ados_find.specs.declared.targets.Target.{Target}
 use Rattle.ados_find.specs.Codes.{fail_codes}
-use Rattle.ados_flow.specs.declared.kinds.Kind.{Kind}
-use Rattle.ados_flow.specs.declared.kinds.Kind.TheVariants.{Script, Tick}
+use Rattle.ados_flow.specs.declared.kinds.FrameKind.{FrameKind}
+use Rattle.ados_flow.specs.declared.kinds.FrameKind.TheVariants.{Script, Tick}
 use Rattle.ados_flow.specs.CodeRule.{is_reached}
 use Rattle.ados_flow.specs.Frames.{FrameState, new_frame, frame_limit, is_over, is_script, frame_at_line, advanced_frame, script_count, limit_above_frames, last_codes, answered_frame}
 use Rattle.ados_machine.specs.declared.answers.Answer.{Answer as Reply}
@@ -128,7 +128,7 @@ call-agrees k gas ih n exec (Done left answers last common) frame frames name wo
     (ended k frame frames) (breaking k frame frames) (script_count (frame ∷ frames)) h.0
     (answer-agrees k gas ih left answers limited frame frames word (last_codes last) false (omega (arith, h.0))))
 
-after-some : (n m : ℕ) (kind : Kind) (limit : Code) (further : RuleResult) (frames : List FrameState) (said : RuleState) → n ≡ suc m →
+after-some : (n m : ℕ) (kind : FrameKind) (limit : Code) (further : RuleResult) (frames : List FrameState) (said : RuleState) → n ≡ suc m →
     after_break n kind limit further frames said ≡ further
 after-some n m kind limit further frames said e = rw e refl
 

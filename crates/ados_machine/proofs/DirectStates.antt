@@ -4,8 +4,8 @@ use Rattle.std.specs.List.{slice_get}
 use Rattle.std.proofs.lemmas.Bool.{leb-false, leb-true}
 use Rattle.std.proofs.lemmas.Option.{slice_get_past, slice_get-get_or}
 use Rattle.ados_text.specs.Text.{Text}
-use Rattle.ados_flow.specs.declared.kinds.Kind.{Kind}
-use Rattle.ados_flow.specs.declared.kinds.Kind.TheVariants.{Script, Lines, Tick}
+use Rattle.ados_flow.specs.declared.kinds.FrameKind.{FrameKind}
+use Rattle.ados_flow.specs.declared.kinds.FrameKind.TheVariants.{Script, RunCommands, Tick}
 use Rattle.ados_flow.specs.Frames.{FrameState, is_over, is_script, script_count, kind_script_line, limit_above_frames, last_line, last_codes, is_early, caller_word}
 use Rattle.ados_machine.specs.declared.answers.Answer.{Answer as Reply}
 use Rattle.ados_machine.specs.declared.phases.Parted.{Parted}
@@ -83,10 +83,10 @@ AgreesAt k gas = (n : ℕ) (answers : List Reply) (common : Common) (frame : Fra
     (lines gas (remainder n answers) (configuration common (at_of k frame frames)) parted)
 
 -- a line of the newest frame knows just what one of these lines knows
-script-line : (kind : Kind) (frame : FrameState) →
+script-line : (kind : FrameKind) (frame : FrameState) →
     kind_script_line kind frame ≡ (if is_script kind then Some (record { lines = frame.lines; line = frame.line }) else None)
 script-line (Script name command) frame = refl
-script-line Lines frame = refl
+script-line RunCommands frame = refl
 script-line (Tick before after) frame = refl
 
 pub here-is : (k : ℕ) (frame : FrameState) (frames : List FrameState) → here_of (frame ∷ frames) ≡ here_at (at_of k frame frames)

@@ -1,7 +1,6 @@
 -- A break changes neither which turns are accepted nor which shells want a line.
 use Rattle.std.proofs.Common.{◌≡◌, ◌∙◌, ap, ℕ, ◌&&◌, not, Option, Some, None, refl, inl, inr}
 use Rattle.std.proofs.lemmas.Bool.{cases_Bool}
-use Rattle.ados_flow.specs.declared.kinds.Kind.{Kind}
 use Rattle.ados_machine.specs.declared.events.Event.TheVariants.{Break}
 use Rattle.ados_machine.specs.declared.events.Kind as by
 use Rattle.ados_machine.specs.Breaks.{kind_breaks}

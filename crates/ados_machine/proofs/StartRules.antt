@@ -4,8 +4,8 @@ use Rattle.std.proofs.lemmas.Bool.{cases_Bool}
 use Rattle.ados_text.specs.declared.codes.Result2.{Result2}
 use Rattle.ados_find.specs.declared.codes.Codes.{Codes}
 use Rattle.ados_find.specs.Codes.{fail_codes}
-use Rattle.ados_flow.specs.declared.kinds.Kind.{Kind}
-use Rattle.ados_flow.specs.declared.kinds.Kind.TheVariants.{Script, Lines, Tick}
+use Rattle.ados_flow.specs.declared.kinds.FrameKind.{FrameKind}
+use Rattle.ados_flow.specs.declared.kinds.FrameKind.TheVariants.{Script, RunCommands, Tick}
 use Rattle.ados_flow.specs.Frames.{FrameState, is_ended, is_over, is_script, caller_word, limit_above_frames, new_record}
 use Rattle.ados_machine.specs.declared.answers.Answer.{Answer as Reply}
 use Rattle.ados_machine.specs.declared.answers.Answer.TheVariants.{Started, NotFound, Denied, Memory, Other, «Bytes» as Piece, End, PipeFault, Exit, Signal, WaitFault}
@@ -33,14 +33,14 @@ pub record Rules (flagged : Bool) (frames : List FrameState) (said : RuleState) 
   pub answered : HasAnswered frames said.kept (settled_shell flagged settled)
 
 -- what it changes after the end of a frame
-record EndRules (flagged : Bool) (kind : Kind) (frames : List FrameState) (said : RuleState) (settled : RuleResult) : Type 0 where
+record EndRules (flagged : Bool) (kind : FrameKind) (frames : List FrameState) (said : RuleState) (settled : RuleResult) : Type 0 where
   parts : KeepsSettings said.parts settled.said.parts
   after_last_end : IsAfterEnd kind (HasAnswered frames said.kept (settled_shell flagged settled)) frames said.kept (settled_shell flagged settled)
 
-end-rules : (flagged : Bool) (kind : Kind) (further : RuleResult) (frames : List FrameState) (said : RuleState) → Rules flagged frames said further →
+end-rules : (flagged : Bool) (kind : FrameKind) (further : RuleResult) (frames : List FrameState) (said : RuleState) → Rules flagged frames said further →
     EndRules flagged kind frames said (after_end kind further frames said)
 end-rules flagged (Script name command) further frames said rules = record { parts = rules.parts; after_last_end = rules.answered }
-end-rules flagged Lines further frames said rules = record { parts = refl; after_last_end = (refl, refl, refl) }
+end-rules flagged RunCommands further frames said rules = record { parts = refl; after_last_end = (refl, refl, refl) }
 end-rules flagged (Tick before after) further frames said rules = record { parts = refl; after_last_end = (refl, refl, refl) }
 
 -- a frame that ends is a script, or has no line left

@@ -8,7 +8,7 @@ use Rattle.ados_machine.specs.Shells.{ShellState}
 use Rattle.ados_machine.specs.World.{WorldState}
 use Rattle.ados_machine.specs.Whole.{Common}
 use Rattle.ados_machine.proofs.Alone.{standing, exec}
-use Rattle.ados_flow.specs.declared.kinds.Kind.TheVariants.{Script, Lines, Tick}
+use Rattle.ados_flow.specs.declared.kinds.FrameKind.TheVariants.{Script, RunCommands, Tick}
 use Rattle.ados_flow.specs.Frames.{new_frame, first_limit, script_count}
 use Rattle.std.proofs.lemmas.Bool.{lt-leb}
 use Rattle.std.proofs.Common.{length}
@@ -30,11 +30,11 @@ onto-ends k (Began depth kind limit ∷ log) reports = onto-ends k log reports
 onto-ends k (Answered depth entry ∷ log) reports = onto-ends k log reports
 onto-ends k (Ended depth (Script name command) line codes early ∷ log) reports =
     onto-ends k log (record { shell = k; name = name; last_line = line; code = codes.code; early = early; broken = false } ∷ reports)
-onto-ends k (Ended depth Lines line codes early ∷ log) reports = onto-ends k log reports
+onto-ends k (Ended depth RunCommands line codes early ∷ log) reports = onto-ends k log reports
 onto-ends k (Ended depth (Tick before after) line codes early ∷ log) reports = onto-ends k log reports
 onto-ends k (Broke depth (Script name command) line ∷ log) reports =
     onto-ends k log (record { shell = k; name = name; last_line = line; code = broken_codes.code; early = false; broken = true } ∷ reports)
-onto-ends k (Broke depth Lines line ∷ log) reports = onto-ends k log reports
+onto-ends k (Broke depth RunCommands line ∷ log) reports = onto-ends k log reports
 onto-ends k (Broke depth (Tick before after) line ∷ log) reports = onto-ends k log reports
 
 abbrev told_by : Lone → Option (List EndReport)
@@ -64,7 +64,7 @@ told-exec k w (suc n) answers (frame ∷ frames) phase common stands =
     (event-same k w (tells k w) (collect_reports k n) (exec k n) answers frame frames common phase stands (λ rest. told-exec k w n rest))
 
 -- the frame of its lines is the last to end
-bottom-tells : (k n : ℕ) (frame : FrameState) (meaning : Whole) (lone : Lone) → frame.kind ≡ Lines →
+bottom-tells : (k n : ℕ) (frame : FrameState) (meaning : Whole) (lone : Lone) → frame.kind ≡ RunCommands →
     AgreesBy n lone meaning (ended k frame []) (breaking k frame []) (script_count (frame ∷ [])) → TellsReports meaning (told_by lone)
 bottom-tells k n frame (Done left answers last common) lone lines h = rw (h.1, lines, exec-rests k left answers Ready common) refl
 bottom-tells k n frame (Late answers) lone lines h = tt
@@ -73,7 +73,7 @@ bottom-tells k n frame (Broken left answers last common) lone lines h = absurd (
 
 pub alone-tells : AloneTellsReports
 alone-tells n k w command commands answers free =
-    let frame = new_frame Lines (command ∷ commands) first_limit None in
+    let frame = new_frame RunCommands (command ∷ commands) first_limit None in
     let shell : ShellState = opened_shell k (command ∷ commands) in
     let common : Common = first_common w k (command ∷ commands) in
     let above = free-two w.shells k free in

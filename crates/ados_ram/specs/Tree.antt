@@ -12,7 +12,7 @@ use Rattle.ados_ram.specs.Entry.{coded_entry, renamed_entry, new_directory}
 use Rattle.ados_ram.specs.Files.{Files, Rows}
 use Rattle.ados_text.specs.declared.codes.Result2.{Result2}
 use Rattle.ados_ram.specs.FileOperations.{parent_fault}
-use Rattle.ados_ram.specs.Written.{spelled_name}
+use Rattle.ados_ram.specs.Written.{written_name}
 use Rattle.ados_ram.specs.declared.entries.Entry.{Entry}
 
 abbrev pub Kid : Type 0
@@ -172,7 +172,7 @@ pub record MayMove (from to : Key) (m : Files) : Type 0 where
 -- names that lead down from a place, as they are written in the rows
 abbrev pub rows_written : Rows → Key → Place → Place
 rows_written es directory [] = []
-rows_written es directory (name ∷ rest) = spelled_name (map.find place_cmp (directory ++ folded_text name ∷ []) es) name ∷ rows_written es (directory ++ folded_text name ∷ []) rest
+rows_written es directory (name ∷ rest) = written_name (map.find place_cmp (directory ++ folded_text name ∷ []) es) name ∷ rows_written es (directory ++ folded_text name ∷ []) rest
 
 -- the fault of the directories above a place, by the rows
 abbrev pub rows_way : Rows → Key → Key → Option Result2

@@ -1,6 +1,6 @@
 // Places as paths.
 ghost use Rattle.std.specs.Prelude.{◌≡◌, ◌++◌, IfOk, OnOk};
-ghost use Rattle.ados_ram.specs.Written.{slash_before, slash_joined, spelled_path};
+ghost use Rattle.ados_ram.specs.Written.{slash_before, slash_joined, given_path};
 
 use crate::places::Place;
 use ados_text::{Name, NoMemory, Text};
@@ -9,7 +9,7 @@ use std::alloc::Global;
 impl Place {
     /// The place as a path, as `RAM:a/b`, with its names as they are spelled.
     pub fn path(&self, alloc: Global) -> Result<Text, NoMemory>
-        ensures { IfOk result (λ path. path ≡ spelled_path self.now) }
+        ensures { IfOk result (λ path. path ≡ given_path self.now) }
     {
         let mut path = Text::from_bytes(alloc, b"RAM:")?;
         push_names(&mut path, self.names())?;

@@ -4,8 +4,8 @@ use Rattle.std.proofs.Math.Nat.{lt-suc_self}
 use Rattle.std.specs.Prelude.{Result, Ok, Err}
 use Rattle.std.specs.Result.{OnErr}
 use Rattle.ados_text.specs.declared.codes.Code.{Code}
-use Rattle.ados_flow.specs.declared.kinds.Kind.{Kind}
-use Rattle.ados_flow.specs.declared.kinds.Kind.TheVariants.{Script, Lines, Tick}
+use Rattle.ados_flow.specs.declared.kinds.FrameKind.{FrameKind}
+use Rattle.ados_flow.specs.declared.kinds.FrameKind.TheVariants.{Script, RunCommands, Tick}
 use Rattle.ados_flow.specs.Frames.{FrameState, last_line, limit_above_frames, caller_word, script_count}
 use Rattle.ados_machine.specs.Phases.{Phase, Ready, GoingOn, Waiting}
 use Rattle.ados_machine.specs.declared.phases.Wait.TheVariants.{ForAnswer, ForLines, ForStart, ForPiece, ForEnd}
@@ -92,18 +92,18 @@ pub refuses-at_break : (P : Turning → Type 0) (scene : Scene) (input : Input) 
 refuses-at_break P scene input there cannot p = subst P (sym (script-refused input scene.shell.now.frames (turn_start scene) scene.shell.now.phase there cannot)) p
 
 -- the report of a frame's end at a break is the first of those that follow
-first-report : (shell depth line : ℕ) (kind : Kind) (log : List Item)
+first-report : (shell depth line : ℕ) (kind : FrameKind) (log : List Item)
     → reports_of shell (Broke depth kind line ∷ log) ≡ reports_of shell (Broke depth kind line ∷ []) ++ reports_of shell log
 first-report shell depth line (Script name command) log = refl
-first-report shell depth line Lines log = refl
+first-report shell depth line RunCommands log = refl
 first-report shell depth line (Tick before after) log = refl
 
-deeper-is : (scripts : ℕ) (kind : Kind) (limit : Code) (further : RuleResult) (frames : List FrameState) (said : RuleState) → nat_lt 0 scripts ≡ true
+deeper-is : (scripts : ℕ) (kind : FrameKind) (limit : Code) (further : RuleResult) (frames : List FrameState) (said : RuleState) → nat_lt 0 scripts ≡ true
     → after_break scripts kind limit further frames said ≡ further
 deeper-is zero kind limit further frames said e = absurd cc
 deeper-is (suc scripts) kind limit further frames said e = refl
 
-ends-is : (scripts : ℕ) (kind : Kind) (limit : Code) (further : RuleResult) (frames : List FrameState) (said : RuleState) → nat_lt 0 scripts ≡ false
+ends-is : (scripts : ℕ) (kind : FrameKind) (limit : Code) (further : RuleResult) (frames : List FrameState) (said : RuleState) → nat_lt 0 scripts ≡ false
     → after_break scripts kind limit further frames said ≡ finish (caller_word kind) broken_codes false frames (with_limit (limit_above_frames frames limit) said)
 ends-is zero kind limit further frames said e = refl
 ends-is (suc scripts) kind limit further frames said e = absurd (never (sym (some-run scripts) ∙ e))

@@ -9,7 +9,7 @@ use Rattle.ados_text.specs.declared.stops.Stop.TheVariants.{Refused}
 use Rattle.ados_find.specs.declared.codes.Codes.{Codes}
 use Rattle.ados_find.specs.declared.targets.Target.{Target}
 use Rattle.ados_flow.specs.declared.called.Called.{Called}
-use Rattle.ados_flow.specs.declared.kinds.Kind.TheVariants.{Script, Tick}
+use Rattle.ados_flow.specs.declared.kinds.FrameKind.TheVariants.{Script, Tick}
 use Rattle.ados_flow.specs.Frames.{new_frame, frame_limit}
 use Rattle.ados_machine.specs.Phases.{Ready}
 use Rattle.ados_machine.specs.Answers.{child_of, next_wait, started_completion}

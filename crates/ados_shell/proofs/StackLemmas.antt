@@ -5,8 +5,8 @@ use Rattle.std.proofs.lemmas.Bool.{lt-ltb}
 use Rattle.std.specs.Prelude.{if◌then◌else◌}
 use Rattle.std.specs.Option.{option_map}
 use Rattle.ados_text.specs.declared.codes.Code.{Code}
-use Rattle.ados_flow.specs.declared.kinds.Kind.{Kind}
-use Rattle.ados_flow.specs.declared.kinds.Kind.TheVariants.{Script, Lines, Tick}
+use Rattle.ados_flow.specs.declared.kinds.FrameKind.{FrameKind}
+use Rattle.ados_flow.specs.declared.kinds.FrameKind.TheVariants.{Script, RunCommands, Tick}
 use Rattle.ados_flow.specs.Frames.{FrameState, first_limit, is_script, limit_above_frames, limit_above_scripts, script_count, untaken_lines}
 use Rattle.ados_machine.specs.Breaks.{has_script}
 use Rattle.ados_machine.specs.Sinks.{Console, sink_by, newest_sink}
@@ -30,9 +30,9 @@ limit_is frames limit = limit-of (script_count frames)
 pub script_first : (frame : FrameState) (frames : List FrameState) → has_script (frame ∷ frames) ≡ (is_script frame.kind || has_script frames)
 script_first frame frames = by-kind frame.kind
   where
-    by-kind : (kind : Kind) → nat_lt 0 (if is_script kind then suc (script_count frames) else script_count frames) ≡ (is_script kind || has_script frames)
+    by-kind : (kind : FrameKind) → nat_lt 0 (if is_script kind then suc (script_count frames) else script_count frames) ≡ (is_script kind || has_script frames)
     by-kind (Script name command) = some-run (script_count frames)
-    by-kind Lines = refl
+    by-kind RunCommands = refl
     by-kind (Tick before after) = refl
 
 -- frames and those below them contain a script if either do

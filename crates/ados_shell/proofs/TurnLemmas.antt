@@ -6,8 +6,8 @@ use Rattle.std.specs.Global.{Global}
 use Rattle.ados_text.specs.Text.{Text}
 use Rattle.ados_text.specs.declared.codes.Code.{Code}
 use Rattle.ados_find.specs.declared.codes.Codes.{Codes}
-use Rattle.ados_flow.specs.declared.kinds.Kind.{Kind}
-use Rattle.ados_flow.specs.declared.kinds.Kind.TheVariants.{Script, Lines, Tick}
+use Rattle.ados_flow.specs.declared.kinds.FrameKind.{FrameKind}
+use Rattle.ados_flow.specs.declared.kinds.FrameKind.TheVariants.{Script, RunCommands, Tick}
 use Rattle.ados_flow.specs.Frames.{FrameState, is_over, is_ended, limit_above_frames, last_codes, last_line, is_early, caller_word, answered_frame}
 use Rattle.ados_machine.specs.declared.outs.EndReport.{EndReport}
 use Rattle.ados_machine.specs.Phases.{Ready, GoingOn}
@@ -144,7 +144,7 @@ step-ruled scene before mid after rs items settled settled' e reported held r g 
     (ap (λ s. s.frames) e) (ap (λ s. s.phase) e) course (ap (λ s. reports_of scene.number s.log) e ∙ reported settled.log) g
 
 -- the report of a script's end
-end-script : (shell depth line : ℕ) (kind : Kind) (codes : Codes) (early : Bool) (name command : Text) (log : List Item) → kind ≡ Script name command
+end-script : (shell depth line : ℕ) (kind : FrameKind) (codes : Codes) (early : Bool) (name command : Text) (log : List Item) → kind ≡ Script name command
     → reports_of shell (Ended depth kind line codes early ∷ log)
     ≡ record { shell = shell; name = name; last_line = line; code = codes.code; early = early; broken = false } ∷ reports_of shell log
 end-script shell depth line kind codes early name command log e = ap (λ k. reports_of shell (Ended depth k line codes early ∷ log)) e
@@ -180,12 +180,12 @@ script-leads scene mid ended after name command codes last k e g =
 
 -- a shell that ran the commands of a Run rests
 pub lines-lead : (scene : Scene) (mid : Draft) (codes : Codes) (last : FrameState)
-    → last.kind ≡ Lines → drafted_phase mid.shell ≡ Ready
+    → last.kind ≡ RunCommands → drafted_phase mid.shell ≡ Ready
     → IsRuled scene mid mid (led last (frames_of scene mid) codes (said_in scene mid))
 lines-lead scene mid codes last k p =
     let frames = frames_of scene mid in
     let said = said_in scene mid in
-    let rested = with_items_first (Ended (suc (length frames)) Lines (last_line last.last) (last_codes last.last) (is_early last.kind last.last) ∷ []) (rule_at_rest frames Ready said) in
+    let rested = with_items_first (Ended (suc (length frames)) RunCommands (last_line last.last) (last_codes last.last) (is_early last.kind last.last) ∷ []) (rule_at_rest frames Ready said) in
     let e : led last frames codes said ≡ rested =
     ap (λ x. with_items_first (Ended (suc (length frames)) x (last_line last.last) (last_codes last.last) (is_early last.kind last.last) ∷ [])
     (after_end x (finish (caller_word last.kind) codes false frames (with_limit (limit_above_frames frames last.limit) said)) frames said)) k in

@@ -1,7 +1,7 @@
 -- Devices that are used, and the assigns that are bound.
 use Rattle.std.proofs.Common.{◌≡◌, ◌∙◌, List, [], ◌∷◌, Option, Some, length, false, ◌==◌, ap, refl, sym}
 use Rattle.ados_text.specs.Text.{Text}
-use Rattle.ados_assign.specs.Uses.{with_used_bound}
+use Rattle.ados_assign.specs.Uses.{with_used_defers_bound}
 use Rattle.ados_find.specs.Shared.{SharedState, with_assigns}
 use Rattle.ados_find.specs.declared.targets.Target.{Target}
 use Rattle.ados_find.specs.Search.{device_named}
@@ -44,12 +44,12 @@ opened-used scene before mid after output target opened l u = record {
 }
 
 -- if no assign changes, binding changes nothing
-pub settled : (used : List Text) (shared : SharedState) → with_used_bound used shared.files shared.assigns ≡ shared.assigns
-    → shared ≡ with_assigns shared (with_used_bound used shared.files shared.assigns)
+pub settled : (used : List Text) (shared : SharedState) → with_used_defers_bound used shared.files shared.assigns ≡ shared.assigns
+    → shared ≡ with_assigns shared (with_used_defers_bound used shared.files shared.assigns)
 settled used shared e = ap (with_assigns shared) (sym e)
 
 -- if a device was used, all its assigns are bound
 pub bound : (used : List Text) (shared : SharedState) → (length used == 0) ≡ false
-    → with_assigns shared (with_used_bound used shared.files shared.assigns) ≡ shared_with_bound used shared
+    → with_assigns shared (with_used_defers_bound used shared.files shared.assigns) ≡ shared_with_bound used shared
 bound [] shared e = absurd cc
 bound (device ∷ used) shared e = refl

@@ -1,6 +1,6 @@
 -- Devices that a turn uses, and the end of the event, when their assigns are bound.
 use Rattle.std.specs.Prelude.{◌≡◌, Option}
-use Rattle.ados_assign.specs.Uses.{with_used_bound}
+use Rattle.ados_assign.specs.Uses.{with_used_defers_bound}
 use Rattle.ados_find.specs.Shared.{SharedState, version, with_assigns}
 use Rattle.ados_machine.specs.Course.{Course, shared_after_event}
 use Rattle.ados_shell.specs.declared.scenes.Scene.{Scene}
@@ -18,7 +18,7 @@ pub record HasUsed (scene : Scene) (before after : Draft) (course : Course) : Ty
 abbrev pub HasUsedBound : Scene → Draft → Option SharedState → Type 0
 HasUsedBound scene draft new =
     version (course_of scene draft).shared new ≡ with_assigns (course_of scene draft).shared
-    (with_used_bound (course_of scene draft).used (course_of scene draft).shared.files (course_of scene draft).shared.assigns)
+    (with_used_defers_bound (course_of scene draft).used (course_of scene draft).shared.files (course_of scene draft).shared.assigns)
 
 -- the assigns that it used were bound, and nothing else was done
 pub record HasBound (scene : Scene) (before after : Draft) : Type 0 where

@@ -13,7 +13,7 @@ use crate::shells::Shell;
 use crate::stacks::has_script;
 use crate::turnings::Turning;
 use ados_find::{Breaking, Breaks, Codes};
-use ados_flow::{Frame, Kind};
+use ados_flow::{Frame, FrameKind};
 use ados_machine::EndReport;
 use ados_text::{NoMemory, Result2, Text};
 
@@ -97,7 +97,7 @@ impl Draft {
     fn report_break(&mut self, scene: &Scene, frame: &Frame) -> Result<(), NoMemory>
         ensures { OnOk result (ReportsBreak scene.now self.old self.new frame.now) }
     {
-        if let Kind::Script { name, .. } = frame.kind() {
+        if let FrameKind::Script { name, .. } = frame.kind() {
             self.reports
                 .push(broken_report(scene.number, name, frame)?)?;
         }
@@ -108,7 +108,7 @@ impl Draft {
     fn give_up(&mut self, scene: &Scene, frame: &Frame) -> Result<(), NoMemory>
         ensures { OnOk result (GivesUp scene.now self.old self.new frame.now) }
     {
-        if let Kind::Tick { .. } = frame.kind() {
+        if let FrameKind::Tick { .. } = frame.kind() {
             let mut kept = self.shell.kept_copy(scene)?;
             let _ = kept.pop();
             self.shell.kept = Some(kept);
@@ -136,8 +136,8 @@ fn caller_word(frame: &Frame) -> &[u8]
     ensures { result.now ≡ caller_word frame.now.kind }
 {
     match frame.kind() {
-        Kind::Script { command, .. } => command.as_bytes(),
-        Kind::Lines | Kind::Tick { .. } => &[],
+        FrameKind::Script { command, .. } => command.as_bytes(),
+        FrameKind::RunCommands | FrameKind::Tick { .. } => &[],
     }
 }
 

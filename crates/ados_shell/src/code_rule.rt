@@ -10,7 +10,7 @@ use crate::console::{push_failed, push_fault};
 use crate::drafts::Draft;
 use crate::scenes::Scene;
 use ados_find::{Codes, Target};
-use ados_flow::{Called, Frame, Kind};
+use ados_flow::{Called, Frame, FrameKind};
 use ados_machine::EndReport;
 use ados_text::{NoMemory, Result2, Text};
 
@@ -29,12 +29,12 @@ impl Draft {
             return self.shell.frames.push(frame);
         }
         match frame.kind() {
-            Kind::Script { name, command } => {
+            FrameKind::Script { name, command } => {
                 self.report(scene, name, &frame)?;
                 self.finish(scene, command.as_bytes(), frame.last_codes(), false)
             }
-            Kind::Lines => Ok(()),
-            Kind::Tick { before, after } => self.end_tick(scene, before, after),
+            FrameKind::RunCommands => Ok(()),
+            FrameKind::Tick { before, after } => self.end_tick(scene, before, after),
         }
     }
 
@@ -124,7 +124,7 @@ impl Draft {
         ensures { OnOk result (IsRuled scene.now self.old self.new
             (enter_script word.now output called (frames_of scene.now self.old) (said_of (course_of scene.now self.old)))) }
     {
-        let kind = Kind::Script {
+        let kind = FrameKind::Script {
             name: called.name,
             command: word.copy()?,
         };
@@ -157,12 +157,12 @@ impl Draft {
             return self.shell.frames.push(frame);
         }
         match frame.kind() {
-            Kind::Script { name, command } => {
+            FrameKind::Script { name, command } => {
                 self.report(scene, name, &frame)?;
                 self.finish(scene, command.as_bytes(), codes, false)
             }
-            Kind::Lines => Ok(()),
-            Kind::Tick { before, after } => self.end_tick(scene, before, after),
+            FrameKind::RunCommands => Ok(()),
+            FrameKind::Tick { before, after } => self.end_tick(scene, before, after),
         }
     }
 

@@ -12,7 +12,7 @@ use crate::scenes::Scene;
 use crate::seen::free_number;
 use crate::stacks::copy_own;
 use ados_find::{Codes, Target};
-use ados_flow::{Gathered, RUN_LIMIT, asks_nothing, before_plus, gather, number_line};
+use ados_flow::{Gathered, RUN_LIMIT, before_plus, gather, has_no_command, number_line};
 use ados_line::Line;
 use ados_machine::{Gathering, Wait};
 use ados_script::Script;
@@ -41,7 +41,7 @@ impl Draft {
             (running_completion line.now (next_line_place scene.now self.old) (course_of scene.now self.old)) }
     {
         let output = self.open_own(scene, line.output.as_ref())?;
-        if asks_nothing(&line.args) {
+        if has_no_command(&line.args) {
             Err(Stop::Refused(Result2::ARGUMENT_MISSING))
         } else {
             self.run_commands(scene, line, output)

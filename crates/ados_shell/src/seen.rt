@@ -16,7 +16,7 @@ use crate::shells::Shell;
 use crate::suspensions::Suspension;
 use ados_assign::Assigns;
 use ados_find::{ShellNames, Target};
-use ados_flow::{Frame, Kind};
+use ados_flow::{Frame, FrameKind};
 use ados_machine::{Asking, Wait};
 use ados_ram::{Busy, Place};
 use ados_text::{NoMemory, Text, Texts};
@@ -223,8 +223,8 @@ fn script_name(alloc: Global, frames: &[Frame]) -> Result<Text, NoMemory>
         return Text::from_bytes(alloc, b"No command");
     };
     match frame.kind() {
-        Kind::Script { name, .. } => name.copy(),
-        Kind::Lines | Kind::Tick { .. } => script_name(alloc, below),
+        FrameKind::Script { name, .. } => name.copy(),
+        FrameKind::RunCommands | FrameKind::Tick { .. } => script_name(alloc, below),
     }
 }
 

@@ -3,12 +3,12 @@ ghost use Rattle.std.specs.Prelude.{◌≡◌, ◌∷◌, [], reverse, IfOk};
 ghost use Rattle.std.specs.Option.{option_copied};
 ghost use Rattle.ados_machine.specs.Shells.{begun_shell, phase_entry, fresh_shell};
 ghost use Rattle.ados_flow.specs.Frames.{new_frame, first_limit};
-ghost use Rattle.ados_flow.specs.declared.kinds.Kind.TheVariants.{Lines};
+ghost use Rattle.ados_flow.specs.declared.kinds.FrameKind.TheVariants.{RunCommands};
 
 use crate::begun::Begun;
 use crate::suspensions::Suspension;
 use ados_find::{Codes, Settings, Target};
-use ados_flow::{FIRST_LIMIT, Frame, Kind};
+use ados_flow::{FIRST_LIMIT, Frame, FrameKind};
 use ados_machine::Request;
 use ados_ram::Place;
 use ados_script::Script;
@@ -229,9 +229,9 @@ fn single_frame(
     commands: Script,
     output: Option<Target>,
 ) -> Result<Vec<Frame>, NoMemory>
-    ensures { IfOk result (λ frames. frames.items ≡ new_frame Lines commands first_limit output ∷ []) }
+    ensures { IfOk result (λ frames. frames.items ≡ new_frame RunCommands commands first_limit output ∷ []) }
 {
-    let frame = Frame::new(alloc, Kind::Lines, commands, FIRST_LIMIT, output)?;
+    let frame = Frame::new(alloc, FrameKind::RunCommands, commands, FIRST_LIMIT, output)?;
     let mut frames = Vec::new(alloc);
     frames.push(frame)?;
     Ok(frames)

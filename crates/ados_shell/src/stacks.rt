@@ -10,7 +10,7 @@ ghost use Rattle.ados_shell.specs.Stacks.{sink_above, sink_by_way, sink_of};
 
 use crate::shells::Shell;
 use ados_find::Target;
-use ados_flow::{FIRST_LIMIT, FRAME_LIMIT, Frame, Kind};
+use ados_flow::{FIRST_LIMIT, FRAME_LIMIT, Frame, FrameKind};
 use ados_text::{Code, NoMemory};
 use std::alloc::Global;
 
@@ -195,7 +195,7 @@ fn way_of(frames: &[Frame]) -> Way<'_>
 {
     let mut left = frames;
     while let Some((frame, older)) = left.split_last() {
-        if let Kind::Tick { .. } = frame.kind() {
+        if let FrameKind::Tick { .. } = frame.kind() {
             return Way::Kept;
         }
         if let Some(target) = frame.output() {

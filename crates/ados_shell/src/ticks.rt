@@ -12,7 +12,7 @@ use crate::drafts::{Draft, ShellDraft};
 use crate::scenes::Scene;
 use crate::suspensions::Suspension;
 use ados_find::Codes;
-use ados_flow::{Frame, Kind};
+use ados_flow::{Frame, FrameKind};
 use ados_line::{Tick, resume};
 use ados_machine::Parted;
 use ados_script::Script;
@@ -50,7 +50,7 @@ impl Draft {
             after,
         } = tick;
         let script = single(scene.alloc, command)?;
-        let kind = Kind::Tick { before, after };
+        let kind = FrameKind::Tick { before, after };
         let frame = Frame::new(scene.alloc, kind, script, self.shell.limit, None)?;
         let mut kept = self.shell.kept_copy(scene)?;
         kept.push(Octets::from_vec(Vec::new(scene.alloc)))?;

@@ -142,7 +142,7 @@ impl Draft {
         if !shared.assigns.has_defers() {
             return Ok(None);
         }
-        if shared.assigns.is_settled(&self.used) {
+        if shared.assigns.has_no_used_defer(&self.used) {
             return Ok(None);
         }
         let assigns = shared.assigns.bind(&self.used, &shared.ram)?;

@@ -122,7 +122,10 @@ fn bind(alloc: Global, device: &'static str, want: usize) -> Result<(), Wrong> {
     assigns.push_reached(&mut used, name(alloc, device)?)?;
     let bound = assigns.bind(used.as_slice(), &files(alloc)?)?;
     expect(bound.holders(&at(alloc, "T")?)?.len() == want, device)?;
-    expect(assigns.is_settled(used.as_slice()) == (want == 2), device)
+    expect(
+        assigns.has_no_used_defer(used.as_slice()) == (want == 2),
+        device,
+    )
 }
 
 // M: and T: hold it at first, and D: too once P:, which leads on to it, was used.

@@ -4,8 +4,8 @@ use Rattle.std.specs.Prelude.{IfOk, nat_lt}
 use Rattle.std.proofs.lemmas.Bool.{and_parts, cases_Bool}
 use Rattle.std.proofs.lemmas.List.{append-nil}
 use Rattle.ados_find.specs.declared.codes.Codes.{Codes}
-use Rattle.ados_flow.specs.declared.kinds.Kind.{Kind}
-use Rattle.ados_flow.specs.declared.kinds.Kind.TheVariants.{Script, Lines, Tick}
+use Rattle.ados_flow.specs.declared.kinds.FrameKind.{FrameKind}
+use Rattle.ados_flow.specs.declared.kinds.FrameKind.TheVariants.{Script, RunCommands, Tick}
 use Rattle.ados_flow.specs.Frames.{FrameState, is_script, last_line, script_count}
 use Rattle.ados_machine.specs.declared.events.Event.{Event}
 use Rattle.ados_machine.specs.declared.events.Event.TheVariants.{Typed, EndOfInput, Turn, Answer, Break}
@@ -32,21 +32,21 @@ ends-whole [] e = refl
 ends-whole ((k, Began depth kind limit) ∷ items) e = ends-whole items e
 ends-whole ((k, Answered depth entry) ∷ items) e = ends-whole items e
 ends-whole ((k, Ended depth (Script name command) line codes early) ∷ items) e = ends-whole items e
-ends-whole ((k, Ended depth Lines line codes early) ∷ items) e = ends-whole items e
+ends-whole ((k, Ended depth RunCommands line codes early) ∷ items) e = ends-whole items e
 ends-whole ((k, Ended depth (Tick before after) line codes early) ∷ items) e = ends-whole items e
 ends-whole ((k, Broke depth kind line) ∷ items) e = cc
 
 -- the end of a script at a break is reported
-told-first : (k depth : ℕ) (kind : Kind) (line : ℕ) (log : List Item) → is_script kind ≡ true →
+told-first : (k depth : ℕ) (kind : FrameKind) (line : ℕ) (log : List Item) → is_script kind ≡ true →
     reports_break (reports_of k (Broke depth kind line ∷ log)) ≡ true
 told-first k depth (Script name command) line log e = refl
-told-first k depth Lines line log e = cc
+told-first k depth RunCommands line log e = cc
 told-first k depth (Tick before after) line log e = cc
 
-told-later : (k depth : ℕ) (kind : Kind) (line : ℕ) (log : List Item) → reports_break (reports_of k log) ≡ true →
+told-later : (k depth : ℕ) (kind : FrameKind) (line : ℕ) (log : List Item) → reports_break (reports_of k log) ≡ true →
     reports_break (reports_of k (Broke depth kind line ∷ log)) ≡ true
 told-later k depth (Script name command) line log e = refl
-told-later k depth Lines line log e = e
+told-later k depth RunCommands line log e = e
 told-later k depth (Tick before after) line log e = e
 
 -- the same if a script runs below a frame

@@ -36,12 +36,12 @@ returns-in-Script t c =
     (sym c.kind.ensures ∙ c.in-Script.is) c.in_ok-report-in-Script.ensures (subst Q c.as_bytes.ensures.value g)))
     c.finish.ensures
 
-pub returns-in-Lines : goal.returns-in-Lines
-returns-in-Lines t c =
+pub returns-in-RunCommands : goal.returns-in-RunCommands
+returns-in-RunCommands t c =
     let mid = answered_draft c.args.self.now c.pop.new.self c.args.codes c.push_failed.new.out in
     finish-popped c.args.scene.now c.args.self.now mid c.pop.new.self c.push_failed.new.out c.args.word.now c.args.codes c.args.quits c.in-Some.frame c.answer.new.self c.in_ok-frame.ensures c.in-Some.is
     (c.answer.ensures (drafted_frames c.args.scene.now.shell.now c.pop.new.self)) (sym c.is_ended.ensures ∙ c.if-not-is_ended.false) c.in_ok-push_failed.ensures
-    (lines-lead c.args.scene.now mid c.args.codes c.answer.new.self (sym c.kind.ensures ∙ c.in-Lines.is) refl)
+    (lines-lead c.args.scene.now mid c.args.codes c.answer.new.self (sym c.kind.ensures ∙ c.in-RunCommands.is) refl)
 
 pub returns : goal.returns
 returns t c =

@@ -1,6 +1,6 @@
 use Rattle.std.proofs.Common.{◌∙◌, ◌∷◌, refl, ap}
 use Rattle.std.proofs.lemmas.Result.{on_ok_weaker}
-use Rattle.ados_flow.specs.declared.kinds.Kind.TheVariants.{Script}
+use Rattle.ados_flow.specs.declared.kinds.FrameKind.TheVariants.{Script}
 use Rattle.ados_flow.specs.Frames.{new_frame}
 use Rattle.ados_shell.specs.Drafts.{frames_of}
 use Rattle.ados_shell.proofs.CompletionLemmas.{begin-goes}

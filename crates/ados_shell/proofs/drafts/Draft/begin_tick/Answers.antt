@@ -3,7 +3,7 @@ use Rattle.std.proofs.lemmas.List.{reverse-append}
 use Rattle.std.proofs.lemmas.Result.{on_ok_weaker}
 use Rattle.ados_text.specs.Text.{Bytes}
 use Rattle.ados_flow.specs.Frames.{new_frame}
-use Rattle.ados_flow.specs.declared.kinds.Kind.TheVariants.{Tick}
+use Rattle.ados_flow.specs.declared.kinds.FrameKind.TheVariants.{Tick}
 use Rattle.ados_shell.specs.Drafts.{course_of, frames_of}
 use Rattle.ados_shell.proofs.CompletionLemmas.{tick-goes}
 use Rattle.ados_shell.proofs.drafts.Draft.begin_tick.Goals as goal

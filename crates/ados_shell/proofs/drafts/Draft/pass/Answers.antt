@@ -21,11 +21,11 @@ returns-in-Script c =
     (subst (Q c.in-Script.command) c.last_codes.ensures (subst (λ w. Q w c.last_codes.result) c.as_bytes.ensures.value g))))
     c.finish.ensures
 
-pub returns-in-Lines : goal.returns-in-Lines
-returns-in-Lines c =
+pub returns-in-RunCommands : goal.returns-in-RunCommands
+returns-in-RunCommands c =
     let mid = popped_draft c.args.self.now c.pop.new.self in
     pass-popped c.args.scene.now c.args.self.now mid c.pop.new.self c.in-Some.frame c.in_ok-frame.ensures c.in-Some.is (sym c.is_over.ensures ∙ c.if-not-is_over.false)
-    (lines-lead c.args.scene.now mid (last_codes c.in-Some.frame.last) c.in-Some.frame (sym c.kind.ensures ∙ c.in-Lines.is) refl)
+    (lines-lead c.args.scene.now mid (last_codes c.in-Some.frame.last) c.in-Some.frame (sym c.kind.ensures ∙ c.in-RunCommands.is) refl)
 
 pub returns : goal.returns
 returns c =

@@ -21,9 +21,9 @@ use Rattle.ados_find.specs.Paths.{place_of}
 use Rattle.ados_find.specs.Shared.{SharedState}
 use Rattle.ados_find.specs.Views.{View}
 use Rattle.ados_flow.specs.CodeRule.{is_reached}
-use Rattle.ados_flow.specs.declared.tests.Test.{Test}
-use Rattle.ados_flow.specs.declared.tests.Test.TheVariants.{Warn, Error, Fail, Equal, Greater, GreaterOrEqual, Exists}
-use Rattle.ados_flow.specs.declared.tests.TheConstants.Test.{ALL}
+use Rattle.ados_flow.specs.declared.conditions.Test.{Test}
+use Rattle.ados_flow.specs.declared.conditions.Test.TheVariants.{Warn, Error, Fail, Equal, Greater, GreaterOrEqual, Exists}
+use Rattle.ados_flow.specs.declared.conditions.TheConstants.Test.{ALL}
 
 -- the arguments ask for a test, by WARN, ERROR, FAIL, EQ, GT, GE or EXISTS
 abbrev pub is_given : List Arg → Test → Bool

@@ -6,7 +6,7 @@ ghost use Rattle.ados_text.specs.Text.{folded_text};
 ghost use Rattle.ados_find.specs.Codes.{fail_codes};
 ghost use Rattle.ados_find.specs.Paths.{Gives, place_of};
 ghost use Rattle.ados_readargs.specs.Args.{option_text};
-ghost use Rattle.ados_flow.specs.Tests.{exists, code_reaches, is_given, place_exists, single_test, argument_order, order_if_both, order_of, if_test};
+ghost use Rattle.ados_flow.specs.Conditions.{exists, code_reaches, is_given, place_exists, single_test, argument_order, order_if_both, order_of, if_test};
 
 use crate::code_rule::is_reached;
 use ados_find::{Codes, Refusal, Shared, ShellView, place_of};
@@ -35,7 +35,7 @@ pub enum Test {
 }
 
 impl Test {
-    ghost use Rattle.ados_flow.specs.Tests.{holds, is_given, test_of};
+    ghost use Rattle.ados_flow.specs.Conditions.{holds, is_given, test_of};
 
     /// All tests.
     pub const ALL: [Test; 7] = [

@@ -1,5 +1,5 @@
 use Rattle.std.proofs.Common.{length}
-use Rattle.ados_flow.proofs.tests.+only.Given as goal
+use Rattle.ados_flow.proofs.conditions.+only.Given as goal
 
 abbrev pub decreases-only : goal.decreases-only
 decreases-only l = length l.tests.now

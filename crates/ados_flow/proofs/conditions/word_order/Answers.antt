@@ -4,7 +4,7 @@ use Rattle.std.proofs.lemmas.Iterator.{YieldsList-from_slice, YieldsList-from_ma
 use Rattle.std.proofs.lemmas.Iterator.Consumers.{YieldsList-at}
 use Rattle.std.proofs.lemmas.Iterator.Search.{cmp_from_yields_List}
 use Rattle.ados_text.specs.Text.{fold_of}
-use Rattle.ados_flow.proofs.tests.word_order.Goals as goal
+use Rattle.ados_flow.proofs.conditions.word_order.Goals as goal
 
 -- each side yields the bytes of its word in lower case
 pub returns : goal.returns
