@@ -7,7 +7,7 @@ use Rattle.ados_machine.specs.World.{WorldState, numbered_shell, is_ready, wants
 use Rattle.ados_machine.specs.Shells.{ShellState}
 use Rattle.ados_machine.specs.Step.{break_response, is_accepted, step_of}
 use Rattle.ados_machine.specs.declared.events.Event.TheVariants.{Typed, EndOfInput, Turn, Break}
-use Rattle.ados_machine.specs.declared.events.Kind.{Kind}
+use Rattle.ados_machine.specs.declared.events.BreakKind.{BreakKind}
 use Rattle.ados_machine.proofs.ReadyLemmas.{ready-turned}
 
 any_some : (shells : List (Option ShellState)) (i : ℕ) → is_some (option_flatten (slice_get shells i)) ≡ true → list_any is_some shells ≡ true
@@ -50,12 +50,12 @@ line-accepted w line e h =
 pub turn-accepted : (w : WorldState) (k : ℕ) → is_ready w k ≡ true → is_accepted (step_of w (Turn k)) ≡ true
 turn-accepted w k e = ready-turned w k ∙ e
 
-broken-accepted : (w : WorldState) (k : ℕ) (kind : Kind) (found : Option ShellState) → is_some found ≡ true → is_accepted (break_response w k kind found) ≡ true
+broken-accepted : (w : WorldState) (k : ℕ) (kind : BreakKind) (found : Option ShellState) → is_some found ≡ true → is_accepted (break_response w k kind found) ≡ true
 broken-accepted w k kind None e = cc
 broken-accepted w k kind (Some shell) e = refl
 
 -- a break of a shell that runs is accepted
-pub break-accepted : (w : WorldState) (k : ℕ) (kind : Kind) → is_some (numbered_shell w k) ≡ true → is_accepted (step_of w (Break k kind)) ≡ true
+pub break-accepted : (w : WorldState) (k : ℕ) (kind : BreakKind) → is_some (numbered_shell w k) ≡ true → is_accepted (step_of w (Break k kind)) ≡ true
 break-accepted w k kind e =
     let left : is_over w ≡ false = runs-on w k e in
     rw left (broken-accepted w k kind (numbered_shell w k) e)

@@ -12,9 +12,9 @@ use Rattle.ados_machine.specs.declared.outs.Out.{Out}
 use Rattle.ados_machine.specs.declared.requests.Request.{Request}
 use Rattle.ados_machine.specs.declared.requests.Request.TheVariants.{Start, Read, Wait}
 use Rattle.ados_machine.specs.Children.{child_after_answer, child_in, is_asked, is_launchers, is_marked, shell_named}
-use Rattle.ados_machine.specs.Items.{Item}
+use Rattle.ados_machine.specs.Items.{TraceItem}
 use Rattle.ados_machine.specs.Limits.{IsSane}
-use Rattle.ados_machine.specs.Runs.{IsAnswer, resulting_world}
+use Rattle.ados_machine.specs.Runs.{IsResponse, resulting_world}
 use Rattle.ados_machine.specs.Step.{Response, Accepted, Refused, step_of}
 use Rattle.ados_machine.specs.World.{WorldState, pending_of}
 use Rattle.ados_machine.proofs.KeptChildren.{turns-keep}
@@ -29,10 +29,10 @@ use Rattle.ados_launch.proofs.NextCall.{asked-start, lifecycle-more, lifecycle-h
 
 -- the response to an event that was accepted
 pub record IsAccepted (now : WorldState) (out : Out) (response : Response) : Type 0 where
-  pub items : List (ℕ × Item)
+  pub items : List (ℕ × TraceItem)
   pub is : response ≡ Accepted now out items
 
-pub accepted-is : (w now : WorldState) (event : Event) (out : Out) (response : Response) → IsAnswer event (Ok out) response → now ≡ resulting_world w (Ok out) response →
+pub accepted-is : (w now : WorldState) (event : Event) (out : Out) (response : Response) → IsResponse event (Ok out) response → now ≡ resulting_world w (Ok out) response →
     IsAccepted now out response
 accepted-is w now event out (Accepted world given items) answer world_is = record { items = items; is = rw (world_is, answer) refl }
 accepted-is w now event out (Refused why) answer world_is = absurd answer
@@ -44,7 +44,7 @@ event-agrees w now event out calls agrees other accepted k =
     agrees k ∙ ap lifecycle_for_state (sym (turns-keep w event now out accepted.items other accepted.is k))
 
 pub given-agrees : (w now : WorldState) (event : Event) (out : Out) (calls : List Call) → Agrees w calls → is_launchers event ≡ false →
-    IsAnswer event (Ok out) (step_of w event) → now ≡ resulting_world w (Ok out) (step_of w event) → Agrees now calls
+    IsResponse event (Ok out) (step_of w event) → now ≡ resulting_world w (Ok out) (step_of w event) → Agrees now calls
 given-agrees w now event out calls agrees other answer world =
     event-agrees w now event out calls agrees other (accepted-is w now event out (step_of w event) answer world)
 
@@ -96,7 +96,7 @@ answers-agree w now k was_full is_full calls calls_now out sane agrees a =
 
 -- an answer that the world did not take, once it is given
 pub untaken-agrees : (w : WorldState) (k : ℕ) (was_full is_full : Bool) (calls calls_now : List Call) (request : Request) (reply : Reply) (out : Out) → IsSane w → Agrees w calls →
-    pending_of w k ≡ Some request → Asks request reply was_full is_full calls calls_now → IsAnswer (Answer k reply) (Ok out) (step_of w (Answer k reply)) →
+    pending_of w k ≡ Some request → Asks request reply was_full is_full calls calls_now → IsResponse (Answer k reply) (Ok out) (step_of w (Answer k reply)) →
     Agrees (resulting_world w (Ok out) (step_of w (Answer k reply))) calls_now
 untaken-agrees w k was_full is_full calls calls_now request reply out sane agrees asked asks is =
     rw asks.calls_are (answer-agrees w (resulting_world w (Ok out) (step_of w (Answer k reply))) k is_full request reply out calls asks.listed sane agrees asked asks.lists

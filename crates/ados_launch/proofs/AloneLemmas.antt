@@ -5,14 +5,14 @@ use Rattle.ados_text.specs.Text.{Bytes, Text}
 use Rattle.ados_machine.specs.declared.answers.Answer.{Answer as Reply}
 use Rattle.ados_machine.specs.declared.events.Event.{Event}
 use Rattle.ados_machine.specs.declared.events.Event.TheVariants.{Typed, EndOfInput, Turn, Answer, Break}
-use Rattle.ados_machine.specs.declared.events.Kind.{Kind}
+use Rattle.ados_machine.specs.declared.events.BreakKind.{BreakKind}
 use Rattle.ados_machine.specs.declared.outs.Out.{Out}
 use Rattle.ados_machine.specs.declared.requests.Request.{Request}
 use Rattle.ados_machine.specs.Alone.{AreOf, exec_alone, bytes_of_outs}
 use Rattle.ados_machine.specs.Children.{child_of_shell, child_in}
 use Rattle.ados_machine.specs.Numbers.{free_number}
 use Rattle.ados_machine.specs.Requests.{request_of}
-use Rattle.ados_machine.specs.Runs.{IsAnswer, Runs, resulting_world}
+use Rattle.ados_machine.specs.Runs.{IsResponse, Runs, resulting_world}
 use Rattle.ados_machine.specs.Shells.{ShellState}
 use Rattle.ados_machine.specs.Step.{Response, Accepted, Refused, is_accepted, step_of}
 use Rattle.ados_machine.specs.LoneShell.{world_with_opened, opened_shell}
@@ -65,7 +65,7 @@ pub turn-on : (w : WorldState) (k : ℕ) → 2 ≤ k → is_some (numbered_shell
 turn-on w k above runs asks = turn-by w k (numbered_shell w k) above refl runs asks
 
 pub turn-takes : (w now : WorldState) (k : ℕ) (is_full : Bool) (calls : List Call) (out : Out) → pending_of w k ≡ None →
-    IsAnswer (Turn k) (Ok out) (step_of w (Turn k)) → now ≡ resulting_world w (Ok out) (step_of w (Turn k)) → TakesNext k w is_full calls now calls out
+    IsResponse (Turn k) (Ok out) (step_of w (Turn k)) → now ≡ resulting_world w (Ok out) (step_of w (Turn k)) → TakesNext k w is_full calls now calls out
 turn-takes w now k is_full calls out asks answer world = record {
   event = Turn k;
   listed = [];
@@ -79,7 +79,7 @@ turn-takes w now k is_full calls out asks answer world = record {
 
 pub answer-takes : (w now : WorldState) (k : ℕ) (was_full is_full : Bool) (calls calls_now : List Call) (request : Request) (reply : Reply) (out : Out) →
     pending_of w k ≡ Some request → Asks request reply was_full is_full calls calls_now →
-    IsAnswer (Answer k reply) (Ok out) (step_of w (Answer k reply)) → now ≡ resulting_world w (Ok out) (step_of w (Answer k reply)) →
+    IsResponse (Answer k reply) (Ok out) (step_of w (Answer k reply)) → now ≡ resulting_world w (Ok out) (step_of w (Answer k reply)) →
     TakesNext k w is_full calls now calls_now out
 answer-takes w now k was_full is_full calls calls_now request reply out asked asks answer world = record {
   event = Answer k reply;
@@ -141,7 +141,7 @@ end-next : (pending : Option Request) (k : ℕ) → IsNextOf k pending EndOfInpu
 end-next None k is = is
 end-next (Some request) k is = is
 
-break-next : (pending : Option Request) (k j : ℕ) (kind : Kind) → IsNextOf k pending (Break j kind) → ⊥
+break-next : (pending : Option Request) (k j : ℕ) (kind : BreakKind) → IsNextOf k pending (Break j kind) → ⊥
 break-next None k j kind is = is
 break-next (Some request) k j kind is = is
 
@@ -155,7 +155,7 @@ answer-next (Some request) k j reply is = (refl, is)
 
 -- one more event of the shell that runs alone
 steps-by : (k n : ℕ) (w : WorldState) (event : Event) (out : Out) (printed : Bytes) (shell : ShellState) → numbered_shell w k ≡ Some shell →
-    IsNextOf k (request_of shell.parts.number shell.phase) event → IsAnswer event (Ok out) (step_of w event) → (rest : List Reply) →
+    IsNextOf k (request_of shell.parts.number shell.phase) event → IsResponse event (Ok out) (step_of w event) → (rest : List Reply) →
     exec_alone k (suc n) (replies_in event ++ rest) w printed ≡ exec_alone k n rest (resulting_world w (Ok out) (step_of w event)) (printed ++ out.bytes)
 steps-by k n w (Turn j) out printed shell runs is accepted rest =
     let next = turn-next (request_of shell.parts.number shell.phase) k j is in
@@ -170,7 +170,7 @@ steps-by k n w EndOfInput out printed shell runs is accepted rest = absurd (end-
 steps-by k n w (Break j kind) out printed shell runs is accepted rest = absurd (break-next (request_of shell.parts.number shell.phase) k j kind is)
 
 pub steps-on : (k n : ℕ) (w : WorldState) (event : Event) (out : Out) (printed : Bytes) (o : Option ShellState) → numbered_shell w k ≡ o → is_some o ≡ true →
-    IsNextOf k (request_of_shell o) event → IsAnswer event (Ok out) (step_of w event) → (rest : List Reply) →
+    IsNextOf k (request_of_shell o) event → IsResponse event (Ok out) (step_of w event) → (rest : List Reply) →
     exec_alone k (suc n) (replies_in event ++ rest) w printed ≡ exec_alone k n rest (resulting_world w (Ok out) (step_of w event)) (printed ++ out.bytes)
 steps-on k n w event out printed None runs some is accepted rest = cc
 steps-on k n w event out printed (Some shell) runs some is accepted rest = steps-by k n w event out printed shell runs is accepted rest

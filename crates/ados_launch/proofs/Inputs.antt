@@ -9,7 +9,7 @@ use Rattle.ados_flow.specs.Frames.{FrameState}
 use Rattle.ados_machine.specs.Requests.{request_of}
 use Rattle.ados_machine.specs.World.{WorldState, numbered_shell, can_take, can_turn, has_input, is_ready, request_of_shell, pending_of, takes_input as phase_takes, wants_input, wants_line, is_over, input_of, option_flatten}
 use Rattle.ados_machine.specs.Numbers.{free_number}
-use Rattle.ados_machine.specs.Settle.{TurnResult}
+use Rattle.ados_machine.specs.Apply.{TurnResult}
 use Rattle.ados_machine.specs.Shells.{ShellStart, begun_shell, ShellState}
 use Rattle.ados_machine.specs.Course.{Course}
 use Rattle.ados_find.specs.declared.outcomes.Breaking.{Breaking}
@@ -19,7 +19,7 @@ use Rattle.ados_machine.specs.Carrying.{carried_shells}
 use Rattle.ados_machine.specs.Answers.{answered_in}
 use Rattle.ados_machine.specs.Sinks.{newest_sink}
 use Rattle.ados_machine.specs.Completions.{Completion}
-use Rattle.ados_machine.specs.Turning.{Input, Turning, Refuses, Ends, Takes, turning_at_break, turning_in_phase, console_turning, ready_turning, input_turning, turning_of_completion}
+use Rattle.ados_machine.specs.Turning.{Input, Turning, Refuses, Ends, Turned, turning_at_break, turning_in_phase, console_turning, ready_turning, input_turning, turning_of_completion}
 use Rattle.ados_machine.specs.Step.{break_response, step_of, turn_response, turning_response, shell_after_turn, start, moved_at_turn, answer_response, course_without_flag, with_begun}
 use Rattle.ados_machine.specs.Runs.{resulting_world}
 use Rattle.ados_machine.specs.declared.answers.Answer.{Answer as Reply}
@@ -27,7 +27,7 @@ use Rattle.ados_machine.specs.declared.outs.Out.{Out}
 use Rattle.ados_machine.specs.Phases.{Phase, Ready, GoingOn, Waiting}
 use Rattle.ados_machine.specs.declared.phases.Wait.TheVariants.{ForAnswer, ForLines, ForStart, ForPiece, ForEnd}
 use Rattle.ados_machine.specs.declared.events.Event.TheVariants.{Typed, Turn, Answer, Break}
-use Rattle.ados_machine.specs.declared.events.Kind.{Kind}
+use Rattle.ados_machine.specs.declared.events.BreakKind.{BreakKind}
 use Rattle.ados_launch.specs.Schedule.{has_open_input}
 
 first-carried : (moved : Option Renamed) (shells : List (Option ShellState)) → is_some (option_flatten (slice_get shells 0)) ≡ true → is_some (option_flatten (slice_get (carried_shells moved shells) 0)) ≡ true
@@ -113,7 +113,7 @@ turning-ends input frames course (Waiting (ForEnd child)) e = cc
 placed-ends : (t : Turning) (input : Input) (frames : List FrameState) (course : Course) → turning_at_break t input frames course ≡ Ends → t ≡ Ends
 placed-ends (Refuses why) input frames course e = cc
 placed-ends Ends input frames course e = refl
-placed-ends (Takes queue turn_response) input frames course e = cc
+placed-ends (Turned queue turn_response) input frames course e = cc
 
 flagged-ends : (b : Bool) (input : Input) (frames : List FrameState) (course : Course) (phase : Phase) →
     (if b then turning_at_break (turning_in_phase input frames course phase) input frames course else turning_in_phase input frames course phase) ≡ Ends → input.is_ended ≡ true
@@ -123,7 +123,7 @@ flagged-ends false input frames course phase e = turning-ends input frames cours
 applied-takes : (w : WorldState) (out : Out) (k : ℕ) (codes : Codes) (t : Turning) → (t ≡ Ends → k ≢ 1) → k ≢ 0 → has_open_input w ≡ true → has_open_input (resulting_world w (Ok out) (turning_response w k codes t)) ≡ true
 applied-takes w out k codes (Refuses why) ends some e = e
 applied-takes w out k codes Ends ends some e = rw (first-unset w.shells (k - 1) (omega (arith, some, ends refl))) e
-applied-takes w out k codes (Takes queue turn_response) ends some e =
+applied-takes w out k codes (Turned queue turn_response) ends some e =
     let parts = and_parts (is_some (numbered_shell w 1)) (not w.input_ended) e in
     let moved = moved_at_turn w turn_response in
     let carried = first-carried moved w.shells parts.0 in
@@ -176,14 +176,14 @@ answer-takes w out k reply e =
       | inr running ↦ rw running (answered-takes w out k reply (numbered_shell w k) refl e)
     ]
 
-broken-takes : (w : WorldState) (out : Out) (k : ℕ) (kind : Kind) (found : Option ShellState) → has_open_input w ≡ true → has_open_input (resulting_world w (Ok out) (break_response w k kind found)) ≡ true
+broken-takes : (w : WorldState) (out : Out) (k : ℕ) (kind : BreakKind) (found : Option ShellState) → has_open_input w ≡ true → has_open_input (resulting_world w (Ok out) (break_response w k kind found)) ≡ true
 broken-takes w out k kind None e = e
 broken-takes w out k kind (Some shell) e =
     let parts = and_parts (is_some (numbered_shell w 1)) (not w.input_ended) e in
     rw (first-numbered (kind_breaks kind) k w.shells parts.0, parts.1) refl
 
 -- no shell ends by a break
-pub break-takes : (w : WorldState) (out : Out) (k : ℕ) (kind : Kind) → has_open_input w ≡ true → has_open_input (resulting_world w (Ok out) (step_of w (Break k kind))) ≡ true
+pub break-takes : (w : WorldState) (out : Out) (k : ℕ) (kind : BreakKind) → has_open_input w ≡ true → has_open_input (resulting_world w (Ok out) (step_of w (Break k kind))) ≡ true
 break-takes w out k kind e =
     elim (cases_Bool (is_over w)) [
       | inl over ↦ rw over e

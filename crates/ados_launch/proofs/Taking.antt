@@ -6,14 +6,14 @@ use Rattle.std.proofs.lemmas.Grind.{common_steps}
 use Rattle.ados_machine.specs.declared.answers.Answer.{Answer as Reply}
 use Rattle.ados_machine.specs.declared.events.Event.{Event}
 use Rattle.ados_machine.specs.declared.events.Event.TheVariants.{Typed, EndOfInput, Turn, Answer, Break}
-use Rattle.ados_machine.specs.declared.events.Kind.{Kind}
+use Rattle.ados_machine.specs.declared.events.BreakKind.{BreakKind}
 use Rattle.ados_machine.specs.declared.outs.Out.{Out}
 use Rattle.ados_machine.specs.declared.requests.Request.{Request}
 use Rattle.ados_machine.specs.declared.requests.Request.TheVariants.{Start, Read, Wait}
 use Rattle.ados_machine.specs.Children.{answers_start, fits}
 use Rattle.ados_machine.specs.World.{WorldState, pending_of}
 use Rattle.ados_machine.specs.Step.{step_of}
-use Rattle.ados_machine.specs.Runs.{IsAnswer, resulting_world}
+use Rattle.ados_machine.specs.Runs.{IsResponse, resulting_world}
 use Rattle.ados_launcher.specs.declared.calls.Call.{Call}
 use Rattle.ados_launch.specs.declared.lines.LineKind.{LineKind}
 use Rattle.ados_launch.specs.declared.lines.LineKind.TheVariants.{End, Overlong, Short}
@@ -41,7 +41,7 @@ same-place next one other p q = sym (ap place-found p) ∙ ap place-found q
 
 -- a line of the reader, or its end
 pub took-line : (w now : WorldState) (left rest : Option (List ℕ)) (event : Event) (out : Out)
-    → IsAnswer event (Ok out) (step_of w event) → now ≡ resulting_world w (Ok out) (step_of w event) → IsOfReader (Given event out)
+    → IsResponse event (Ok out) (step_of w event) → now ≡ resulting_world w (Ok out) (step_of w event) → IsOfReader (Given event out)
     → IfKnown left (λ bytes. IsNext bytes (Given event out) × (rest ≡ Some (rest_after_item bytes (Given event out))))
     → TakesLineOrEnd w left now rest out.bytes
 took-line w now left rest event out answer world of_reader lines =
@@ -82,7 +82,7 @@ turn-at place low high = grind (arith, common_steps)
 
 -- the turn of a shell
 pub took-at-turn : (w now : WorldState) (left : Option (List ℕ)) (is_full : Bool) (calls : List Call) (place : ℕ) (out : Out)
-    → 1 ≤ place → place ≤ 20 → IsAnswer (Turn place) (Ok out) (step_of w (Turn place)) → now ≡ resulting_world w (Ok out) (step_of w (Turn place))
+    → 1 ≤ place → place ≤ 20 → IsResponse (Turn place) (Ok out) (step_of w (Turn place)) → now ≡ resulting_world w (Ok out) (step_of w (Turn place))
     → TakesNextItem w left is_full calls (next_at place) now left calls out.bytes
 took-at-turn w now left is_full calls place out low high answer world = record {
   item = Given (Turn place) out;
@@ -95,8 +95,8 @@ took-at-turn w now left is_full calls place out low high answer world = record {
 }
 
 -- a break of a shell
-pub took-at-break : (w now : WorldState) (left : Option (List ℕ)) (is_full : Bool) (calls : List Call) (k : ℕ) (kind : Kind) (out : Out)
-    → IsAnswer (Break k kind) (Ok out) (step_of w (Break k kind)) → now ≡ resulting_world w (Ok out) (step_of w (Break k kind))
+pub took-at-break : (w now : WorldState) (left : Option (List ℕ)) (is_full : Bool) (calls : List Call) (k : ℕ) (kind : BreakKind) (out : Out)
+    → IsResponse (Break k kind) (Ok out) (step_of w (Break k kind)) → now ≡ resulting_world w (Ok out) (step_of w (Break k kind))
     → TakesNextItem w left is_full calls (AtBreak k kind) now left calls out.bytes
 took-at-break w now left is_full calls k kind out answer world = record {
   item = Given (Break k kind) out;

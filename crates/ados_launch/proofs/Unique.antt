@@ -8,7 +8,7 @@ use Rattle.ados_machine.specs.declared.outs.Out.{Out}
 use Rattle.ados_machine.specs.declared.requests.Request.{Request}
 use Rattle.ados_machine.specs.declared.requests.Request.TheVariants.{Start, Read, Wait}
 use Rattle.ados_machine.specs.Children.{answers_start}
-use Rattle.ados_machine.specs.Runs.{IsAnswer, Runs}
+use Rattle.ados_machine.specs.Runs.{IsResponse, Runs}
 use Rattle.ados_machine.specs.Step.{Response, Accepted, Refused, step_of}
 use Rattle.ados_machine.specs.World.{WorldState, pending_of}
 use Rattle.ados_launcher.specs.declared.calls.Call.{Call}
@@ -20,7 +20,7 @@ use Rattle.ados_launch.specs.Taken.{TakenItem, Given, LongLine, AreRead, IsAccep
 use Rattle.ados_launch.proofs.Taken.{starts-more}
 
 -- the output of an accepted event is unique
-same-given : (event : Event) (out other : Out) (response : Response) → IsAnswer event (Ok out) response → IsAnswer event (Ok other) response → out ≡ other
+same-given : (event : Event) (out other : Out) (response : Response) → IsResponse event (Ok out) response → IsResponse event (Ok other) response → out ≡ other
 same-given event out other (Accepted world given items) a b = a ∙ sym b
 same-given event out other (Refused why) a b = absurd a
 

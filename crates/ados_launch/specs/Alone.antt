@@ -11,7 +11,7 @@ use Rattle.ados_machine.specs.declared.refusals.Refusal.TheVariants.{NoMemory}
 use Rattle.ados_machine.specs.declared.requests.Request.{Request}
 use Rattle.ados_machine.specs.Alone.{AreOf, IsEnd, IsLate, bytes_of_outs}
 use Rattle.ados_machine.specs.Numbers.{free_number}
-use Rattle.ados_machine.specs.Runs.{IsAnswer, Runs, resulting_world}
+use Rattle.ados_machine.specs.Runs.{IsResponse, Runs, resulting_world}
 use Rattle.ados_machine.specs.Step.{step_of}
 use Rattle.ados_machine.specs.LoneShell.{world_with_opened, whole}
 use Rattle.ados_machine.specs.World.{WorldState, pending_of, numbered_shell}
@@ -35,7 +35,7 @@ pub record TakesNext (k : ℕ) (w : WorldState) (is_full : Bool) (calls : List C
   pub event : Event
   pub listed : List Call
   pub is_next : IsNextOf k (pending_of w k) event
-  pub accepted : IsAnswer event (Ok out) (step_of w event)
+  pub accepted : IsResponse event (Ok out) (step_of w event)
   pub world_is : now ≡ resulting_world w (Ok out) (step_of w event)
   pub asked : IsAsked is_full w (Given event out) listed
   pub when_full : is_full ≡ true → AreNoStarts listed
@@ -49,7 +49,7 @@ IsUntaken is_full w k (Some reply) others = ListsOf is_full (pending_of w k) rep
 -- the world and the launcher's list agree, once an untaken answer is given
 abbrev pub AgreesOnceTaken : WorldState → ℕ → Option Reply → List Call → Type 0
 AgreesOnceTaken w k None calls = Agrees w calls
-AgreesOnceTaken w k (Some reply) calls = (out : Out) → IsAnswer (Answer k reply) (Ok out) (step_of w (Answer k reply)) →
+AgreesOnceTaken w k (Some reply) calls = (out : Out) → IsResponse (Answer k reply) (Ok out) (step_of w (Answer k reply)) →
     Agrees (resulting_world w (Ok out) (step_of w (Answer k reply))) calls
 
 -- whether a shell was opened or not

@@ -9,7 +9,7 @@ use Rattle.ados_machine.specs.declared.outs.Out.{Out}
 use Rattle.ados_machine.specs.declared.requests.Request.{Request}
 use Rattle.ados_machine.specs.declared.requests.Request.TheVariants.{Start, Read, Wait}
 use Rattle.ados_machine.specs.Children.{fits}
-use Rattle.ados_machine.specs.Runs.{IsAnswer, resulting_world}
+use Rattle.ados_machine.specs.Runs.{IsResponse, resulting_world}
 use Rattle.ados_machine.specs.Step.{step_of}
 use Rattle.ados_machine.specs.World.{WorldState, pending_of}
 use Rattle.ados_launcher.specs.declared.calls.Call.{Call}
@@ -97,7 +97,7 @@ pub record LauncherAnswers (w : WorldState) (k : ℕ) (was_full is_full : Bool) 
 
 -- the world took the answer for shell k, which gave this
 abbrev pub IsTaken : WorldState → ℕ → WorldState → Out → Reply → Type 0
-IsTaken w k now out reply = IsAnswer (Answer k reply) (Ok out) (step_of w (Answer k reply)) × (now ≡ resulting_world w (Ok out) (step_of w (Answer k reply)))
+IsTaken w k now out reply = IsResponse (Answer k reply) (Ok out) (step_of w (Answer k reply)) × (now ≡ resulting_world w (Ok out) (step_of w (Answer k reply)))
 
 -- if it took it; otherwise the world is unchanged
 abbrev pub TakesAnswer : {X E : Type 0} → WorldState → ℕ → Result X E → WorldState → Out → Reply → Type 0

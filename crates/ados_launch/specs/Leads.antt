@@ -4,7 +4,7 @@ use Rattle.ados_text.specs.Text.{Text}
 use Rattle.ados_machine.specs.declared.events.Event.{Event}
 use Rattle.ados_machine.specs.declared.outs.Out.{Out}
 use Rattle.ados_machine.specs.Numbers.{free_number}
-use Rattle.ados_machine.specs.Runs.{IsAnswer, resulting_world}
+use Rattle.ados_machine.specs.Runs.{IsResponse, resulting_world}
 use Rattle.ados_machine.specs.Step.{step_of}
 use Rattle.ados_machine.specs.LoneShell.{world_with_opened}
 use Rattle.ados_machine.specs.World.{WorldState}
@@ -19,7 +19,7 @@ pub data Act : Type 0 where
 abbrev pub ActsLead : WorldState → List Act → WorldState → Type 0
 ActsLead w [] last = last ≡ w
 ActsLead w (Takes event out ∷ acts) last =
-    IsAnswer event (Ok out) (step_of w event) × ActsLead (resulting_world w (Ok out) (step_of w event)) acts last
+    IsResponse event (Ok out) (step_of w event) × ActsLead (resulting_world w (Ok out) (step_of w event)) acts last
 ActsLead w (Opens k line ∷ acts) last =
     (free_number w.shells ≡ Some k) × (opening_fault w line ≡ None) × ActsLead (world_with_opened w k (line ∷ [])) acts last
 

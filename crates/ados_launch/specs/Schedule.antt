@@ -5,7 +5,7 @@ use Rattle.std.specs.List.{prefix_len}
 use Rattle.ados_machine.specs.declared.events.BreakAt.{BreakAt}
 use Rattle.ados_machine.specs.declared.events.Event.{Event}
 use Rattle.ados_machine.specs.declared.events.Event.TheVariants.{Typed, EndOfInput, Turn, Answer, Break}
-use Rattle.ados_machine.specs.declared.events.Kind.{Kind}
+use Rattle.ados_machine.specs.declared.events.BreakKind.{BreakKind}
 use Rattle.ados_machine.specs.Children.{answers_start}
 use Rattle.ados_machine.specs.World.{WorldState, numbered_shell}
 use Rattle.ados_launch.specs.declared.rounds.Round.{Round}
@@ -27,7 +27,7 @@ first_schedule_state breaks = record { round = first_round; breaks = breaks; tak
 
 -- what comes next: a break of a shell; a line; a shell's turn, the answer to its start, or to its read or wait
 pub data Next : Type 0 where
-  AtBreak : (shell : ℕ) (kind : Kind) → Next
+  AtBreak : (shell : ℕ) (kind : BreakKind) → Next
   AtLine : Next
   AtTurn : (shell : ℕ) → Next
   AtStart : (shell : ℕ) → Next

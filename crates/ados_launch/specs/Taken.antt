@@ -7,7 +7,7 @@ use Rattle.ados_machine.specs.declared.outs.Out.{Out}
 use Rattle.ados_machine.specs.declared.refusals.Refusal.{Refusal}
 use Rattle.ados_machine.specs.World.{WorldState}
 use Rattle.ados_machine.specs.Step.{step_of}
-use Rattle.ados_machine.specs.Runs.{IsAnswer, resulting_world}
+use Rattle.ados_machine.specs.Runs.{IsResponse, resulting_world}
 use Rattle.ados_launch.specs.declared.lines.LineKind.TheVariants.{End, Short, Long}
 use Rattle.ados_launch.specs.Lines.{line_of, rest_of, kind_of}
 
@@ -49,7 +49,7 @@ world_after_item w LongLine = w
 
 -- the machine accepts it, and gives exactly this
 abbrev pub IsAccepted : WorldState → TakenItem → Type 0
-IsAccepted w (Given event out) = IsAnswer event (Ok out) (step_of w event)
+IsAccepted w (Given event out) = IsResponse event (Ok out) (step_of w event)
 IsAccepted w LongLine = Unit {0}
 
 -- the bytes of a line as text: `?` for each byte above ASCII

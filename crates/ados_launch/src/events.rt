@@ -1,7 +1,7 @@
 // Giving an event to the world.
 ghost use Rattle.std.specs.Prelude.{◌≡◌, ◌<◌, ◌≤◌, ◌-◌, [], true, nat_lt, if◌then◌else◌, OnOk, OnErr, Ok};
 ghost use Rattle.ados_machine.specs.Step.{event_out, is_accepted, step_of};
-ghost use Rattle.ados_machine.specs.Runs.{IsAnswer, resulting_world};
+ghost use Rattle.ados_machine.specs.Runs.{IsResponse, resulting_world};
 ghost use Rattle.ados_shell.specs.Drafts.{out_of};
 
 use ados_text::{NoMemory, Text};
@@ -19,7 +19,7 @@ pub fn shell_answered(place: u8) -> u8
 // Gives the world an event that it accepts, unless an allocation fails.
 pub fn give(world: &mut World, event: &Event, draft: &mut Draft) -> Result<(), NoMemory>
     requires { is_accepted (step_of world.old event.now) ≡ true }
-    ensures answer { OnOk result (IsAnswer event.now (Ok (out_of draft.new)) (step_of world.old event.now)) }
+    ensures response { OnOk result (IsResponse event.now (Ok (out_of draft.new)) (step_of world.old event.now)) }
     ensures world { OnOk result (world.new ≡ resulting_world world.old (Ok (out_of draft.new)) (step_of world.old event.now)) }
     ensures err { OnErr result (world.new ≡ world.old) }
 {
@@ -33,7 +33,7 @@ pub fn give(world: &mut World, event: &Event, draft: &mut Draft) -> Result<(), N
 // Gives the world a line that it accepts, unless an allocation fails.
 pub fn give_line(world: &mut World, line: Text) -> Result<(), NoMemory>
     requires { is_accepted (step_of world.old (Event.Typed line)) ≡ true }
-    ensures answer { OnOk result (IsAnswer (Event.Typed line) (Ok (event_out [] None [])) (step_of world.old (Event.Typed line))) }
+    ensures response { OnOk result (IsResponse (Event.Typed line) (Ok (event_out [] None [])) (step_of world.old (Event.Typed line))) }
     ensures world { OnOk result (world.new ≡ resulting_world world.old (Ok (event_out [] None [])) (step_of world.old (Event.Typed line))) }
     ensures err { OnErr result (world.new ≡ world.old) }
 {

@@ -12,11 +12,11 @@ use Rattle.ados_machine.specs.Course.{Course, with_no_device_used, with_bytes_pr
 use Rattle.ados_machine.specs.Completions.{Completion, Passes, Answers, Jumps, Calls, Ticks, Waits}
 use Rattle.ados_machine.specs.NewShells.{gathered_completion, joined_completion}
 use Rattle.ados_machine.specs.Lines.{with_variables, course_variables, line_completion, parted_completion, answer_completion}
-use Rattle.ados_machine.specs.Settled.{RuleState, RuleResult}
-use Rattle.ados_machine.specs.Settle.{TurnResult, here_of, frames_at_line, said_of, turn_by_rule, turn_of_completion}
+use Rattle.ados_machine.specs.CodeRule.{RuleState, RuleResult}
+use Rattle.ados_machine.specs.Apply.{TurnResult, here_of, frames_at_line, rule_state_of, turn_by_rule, turn_of_completion}
 use Rattle.ados_machine.specs.Breaks.{break_text, has_script}
 use Rattle.ados_machine.specs.declared.refusals.Refusal.TheVariants.{NotReady}
-use Rattle.ados_machine.specs.Turning.{turning_at_break, flagged_turning, Input, Turning, Refuses, Ends, Takes, turn_of_frame, turning_at_end, console_turning, ready_turning, input_turning, turning_in_phase}
+use Rattle.ados_machine.specs.Turning.{turning_at_break, flagged_turning, Input, Turning, Refuses, Ends, Turned, turn_of_frame, turning_at_end, console_turning, ready_turning, input_turning, turning_in_phase}
 use Rattle.ados_machine.specs.World.{is_for_input}
 use Rattle.ados_machine.proofs.Rests.{broken-rests, IsIdle, Rests, passed-rests, finished-rests, called-rests, ticked-rests}
 use Rattle.ados_machine.proofs.Asked.{Never, HandsWhile, Hands, never-hands, joined_by-never, answer-never, expanded-hands}
@@ -35,24 +35,24 @@ idle-hands from now phase.Ready idle = tt
 idle-hands from now (phase.GoingOn parted) idle = tt
 idle-hands from now (phase.Waiting wait) idle = absurd idle
 
-rule-hands : (from course : Course) (said : RuleState) (settled : RuleResult) → Rests said settled → TurnHands from (turn_by_rule course settled)
-rule-hands from course said settled rests = idle-hands from (turn_by_rule course settled).course settled.phase rests.idle
+rule-hands : (from course : Course) (rule_state : RuleState) (settled : RuleResult) → Rests rule_state settled → TurnHands from (turn_by_rule course settled)
+rule-hands from course rule_state settled rests = idle-hands from (turn_by_rule course settled).course settled.phase rests.idle
 
 pub settle-hands : (from : Course) (completion : Completion) (frames : List FrameState) → Hands from completion → TurnHands from (turn_of_completion completion frames)
-settle-hands from (Passes course) frames hands = rule-hands from course _ _ (passed-rests frames (said_of course))
+settle-hands from (Passes course) frames hands = rule-hands from course _ _ (passed-rests frames (rule_state_of course))
 settle-hands from (Answers word answer quits course) frames hands =
-    rule-hands from course _ _ (finished-rests word answer quits frames (said_of course))
+    rule-hands from course _ _ (finished-rests word answer quits frames (rule_state_of course))
 settle-hands from (Jumps word answer line course) frames hands =
-    rule-hands from course _ _ (finished-rests word answer false (frames_at_line line frames) (said_of course))
+    rule-hands from course _ _ (finished-rests word answer false (frames_at_line line frames) (rule_state_of course))
 settle-hands from (Calls word output script course) frames hands =
-    rule-hands from course _ _ (called-rests word output script frames (said_of course))
+    rule-hands from course _ _ (called-rests word output script frames (rule_state_of course))
 settle-hands from (Ticks before command after course) frames hands =
-    rule-hands from course _ _ (ticked-rests before command after frames (said_of course))
+    rule-hands from course _ _ (ticked-rests before command after frames (rule_state_of course))
 settle-hands from (Waits wait course) frames hands = hands
 
 -- a turn by the shell's phase
 abbrev pub TurningHands : Course → Turning → Type 0
-TurningHands course (Takes queue t) = TurnHands course t
+TurningHands course (Turned queue t) = TurnHands course t
 TurningHands course (Refuses why) = Unit {0}
 TurningHands course Ends = Unit {0}
 
@@ -83,7 +83,7 @@ ready-hands input (frame ∷ frames) course = frame-hands frame frames course (s
 input-hands : (queue : List (List ℕ)) (is_ended : Bool) (frames : List FrameState) (course : Course) (by_line : List ℕ → Completion) (by_end : Completion) →
     ((line : List ℕ) → Never (by_line line)) → Never by_end → TurningHands course (input_turning queue is_ended frames by_line by_end)
 input-hands [] is_ended frames course by_line by_end lines end =
-    at_end-hands course is_ended (Takes [] (turn_of_completion by_end frames)) (settle-hands course by_end frames (never-hands course by_end end))
+    at_end-hands course is_ended (Turned [] (turn_of_completion by_end frames)) (settle-hands course by_end frames (never-hands course by_end end))
 input-hands (line ∷ rest) is_ended frames course by_line by_end lines end =
     settle-hands course (by_line line) frames (never-hands course (by_line line) (lines line))
 
@@ -109,8 +109,8 @@ turning-hands input frames course (phase.Waiting (ForEnd child)) = tt
 in_place-hands : (turning_in_phase : Turning) (input : Input) (frames : List FrameState) (from course : Course) → TurningHands from (turning_at_break turning_in_phase input frames course)
 in_place-hands (Refuses why) input frames from course = tt
 in_place-hands Ends input frames from course = tt
-in_place-hands (Takes queue t) input frames from course =
-    rule-hands from (with_bytes_printed break_text course) _ _ (broken-rests frames (said_of (with_bytes_printed break_text course)))
+in_place-hands (Turned queue t) input frames from course =
+    rule-hands from (with_bytes_printed break_text course) _ _ (broken-rests frames (rule_state_of (with_bytes_printed break_text course)))
 
 pub flagged-hands : (flagged : Bool) (input : Input) (frames : List FrameState) (course : Course) (now : Phase) →
     TurningHands (with_no_device_used course) (flagged_turning flagged input frames course now)

@@ -14,7 +14,7 @@ use Rattle.ados_machine.specs.Children.{child_during, child_of_shell}
 use Rattle.ados_machine.specs.Course.{Course}
 use Rattle.ados_machine.specs.Numbers.{free_number}
 use Rattle.ados_machine.specs.Requests.{request_of}
-use Rattle.ados_machine.specs.Settle.{TurnResult}
+use Rattle.ados_machine.specs.Apply.{TurnResult}
 use Rattle.ados_machine.specs.Shells.{ShellStart, begun_shell, ShellState}
 use Rattle.ados_machine.specs.Step.{shell_of_turn, with_begun, is_done, shell_after_turn}
 use Rattle.ados_machine.specs.World.{request_of_shell}

@@ -12,19 +12,19 @@ use Rattle.ados_machine.specs.declared.answers.Answer.{Answer as Reply}
 use Rattle.ados_machine.specs.declared.events.Event.{Event}
 use Rattle.ados_machine.specs.declared.outs.Out.{Out}
 use Rattle.ados_machine.specs.declared.refusals.Refusal.{Refusal}
-use Rattle.ados_machine.specs.declared.events.Kind.{Kind}
+use Rattle.ados_machine.specs.declared.events.BreakKind.{BreakKind}
 use Rattle.ados_machine.specs.Breaks.{kind_breaks, shells_after_break}
 use Rattle.ados_machine.specs.Carrying.{carried_shells, carried_or_same}
-use Rattle.ados_machine.specs.Items.{Item, Began, Answered, Ended, Broke}
+use Rattle.ados_machine.specs.Items.{TraceItem, Began, Answered, Ended, Broke}
 use Rattle.ados_machine.specs.Limits.{IsSane}
 use Rattle.ados_machine.specs.Numbers.{free_number}
 use Rattle.ados_machine.specs.Runs.{resulting_world}
-use Rattle.ados_machine.specs.Settle.{TurnResult}
+use Rattle.ados_machine.specs.Apply.{TurnResult}
 use Rattle.ados_machine.specs.Shells.{ShellStart, begun_shell, ShellState}
 use Rattle.ados_machine.specs.Stacks.{Entry, new_entry, with_last, stack_of, Standing, standing_of, initial_codes as codes_begun, limit_after_end, codes_after_end}
 use Rattle.ados_machine.specs.Step.{Response, Refused, Accepted, of_shell, shell_of_turn, with_begun, begun_items, is_done, shell_after_turn, codes_of_ended, moved_at_turn, turn_taken, shell_ended, start, course_without_flag, turning_response, turn_response, answer_response, break_response, step_of}
 use Rattle.ados_machine.specs.Trace.{items_after, own}
-use Rattle.ados_machine.specs.Turning.{Turning, Refuses, Ends, Takes, flagged_turning, turning_of_answer}
+use Rattle.ados_machine.specs.Turning.{Turning, Refuses, Ends, Turned, flagged_turning, turning_of_answer}
 use Rattle.ados_machine.specs.World.{WorldState, at_number, numbered_shell, input_of, shell_codes, codes_at}
 use Rattle.ados_machine.specs.Kept.{codes_after_trace, HasAllCodes}
 use Rattle.ados_machine.proofs.Follows.{back, Follows}
@@ -35,7 +35,7 @@ use Rattle.ados_machine.proofs.Moves.{placed-at, begun-silent}
 use Rattle.ados_machine.proofs.StepCases.{of-step}
 
 -- if a trace leads to a standing it leads to that one's codes
-follows-codes : (limit : Code) (codes : Codes) (stack : List Entry) (log : List Item) (stands : Standing) →
+follows-codes : (limit : Code) (codes : Codes) (stack : List Entry) (log : List TraceItem) (stands : Standing) →
     Follows limit codes stack log (Some stands) → stands.codes ≡ codes_after_trace codes log
 follows-codes limit codes stack [] stands h = ap (λ s. s.codes) h
 follows-codes limit codes stack (Began d kind first ∷ log) stands h =
@@ -49,7 +49,7 @@ follows-codes limit codes (top ∷ below) (Ended d kind line answer early ∷ lo
 follows-codes limit codes [] (Broke d kind line ∷ log) stands h = absurd h
 follows-codes limit codes (top ∷ below) (Broke d kind line ∷ log) stands h = follows-codes limit codes below log stands h.3
 
-pub after-append : (codes : Codes) (log more : List Item) → codes_after_trace codes (log ++ more) ≡ codes_after_trace (codes_after_trace codes log) more
+pub after-append : (codes : Codes) (log more : List TraceItem) → codes_after_trace codes (log ++ more) ≡ codes_after_trace (codes_after_trace codes log) more
 after-append codes [] more = refl
 after-append codes (Began d kind first ∷ log) more = after-append (codes_begun kind codes) log more
 after-append codes (Answered d entry ∷ log) more = after-append entry.codes log more
@@ -162,7 +162,7 @@ applied-codes : (w : WorldState) (k : ℕ) (shell : ShellState) (now : Turning) 
     TurningGoes shell.parts shell.frames now → LeadsCodes w (turning_response w k shell.parts.codes now)
 applied-codes w k shell (Refuses why) all is goes = tt
 applied-codes w k shell Ends all is goes = ended-codes w k shell all is
-applied-codes w k shell (Takes queue t) all is goes = took-codes w k shell queue t all is goes
+applied-codes w k shell (Turned queue t) all is goes = took-codes w k shell queue t all is goes
 
 turned-codes : (w : WorldState) (k : ℕ) (o : Option ShellState) → IsSane w → HasAllCodes w → numbered_shell w k ≡ o → LeadsCodes w (turn_response w k o)
 turned-codes w k None sane all is = tt
@@ -177,7 +177,7 @@ answered-codes w k reply (Some shell) sane all is =
     applied-codes w k shell (turning_of_answer (input_of w k) shell.frames (start w shell) shell.phase reply) all is
     (answering-goes (input_of w k) shell.frames (start w shell) shell.phase reply (rw is at (sane.each k)))
 
-break-codes : (w : WorldState) (k : ℕ) (kind : Kind) (o : Option ShellState) → LeadsCodes w (break_response w k kind o)
+break-codes : (w : WorldState) (k : ℕ) (kind : BreakKind) (o : Option ShellState) → LeadsCodes w (break_response w k kind o)
 break-codes w k kind None = tt
 break-codes w k kind (Some shell) = λ j.
     let breaking = Some (record { shell = k; breaks = kind_breaks kind }) in

@@ -24,8 +24,8 @@ use Rattle.ados_machine.specs.Lines.{line_completion, parted_completion, answer_
 use Rattle.ados_machine.specs.NewShells.{gathered_completion}
 use Rattle.ados_machine.specs.Items.{broken_codes}
 use Rattle.ados_machine.specs.Breaks.{has_script}
-use Rattle.ados_machine.specs.Settled.{RuleState, RuleResult, after_break, end_at_break, with_limit, finish, pass_line, finish_with_fault, with_fault_line, newest_kept}
-use Rattle.ados_machine.specs.Settle.{here_of, frames_at_line, code_rule_of}
+use Rattle.ados_machine.specs.CodeRule.{RuleState, RuleResult, after_break, end_at_break, with_limit, finish, pass_line, finish_with_fault, with_fault_line, newest_kept}
+use Rattle.ados_machine.specs.Apply.{here_of, frames_at_line, code_rule_of}
 use Rattle.ados_machine.specs.Whole.{record_at, report_of, report_broken, with_report, after_broken, common_without_flag, Broken, Common, common_after_event, Whole, Done, Late, Short, remainder, Configuration, configuration, says, here_at, start_at, after_answer, after_own_answer, after_call, after_tick, after_completion, common_with_tick, common_without_tick, after_reply, completion_meaning, script_at, tick_at}
 use Rattle.ados_machine.specs.LoneShell.{turn_at, waits, at_next_line, lines}
 use Rattle.ados_machine.proofs.Alone.{Go, line_event, start_in, turn_event, Lone, go_by, does, completion_event, exec}
@@ -34,7 +34,7 @@ use Rattle.ados_machine.proofs.DirectStates.{ended, breaking, AgreesBy, AgreesHe
 -- the newest frame continues, or ends if no line is left
 passed-agrees : (k gas : ℕ) → AgreesAt k gas →
     (n : ℕ) (answers : List Reply) (common : Common) (frame : FrameState) (frames : List FrameState) → n < gas →
-    AgreesHere k frame frames n (go_by k (exec k n answers) common (pass_line (frame ∷ frames) common.said))
+    AgreesHere k frame frames n (go_by k (exec k n answers) common (pass_line (frame ∷ frames) common.rule_state))
     (lines gas (remainder n answers) (configuration common (at_of k frame frames)) None)
 passed-agrees k gas ih n answers common frame frames lt =
     elim (cases_Bool (is_over frame)) [
@@ -46,16 +46,16 @@ passed-agrees k gas ih n answers common frame frames lt =
 answer-agrees : (k gas : ℕ) → AgreesAt k gas →
     (n : ℕ) (answers : List Reply) (common : Common) (frame : FrameState) (frames : List FrameState)
     (word : Text) (answer : Codes) (quits : Bool) → n < gas →
-    AgreesHere k frame frames n (go_by k (exec k n answers) common (finish word answer quits (frame ∷ frames) common.said))
+    AgreesHere k frame frames n (go_by k (exec k n answers) common (finish word answer quits (frame ∷ frames) common.rule_state))
     (after_answer (lines gas) (remainder n answers) (configuration common (at_of k frame frames)) word answer quits)
 answer-agrees k gas ih n answers common frame frames word answer quits lt =
     elim (cases_Bool (is_over frame)) [
       | inl e ↦ rw (e, lines-over gas n answers (says word answer common) (record (at_of k frame frames) { last = Some (record_at (at_of k frame frames) answer common) }) lt e)
-          (over (is_script frame.kind && (quits || is_reached common.said.parts.limit answer.code)))
-      | inr e ↦ elim (cases_Bool (is_script frame.kind && (quits || is_reached common.said.parts.limit answer.code))) [
+          (over (is_script frame.kind && (quits || is_reached common.rule_state.parts.limit answer.code)))
+      | inr e ↦ elim (cases_Bool (is_script frame.kind && (quits || is_reached common.rule_state.parts.limit answer.code))) [
         | inl f ↦ rw (e, f) (omega arith, refl)
         | inr f ↦ rw (e, f)
-            (ih n answers (says word answer common) (answered_frame frame frames answer common.said.parts.limit) frames None lt e)
+            (ih n answers (says word answer common) (answered_frame frame frames answer common.rule_state.parts.limit) frames None lt e)
       ]
     ]
   where
@@ -69,16 +69,16 @@ answer-agrees k gas ih n answers common frame frames word answer quits lt =
 finished-agrees : (k gas : ℕ) → AgreesAt k gas →
     (n : ℕ) (answers : List Reply) (common : Common) (frame : FrameState) (frames : List FrameState)
     (word : Text) (answer : Codes) (quits : Bool) → n < gas →
-    AgreesHere k frame frames n (go_by k (exec k n answers) common (finish_with_fault word answer quits (frame ∷ frames) common.said))
+    AgreesHere k frame frames n (go_by k (exec k n answers) common (finish_with_fault word answer quits (frame ∷ frames) common.rule_state))
     (after_own_answer (lines gas) (remainder n answers) (configuration common (at_of k frame frames)) word answer quits)
 finished-agrees k gas ih n answers common frame frames word answer quits lt =
-    answer-agrees k gas ih n answers (record common { said = with_fault_line word answer.result2 common.said }) frame frames word answer quits lt
+    answer-agrees k gas ih n answers (record common { rule_state = with_fault_line word answer.result2 common.rule_state }) frame frames word answer quits lt
 
 -- it continues at another line
 jumped-agrees : (k gas : ℕ) → AgreesAt k gas →
     (n : ℕ) (answers : List Reply) (common : Common) (frame : FrameState) (frames : List FrameState)
     (word : Text) (answer : Codes) (line : ℕ) → n < gas →
-    AgreesHere k frame frames n (go_by k (exec k n answers) common (finish_with_fault word answer false (frames_at_line line (frame ∷ frames)) common.said))
+    AgreesHere k frame frames n (go_by k (exec k n answers) common (finish_with_fault word answer false (frames_at_line line (frame ∷ frames)) common.rule_state))
     (after_own_answer (lines gas) (remainder n answers) (configuration common (at_of k (frame_at_line line frame) frames)) word answer false)
 jumped-agrees k gas ih n answers common frame frames word answer line lt =
     finished-agrees k gas ih n answers common (frame_at_line line frame) frames word answer false lt
@@ -105,10 +105,10 @@ turn-agrees k n answers common frame frames work meaning h =
 -- after a script that ended at a break
 break-agrees : (k gas : ℕ) → AgreesAt k gas → (m n : ℕ) (answers : List Reply) (common : Common) (frame : FrameState) (frames : List FrameState)
     (name word : Text) (limit : Code) → n < gas → script_count (frame ∷ frames) ≡ m →
-    AgreesHere k frame frames n (go_by k (exec k n answers) common (after_break m (Script name word) limit (end_at_break (frame ∷ frames) common.said) (frame ∷ frames) common.said))
+    AgreesHere k frame frames n (go_by k (exec k n answers) common (after_break m (Script name word) limit (end_at_break (frame ∷ frames) common.rule_state) (frame ∷ frames) common.rule_state))
     (after_broken (lines gas) (remainder n answers) (configuration common (at_of k frame frames)) limit word m)
 break-agrees k gas ih zero n answers common frame frames name word limit lt e =
-    let limited : Common = record common { said = with_limit (limit_above_frames (frame ∷ frames) limit) common.said } in
+    let limited : Common = record common { rule_state = with_limit (limit_above_frames (frame ∷ frames) limit) common.rule_state } in
     answer-agrees k gas ih n answers limited frame frames word broken_codes false lt
 break-agrees k gas ih (suc m) n answers common frame frames name word limit lt e = (omega arith, (m, e), refl)
 
@@ -123,14 +123,14 @@ call-agrees k gas ih n exec (Broken left answers last common) frame frames name 
     rw h.2 (weaker left n _ (after_broken (lines gas) (remainder left answers) (configuration (with_report (report_broken k name last) common) (at_of k frame frames)) limit word (script_count (frame ∷ frames))) (ended k frame frames) (breaking k frame frames) (script_count (frame ∷ frames))
     h.0 (break-agrees k gas ih (script_count (frame ∷ frames)) left answers (with_report (report_broken k name last) common) frame frames name word limit (omega (arith, h.0)) refl))
 call-agrees k gas ih n exec (Done left answers last common) frame frames name word commands limit output lt h =
-    let limited : Common = record (with_report (report_of k name last) common) { said = with_limit (limit_above_frames (frame ∷ frames) limit) common.said } in
+    let limited : Common = record (with_report (report_of k name last) common) { rule_state = with_limit (limit_above_frames (frame ∷ frames) limit) common.rule_state } in
     rw h.1 (weaker left n _ (after_answer (lines gas) (remainder left answers) (configuration limited (at_of k frame frames)) word (last_codes last) false)
     (ended k frame frames) (breaking k frame frames) (script_count (frame ∷ frames)) h.0
     (answer-agrees k gas ih left answers limited frame frames word (last_codes last) false (omega (arith, h.0))))
 
-after-some : (n m : ℕ) (kind : FrameKind) (limit : Code) (further : RuleResult) (frames : List FrameState) (said : RuleState) → n ≡ suc m →
-    after_break n kind limit further frames said ≡ further
-after-some n m kind limit further frames said e = rw e refl
+after-some : (n m : ℕ) (kind : FrameKind) (limit : Code) (further : RuleResult) (frames : List FrameState) (rule_state : RuleState) → n ≡ suc m →
+    after_break n kind limit further frames rule_state ≡ further
+after-some n m kind limit further frames rule_state e = rw e refl
 
 -- after a command substitution the line that waits for it continues
 tick-agrees : (k gas : ℕ) → AgreesAt k gas → (n : ℕ) (exec : Lone) (meaning : Whole) (frame : FrameState) (frames : List FrameState)
@@ -143,10 +143,10 @@ tick-agrees k gas ih n exec (Broken left answers last common) frame frames befor
   h.0,
   h.1,
   h.2 ∙ ap (go_by k (exec_of k left answers) common)
-      (after-some (script_count (frame ∷ frames)) h.1.0 (Tick before after) limit (end_at_break (frame ∷ frames) (common_without_tick common).said) (frame ∷ frames) common.said h.1.1),
+      (after-some (script_count (frame ∷ frames)) h.1.0 (Tick before after) limit (end_at_break (frame ∷ frames) (common_without_tick common).rule_state) (frame ∷ frames) common.rule_state h.1.1),
 )
 tick-agrees k gas ih n exec (Done left answers last common) frame frames before after commands limit lt h =
-    let parted : Parted = record { before = before; output = newest_kept common.said.kept; after = after } in
+    let parted : Parted = record { before = before; output = newest_kept common.rule_state.kept; after = after } in
     rw h.1 (weaker left n _ (lines gas (remainder left answers) (configuration (common_without_tick common) (at_of k frame frames)) (Some parted)) (ended k frame frames) (breaking k frame frames) (script_count (frame ∷ frames)) h.0
     (ih left answers (common_without_tick common) frame frames (Some parted) (omega (arith, h.0)) tt))
 
@@ -159,7 +159,7 @@ WaitsAgree k n answers frame frames further = (common : Common) (wait : Wait) �
 completion-agrees : (k gas : ℕ) → AgreesAt k gas →
     (n : ℕ) (answers : List Reply) (common : Common) (frame : FrameState) (frames : List FrameState)
     (further : Configuration → Wait → Whole) (completion : Completion) → n < gas → WaitsAgree k n answers frame frames further →
-    AgreesHere k frame frames n (go_by k (exec k n answers) common (code_rule_of completion (frame ∷ frames) common.said))
+    AgreesHere k frame frames n (go_by k (exec k n answers) common (code_rule_of completion (frame ∷ frames) common.rule_state))
     (after_completion further (lines gas) (remainder n answers) (configuration common (at_of k frame frames)) completion)
 completion-agrees k gas ih n answers common frame frames further (Passes course) lt waits =
     passed-agrees k gas ih n answers common frame frames lt
@@ -172,15 +172,15 @@ completion-agrees k gas ih n answers common frame frames further (Calls word out
       | inl e ↦ rw e (finished-agrees k gas ih n answers common frame frames word (fail_codes TOO_MANY_LEVELS) false lt)
       | inr e ↦ rw e (call-agrees k gas ih n _
           (lines gas (remainder n answers) (configuration common (script_at (at_of k frame frames) output script)) None) frame frames
-          script.name word script.script common.said.parts.limit output lt
-          (passed-agrees k gas ih n answers common (new_frame (Script script.name word) script.script common.said.parts.limit output)
+          script.name word script.script common.rule_state.parts.limit output lt
+          (passed-agrees k gas ih n answers common (new_frame (Script script.name word) script.script common.rule_state.parts.limit output)
           (frame ∷ frames) lt))
     ]
 completion-agrees k gas ih n answers common frame frames further (Ticks before command after course) lt waits =
     tick-agrees k gas ih n _
     (lines gas (remainder n answers) (configuration (common_with_tick common) (tick_at (at_of k frame frames) command)) None) frame frames
-    before after (command ∷ []) common.said.parts.limit lt
-    (ih n answers (common_with_tick common) (new_frame (Tick before after) (command ∷ []) common.said.parts.limit None)
+    before after (command ∷ []) common.rule_state.parts.limit lt
+    (ih n answers (common_with_tick common) (new_frame (Tick before after) (command ∷ []) common.rule_state.parts.limit None)
     (frame ∷ frames) None lt refl)
 completion-agrees k gas ih n answers common frame frames further (Waits wait course) lt waits = waits common wait
 

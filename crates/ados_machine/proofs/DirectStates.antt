@@ -12,8 +12,8 @@ use Rattle.ados_machine.specs.declared.phases.Parted.{Parted}
 use Rattle.ados_machine.specs.Phases.{Phase, Ready, GoingOn}
 use Rattle.ados_machine.specs.Sinks.{newest_sink, frame_outputs}
 use Rattle.ados_machine.specs.Names.{innermost_name}
-use Rattle.ados_machine.specs.Settled.{end_at_break, with_limit, after_end, finish}
-use Rattle.ados_machine.specs.Settle.{here_of}
+use Rattle.ados_machine.specs.CodeRule.{end_at_break, with_limit, after_end, finish}
+use Rattle.ados_machine.specs.Apply.{here_of}
 use Rattle.ados_flow.specs.declared.records.Record.{Record}
 use Rattle.ados_machine.specs.Whole.{Broken, Common, At, Whole, Done, Late, Short, remainder, configuration, here_at}
 use Rattle.ados_machine.specs.LoneShell.{lines}
@@ -27,7 +27,7 @@ abbrev pub ended : ℕ → FrameState → List FrameState → Next
 ended k frame frames n answers last common =
     go_by k (exec k n answers) (record common { reports = with_end k frame.kind (last_line last) (last_codes last) (is_early frame.kind last) common.reports })
     (after_end frame.kind
-    (finish (caller_word frame.kind) (last_codes last) false frames (with_limit (limit_above_frames frames frame.limit) common.said)) frames common.said)
+    (finish (caller_word frame.kind) (last_codes last) false frames (with_limit (limit_above_frames frames frame.limit) common.rule_state)) frames common.rule_state)
 
 abbrev pub IsRunning : List Reply → Lone → Type 0
 IsRunning answers (Going answers' frames phase common) = answers' ≡ answers
@@ -39,7 +39,7 @@ IsSome n = (m : ℕ) × (n ≡ suc m)
 
 -- what a shell does at a break that came to this frame
 abbrev pub breaking : ℕ → FrameState → List FrameState → Next
-breaking k frame frames n answers last common = go_by k (exec k n answers) common (end_at_break (record frame { last = last } ∷ frames) common.said)
+breaking k frame frames n answers last common = go_by k (exec k n answers) common (end_at_break (record frame { last = last } ∷ frames) common.rule_state)
 
 -- a shell does what lines mean, in or below which this many scripts run, and then the one or, at a break, the other
 abbrev pub AgreesBy : ℕ → Lone → Whole → Next → Next → ℕ → Type 0

@@ -9,7 +9,7 @@ use Rattle.ados_machine.specs.declared.refusals.Refusal.{Refusal}
 use Rattle.ados_machine.specs.Shells.{ShellState}
 use Rattle.ados_machine.specs.World.{WorldState, numbered_shell}
 use Rattle.ados_machine.specs.Step.{Response, Refused, Accepted, step_of}
-use Rattle.ados_machine.specs.Runs.{IsAnswer, resulting_world, Runs}
+use Rattle.ados_machine.specs.Runs.{IsResponse, resulting_world, Runs}
 use Rattle.ados_machine.specs.Starts.{IsFailure, StartLeavesNothing, LeavesNothing, NextLeavesNothing, AfterTurn, FailedStartsLeaveNothing}
 use Rattle.ados_machine.proofs.RunLemmas.{Runs-more}
 use Rattle.ados_machine.proofs.InVain.{AllRefused, leaves-nothing}
@@ -34,7 +34,7 @@ leaves-if w k (Some shell) is between reply first final middle last run refused 
     leaves-nothing w k shell between reply first final middle last run refused failure is
 
 event-leaves : (w now : WorldState) (k : ℕ) (first : Out) (between : List Event) (middle : List (Result Out Refusal)) (event : Event) (out : Out) →
-    Runs w (Turn k ∷ between) (Ok first ∷ middle) now → AllRefused middle → IsAnswer event (Ok out) (step_of now event) →
+    Runs w (Turn k ∷ between) (Ok first ∷ middle) now → AllRefused middle → IsResponse event (Ok out) (step_of now event) →
     LeavesNothing k w event (resulting_world now (Ok out) (step_of now event))
 event-leaves w now k first between middle (Typed line) out run refused answer = tt
 event-leaves w now k first between middle EndOfInput out run refused answer = tt
@@ -60,7 +60,7 @@ next-leaves w now k first between middle (event ∷ events) (Err why ∷ outs) l
     (rw stays at longer) (refused-more middle why refused) (rw stays at run.1)
 
 after-turn : (w : WorldState) (event : Event) (out : Result Out Refusal) (events : List Event) (outs : List (Result Out Refusal)) (last : WorldState) →
-    IsAnswer event out (step_of w event) → Runs (resulting_world w out (step_of w event)) events outs last →
+    IsResponse event out (step_of w event) → Runs (resulting_world w out (step_of w event)) events outs last →
     AfterTurn w event out (resulting_world w out (step_of w event)) events outs
 after-turn w (Typed line) out events outs last answer run = tt
 after-turn w EndOfInput out events outs last answer run = tt

@@ -2,7 +2,7 @@
 use Rattle.std.proofs.Common.{◌≡◌, ◌∙◌, sym, ℕ, List, false, Option, Some, None, refl, ap, inl, inr}
 use Rattle.std.proofs.lemmas.Bool.{cases_eq}
 use Rattle.ados_machine.specs.Breaks.{kind_breaks}
-use Rattle.ados_machine.specs.declared.events.Kind.{Kind}
+use Rattle.ados_machine.specs.declared.events.BreakKind.{BreakKind}
 use Rattle.ados_machine.specs.declared.children.ChildState.TheVariants.{Closed}
 use Rattle.ados_machine.specs.declared.events.Event.{Event}
 use Rattle.ados_machine.specs.Phases.{Phase}
@@ -10,10 +10,10 @@ use Rattle.ados_machine.specs.Phases as phase
 use Rattle.ados_machine.specs.declared.phases.Wait.TheVariants.{ForAnswer, ForLines, ForStart, ForPiece, ForEnd}
 use Rattle.ados_machine.specs.Children.{child_of_shell, child_in, is_launchers}
 use Rattle.ados_machine.specs.Laws.{TurnsKeepChildren}
-use Rattle.ados_machine.specs.Settle.{TurnResult}
+use Rattle.ados_machine.specs.Apply.{TurnResult}
 use Rattle.ados_machine.specs.Shells.{ShellState}
 use Rattle.ados_machine.specs.Step.{Response, Refused, Accepted, moved_at_turn, shell_ended, turn_taken, start, course_without_flag, turning_response, turn_response, break_response, step_of}
-use Rattle.ados_machine.specs.Turning.{Turning, Refuses, Ends, Takes, flagged_turning}
+use Rattle.ados_machine.specs.Turning.{Turning, Refuses, Ends, Turned, flagged_turning}
 use Rattle.ados_machine.specs.World.{WorldState, numbered_shell, input_of}
 use Rattle.ados_machine.proofs.Shells.{broken_for, found-broken, found, found-set_same, found-set_other, found-left, runs_pos}
 use Rattle.ados_machine.proofs.AskedTurns.{TurningHands, flagged-hands, flagged-refused}
@@ -26,7 +26,7 @@ KeepsChildren w (Refused why) = Unit {0}
 KeepsChildren w (Accepted world out items) = (j : ℕ) → child_in world j ≡ child_in w j
 
 took-keeps : (w : WorldState) (k : ℕ) (shell : ShellState) (queue : List (List ℕ)) (t : TurnResult) → numbered_shell w k ≡ Some shell → child_in w k ≡ Closed →
-    TurningHands (course_without_flag (start w shell)) (Takes queue t) → KeepsChildren w (turn_taken w k queue t)
+    TurningHands (course_without_flag (start w shell)) (Turned queue t) → KeepsChildren w (turn_taken w k queue t)
 took-keeps w k shell queue t is closed hands = λ j.
     let moved = moved_at_turn w t in
     elim (cases_eq j k) [
@@ -48,7 +48,7 @@ applied-keeps : (w : WorldState) (k : ℕ) (shell : ShellState) (event : Turning
     TurningHands (course_without_flag (start w shell)) event → KeepsChildren w (turning_response w k shell.parts.codes event)
 applied-keeps w k shell (Refuses why) is closed hands = tt
 applied-keeps w k shell Ends is closed hands = ended-keeps w k shell is closed
-applied-keeps w k shell (Takes queue t) is closed hands = took-keeps w k shell queue t is closed hands
+applied-keeps w k shell (Turned queue t) is closed hands = took-keeps w k shell queue t is closed hands
 
 turn-by : (w : WorldState) (k : ℕ) (shell : ShellState) (now : Phase) → numbered_shell w k ≡ Some shell → child_in w k ≡ Closed →
     KeepsChildren w (turning_response w k shell.parts.codes (flagged_turning shell.flagged (input_of w k) shell.frames (course_without_flag (start w shell)) now))
@@ -71,7 +71,7 @@ turned-keeps : (w : WorldState) (k : ℕ) (o : Option ShellState) → numbered_s
 turned-keeps w k None is = tt
 turned-keeps w k (Some shell) is = by-phase w k shell shell.phase is refl
 
-broken-keeps : (w : WorldState) (k : ℕ) (kind : Kind) (o : Option ShellState) → KeepsChildren w (break_response w k kind o)
+broken-keeps : (w : WorldState) (k : ℕ) (kind : BreakKind) (o : Option ShellState) → KeepsChildren w (break_response w k kind o)
 broken-keeps w k kind None = tt
 broken-keeps w k kind (Some shell) = λ j.
     let breaking = Some (record { shell = k; breaks = kind_breaks kind }) in

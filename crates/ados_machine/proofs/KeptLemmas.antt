@@ -12,16 +12,16 @@ use Rattle.ados_machine.specs.declared.answers.Answer.{Answer as Reply}
 use Rattle.ados_machine.specs.declared.events.Event.{Event}
 use Rattle.ados_machine.specs.declared.outs.Out.{Out}
 use Rattle.ados_machine.specs.declared.refusals.Refusal.{Refusal}
-use Rattle.ados_machine.specs.declared.events.Kind.{Kind}
+use Rattle.ados_machine.specs.declared.events.BreakKind.{BreakKind}
 use Rattle.ados_machine.specs.Breaks.{kind_breaks, broken_at, broken_number, shells_after_break}
 use Rattle.ados_machine.specs.Carrying.{carried_place, carried_shells}
 use Rattle.ados_machine.specs.Numbers.{free_number}
 use Rattle.ados_machine.specs.Runs.{resulting_world}
-use Rattle.ados_machine.specs.Settle.{TurnResult}
+use Rattle.ados_machine.specs.Apply.{TurnResult}
 use Rattle.ados_machine.specs.Shells.{ShellStart, begun_shell, ShellState}
 use Rattle.ados_machine.specs.Step.{Response, Refused, Accepted, with_begun, is_done, shell_after_turn, codes_of_ended, moved_at_turn, start, course_without_flag, turning_response, turn_response, answer_response, break_response, step_of}
 use Rattle.ados_machine.specs.Trace.{items_after, trace, own}
-use Rattle.ados_machine.specs.Turning.{Turning, Refuses, Ends, Takes, flagged_turning, turning_of_answer}
+use Rattle.ados_machine.specs.Turning.{Turning, Refuses, Ends, Turned, flagged_turning, turning_of_answer}
 use Rattle.ados_machine.specs.World.{WorldState, input_of, codes_at}
 use Rattle.ados_machine.specs.Kept.{codes_after_trace, HasAllCodes, FreshWorldsHaveAllCodes, EventsKeepAllCodes, LastCodesStay}
 use Rattle.ados_machine.proofs.Shells.{shells_after, own-append}
@@ -80,7 +80,7 @@ KeepsAll (Accepted world given items) = HasAllCodes world
 applied-all : (w : WorldState) (k : ℕ) (codes : Codes) (now : Turning) → HasAllCodes w → KeepsAll (turning_response w k codes now)
 applied-all w k codes (Refuses why) all = tt
 applied-all w k codes Ends all = length-set w.ended (k - 1) codes ∙ (all ∙ sym (length-set w.shells (k - 1) None))
-applied-all w k codes (Takes queue t) all =
+applied-all w k codes (Turned queue t) all =
     length-ended (is_done k t.frames) k t.course.parts.codes w.ended ∙ (all ∙ sym (length-after w.shells k (moved_at_turn w t) t))
 
 turned-all : (w : WorldState) (k : ℕ) (o : Option ShellState) → HasAllCodes w → KeepsAll (turn_response w k o)
@@ -93,7 +93,7 @@ answered-all w k reply None all = tt
 answered-all w k reply (Some shell) all =
     applied-all w k shell.parts.codes (turning_of_answer (input_of w k) shell.frames (start w shell) shell.phase reply) all
 
-break-all : (w : WorldState) (k : ℕ) (kind : Kind) (o : Option ShellState) → HasAllCodes w → KeepsAll (break_response w k kind o)
+break-all : (w : WorldState) (k : ℕ) (kind : BreakKind) (o : Option ShellState) → HasAllCodes w → KeepsAll (break_response w k kind o)
 break-all w k kind None all = tt
 break-all w k kind (Some shell) all = all ∙ sym (length-broken_number (kind_breaks kind) k w.shells)
 

@@ -7,7 +7,7 @@ use Rattle.ados_find.specs.declared.outcomes.Renamed.{Renamed}
 use Rattle.ados_flow.specs.Frames.{FrameState}
 use Rattle.ados_machine.specs.declared.answers.Answer.{Answer as Reply}
 use Rattle.ados_machine.specs.declared.events.Event.{Event}
-use Rattle.ados_machine.specs.declared.events.Kind.{Kind}
+use Rattle.ados_machine.specs.declared.events.BreakKind.{BreakKind}
 use Rattle.ados_machine.specs.declared.phases.Asking.{Asking}
 use Rattle.ados_machine.specs.declared.phases.Gathering.{Gathering}
 use Rattle.ados_machine.specs.Phases.{Phase}
@@ -20,11 +20,11 @@ use Rattle.ados_machine.specs.Carrying.{carried_shells, carried_or_same}
 use Rattle.ados_machine.specs.Course.{Course}
 use Rattle.ados_machine.specs.Completions.{Completion, Passes, Answers, Jumps, Calls, Ticks, Waits}
 use Rattle.ados_machine.specs.Numbers.{free_number}
-use Rattle.ados_machine.specs.Settle.{TurnResult, frames_at_line, said_of, turn_of_completion}
+use Rattle.ados_machine.specs.Apply.{TurnResult, frames_at_line, rule_state_of, turn_of_completion}
 use Rattle.ados_machine.specs.Shells.{ShellStart, begun_shell, ShellState}
 use Rattle.ados_machine.specs.Sinks.{Sink, newest_sink}
 use Rattle.ados_machine.specs.Step.{Response, Refused, Accepted, shell_of_turn, with_begun, is_done, shell_after_turn, moved_at_turn, turn_taken, shell_ended, start, course_without_flag, turning_response, turn_response, answer_response, break_response, step_of}
-use Rattle.ados_machine.specs.Turning.{Turning, Refuses, Ends, Takes, flagged_turning, turning_of_completion}
+use Rattle.ados_machine.specs.Turning.{Turning, Refuses, Ends, Turned, flagged_turning, turning_of_completion}
 use Rattle.ados_machine.specs.World.{WorldState, numbered_shell, input_of}
 use Rattle.ados_machine.proofs.AskedTurns.{flagged-refused}
 use Rattle.ados_machine.proofs.Moves.{placed-at}
@@ -142,7 +142,7 @@ applied-keeps : {X : Type 0} (s : Watch X) (w : WorldState) (k : ℕ) (shell : S
     Keeps s w (turning_response w k shell.parts.codes now)
 applied-keeps s w k shell (Refuses why) is free = tt
 applied-keeps s w k shell Ends is free = ended-keeps s w k shell shell.parts.codes is
-applied-keeps s w k shell (Takes queue t) is free = took-keeps s w k shell queue t is (λ before later. absurd (never (sym free ∙ before)))
+applied-keeps s w k shell (Turned queue t) is free = took-keeps s w k shell queue t is (λ before later. absurd (never (sym free ∙ before)))
 
 -- its turn in a phase
 abbrev turn_by : WorldState → ℕ → ShellState → Phase → Turning
@@ -191,15 +191,15 @@ waits-keeps s k moved value wait course frames same =
 
 settle-keeps : {X : Type 0} (s : Watch X) (k : ℕ) (moved : Option Renamed) (value : X) (completion : Completion) (frames : List FrameState) →
     SeenAfter s.look frames value (Some completion) → LeftKeeps s k moved value (turn_of_completion completion frames)
-settle-keeps s k moved value (Passes course) frames keeps = idle-keeps s k moved value (turn_of_completion (Passes course) frames) (passed-rests frames (said_of course)).idle
+settle-keeps s k moved value (Passes course) frames keeps = idle-keeps s k moved value (turn_of_completion (Passes course) frames) (passed-rests frames (rule_state_of course)).idle
 settle-keeps s k moved value (Answers word answer quits course) frames keeps =
-    idle-keeps s k moved value (turn_of_completion (Answers word answer quits course) frames) (finished-rests word answer quits frames (said_of course)).idle
+    idle-keeps s k moved value (turn_of_completion (Answers word answer quits course) frames) (finished-rests word answer quits frames (rule_state_of course)).idle
 settle-keeps s k moved value (Jumps word answer line course) frames keeps =
-    idle-keeps s k moved value (turn_of_completion (Jumps word answer line course) frames) (finished-rests word answer false (frames_at_line line frames) (said_of course)).idle
+    idle-keeps s k moved value (turn_of_completion (Jumps word answer line course) frames) (finished-rests word answer false (frames_at_line line frames) (rule_state_of course)).idle
 settle-keeps s k moved value (Calls word output script course) frames keeps =
-    idle-keeps s k moved value (turn_of_completion (Calls word output script course) frames) (called-rests word output script frames (said_of course)).idle
+    idle-keeps s k moved value (turn_of_completion (Calls word output script course) frames) (called-rests word output script frames (rule_state_of course)).idle
 settle-keeps s k moved value (Ticks before command after course) frames keeps =
-    idle-keeps s k moved value (turn_of_completion (Ticks before command after course) frames) (ticked-rests before command after frames (said_of course)).idle
+    idle-keeps s k moved value (turn_of_completion (Ticks before command after course) frames) (ticked-rests before command after frames (rule_state_of course)).idle
 settle-keeps s k moved value (Waits wait course) frames keeps = waits-keeps s k moved value wait course frames keeps
 
 replied-keeps : {X : Type 0} (s : Watch X) (w : WorldState) (k : ℕ) (shell : ShellState) (completion : Option Completion) → numbered_shell w k ≡ Some shell →
@@ -217,7 +217,7 @@ answered-keeps s w k reply (Some shell) is =
     replied-keeps s w k shell (answered_in (newest_sink shell.frames) (start w shell) shell.phase reply) is
     (s.answers shell.frames (newest_sink shell.frames) (start w shell) shell.phase reply)
 
-break-keeps : {X : Type 0} (s : Watch X) (w : WorldState) (k : ℕ) (kind : Kind) (o : Option ShellState) → Keeps s w (break_response w k kind o)
+break-keeps : {X : Type 0} (s : Watch X) (w : WorldState) (k : ℕ) (kind : BreakKind) (o : Option ShellState) → Keeps s w (break_response w k kind o)
 break-keeps s w k kind None = tt
 break-keeps s w k kind (Some shell) = λ j before later.
     let breaking = Some (record { shell = k; breaks = kind_breaks kind }) in

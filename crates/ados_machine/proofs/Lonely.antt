@@ -12,7 +12,7 @@ use Rattle.ados_machine.specs.declared.events.Event.TheVariants.{Turn, Answer}
 use Rattle.ados_machine.specs.declared.refusals.Refusal.{Refusal}
 use Rattle.ados_machine.specs.Phases.{Phase, Ready, GoingOn, Waiting}
 use Rattle.ados_machine.specs.declared.phases.Wait.TheVariants.{ForAnswer, ForEnd, ForLines, ForPiece, ForStart}
-use Rattle.ados_machine.specs.Items.{Item}
+use Rattle.ados_machine.specs.Items.{TraceItem}
 use Rattle.ados_machine.specs.Numbers.{free_number}
 use Rattle.ados_machine.specs.Shells.{ShellStart, ShellState, seen_of}
 use Rattle.ados_machine.specs.Sinks.{newest_sink}
@@ -21,9 +21,9 @@ use Rattle.ados_machine.specs.Completions.{Completion, Passes, course_of}
 use Rattle.ados_machine.specs.Lines.{line_completion, parted_completion, answer_completion}
 use Rattle.ados_machine.specs.NewShells.{gathered_completion}
 use Rattle.ados_machine.specs.Answers.{answered_in}
-use Rattle.ados_machine.specs.Settled.{RuleState, RuleResult, end_at_break}
-use Rattle.ados_machine.specs.Settle.{TurnResult, here_of, said_of, turn_by_rule, code_rule_of, turn_of_completion}
-use Rattle.ados_machine.specs.Turning.{Input, Takes, turn_of_frame, flagged_turning, turning_in_phase, turning_of_completion}
+use Rattle.ados_machine.specs.CodeRule.{RuleState, RuleResult, end_at_break}
+use Rattle.ados_machine.specs.Apply.{TurnResult, here_of, rule_state_of, turn_by_rule, code_rule_of, turn_of_completion}
+use Rattle.ados_machine.specs.Turning.{Input, Turned, turn_of_frame, flagged_turning, turning_in_phase, turning_of_completion}
 use Rattle.ados_machine.specs.World.{WorldState, numbered_shell, input_of, is_over}
 use Rattle.ados_machine.specs.Carrying.{carried_shells, carried_or_same, moved_object}
 use Rattle.ados_machine.specs.Step.{Response, Refused, with_begun, codes_of_ended, queue_after_event, is_done, moved_at_turn, turn_taken, start, course_without_flag, turning_response, step_of}
@@ -91,9 +91,9 @@ stands-after k common course stands = record {
   is = carried-stands k (moved_object common.shared (shared_after_event course) course.renamed) course.begun course.breaking common.shells stands.shell stands.is;
 }
 
-pub stands-again : (k : ℕ) (common : Common) (course : Course) (said : RuleState) (log : List Item) → Stands k common →
-    Stands k (record (common_after_event common course) { said = said; reports = with_ends k log common.reports })
-stands-again k common course said log stands =
+pub stands-again : (k : ℕ) (common : Common) (course : Course) (rule_state : RuleState) (log : List TraceItem) → Stands k common →
+    Stands k (record (common_after_event common course) { rule_state = rule_state; reports = with_ends k log common.reports })
+stands-again k common course rule_state log stands =
     let after = stands-after k common course stands in
     record { above = after.above; shell = after.shell; is = after.is }
 
@@ -114,34 +114,34 @@ took_world w k course settled = (let t = turn_by_rule course settled in record {
 })
 
 -- what is passed on after an event
-abbrev pub common_by : ℕ → Common → Course → RuleState → List Item → Common
-common_by k common course said log =
+abbrev pub common_by : ℕ → Common → Course → RuleState → List TraceItem → Common
+common_by k common course rule_state log =
     record (common_after_event common course) {
-      said = front common.said.printed (moved_object common.shared (shared_after_event course) course.renamed) said;
+      rule_state = front common.rule_state.printed (moved_object common.shared (shared_after_event course) course.renamed) rule_state;
       reports = with_ends k log common.reports;
     }
 
 pub world-same : (k : ℕ) (w : WorldState) (old : List FrameState) (phase : Phase) (common : Common) (course : Course)
-    (frames : List FrameState) (next : Phase) (said : RuleState) (log : List Item) →
+    (frames : List FrameState) (next : Phase) (rule_state : RuleState) (log : List TraceItem) →
     Stands k common →
-    took_world (standing k w old phase common) k course (record { frames = frames; phase = next; said = said; log = log })
-    ≡ world_of k w frames next (common_by k common course said log)
-world-same k w old phase common course [] next said log stands =
+    took_world (standing k w old phase common) k course (record { frames = frames; phase = next; rule_state = rule_state; log = log })
+    ≡ world_of k w frames next (common_by k common course rule_state log)
+world-same k w old phase common course [] next rule_state log stands =
     let advanced_frame = moved_object common.shared (shared_after_event course) course.renamed in
     rw (
       not-first k common stands,
       broken-same_set course.breaking _ _ (k - 1) None
           (shells-same advanced_frame course.begun common.shells k stands.shell (shell_of old phase common) None stands.is),
     ) refl
-world-same k w old phase common course (frame ∷ frames) next said log stands =
+world-same k w old phase common course (frame ∷ frames) next rule_state log stands =
     let advanced_frame = moved_object common.shared (shared_after_event course) course.renamed in
-    let now : ShellState = record { frames = frame ∷ frames; phase = next; parts = said.parts; kept = said.kept; flagged = course.flagged } in
+    let now : ShellState = record { frames = frame ∷ frames; phase = next; parts = rule_state.parts; kept = rule_state.kept; flagged = course.flagged } in
     rw (
       not-first k common stands,
       left-same advanced_frame now,
-      broken-same_set course.breaking _ _ (k - 1) (Some (record now { parts = carried_parts advanced_frame said.parts }))
+      broken-same_set course.breaking _ _ (k - 1) (Some (record now { parts = carried_parts advanced_frame rule_state.parts }))
           (shells-same advanced_frame course.begun common.shells k stands.shell (shell_of old phase common)
-          (Some (record now { parts = carried_parts advanced_frame said.parts })) stands.is),
+          (Some (record now { parts = carried_parts advanced_frame rule_state.parts })) stands.is),
     ) refl
 
 -- how the world continues with what is kept
@@ -157,7 +157,7 @@ pub record Fold (A X : Type 0) (k : ℕ) (w : WorldState) : Type 0 where
   pub reply : (List Reply → Goes A X) → WorldState → A → List Reply → X
   pub taken : (go : Goes A X) (old : List FrameState) (phase : Phase) (common : Common) (course : Course) (settled : RuleResult) →
       after go (kept common) (turn_taken (standing k w old phase common) k [] (turn_by_rule course settled))
-      ≡ go (took_world (standing k w old phase common) k course settled) (kept (common_by k common course settled.said settled.log))
+      ≡ go (took_world (standing k w old phase common) k course settled) (kept (common_by k common course settled.rule_state settled.log))
   pub refused : (go : Goes A X) (common : Common) (why : Refusal) → after go (kept common) (Refused why) ≡ seen Unfed
   pub unfed : (go : List Reply → Goes A X) (world : WorldState) (common : Common) → reply go world (kept common) [] ≡ seen Unfed
   pub fed : (go : List Reply → Goes A X) (world : WorldState) (common : Common) (first : Reply) (answers : List Reply) →
@@ -171,20 +171,20 @@ Same k w fold go on = (frames : List FrameState) (phase : Phase) (common : Commo
 -- an event after which the code rule makes this of what was passed on
 took-rules : {A X : Type 0} (k : ℕ) (w : WorldState) (fold : Fold A X k w) (go : Goes A X) (on : Go) (old : List FrameState) (phase : Phase) (common : Common) (course : Course)
     (rule : RuleState → RuleResult) → Stands k common →
-    ((bytes : Bytes) (advanced_frame : Option Renamed) (said : RuleState) → rule (front bytes advanced_frame said) ≡ fronted bytes advanced_frame (rule said)) →
+    ((bytes : Bytes) (advanced_frame : Option Renamed) (rule_state : RuleState) → rule (front bytes advanced_frame rule_state) ≡ fronted bytes advanced_frame (rule rule_state)) →
     Same k w fold go on →
-    fold.after go (fold.kept common) (turn_taken (standing k w old phase common) k [] (turn_by_rule course (rule (said_of course))))
-    ≡ fold.seen (go_by k on (common_after_event common course) (rule (common_after_event common course).said))
+    fold.after go (fold.kept common) (turn_taken (standing k w old phase common) k [] (turn_by_rule course (rule (rule_state_of course))))
+    ≡ fold.seen (go_by k on (common_after_event common course) (rule (common_after_event common course).rule_state))
 took-rules k w fold go on old phase common course rule stands fronts same =
     let advanced_frame = moved_object common.shared (shared_after_event course) course.renamed in
-    let settled = rule (said_of course) in
+    let settled = rule (rule_state_of course) in
     rw (
       fold.taken go old phase common course settled,
-      fronts common.said.printed advanced_frame (said_of course),
-      world-same k w old phase common course settled.frames settled.phase settled.said settled.log stands,
+      fronts common.rule_state.printed advanced_frame (rule_state_of course),
+      world-same k w old phase common course settled.frames settled.phase settled.rule_state settled.log stands,
     )
-    (same settled.frames settled.phase (common_by k common course settled.said settled.log)
-    (stands-again k common course (front common.said.printed advanced_frame settled.said) settled.log stands))
+    (same settled.frames settled.phase (common_by k common course settled.rule_state settled.log)
+    (stands-again k common course (front common.rule_state.printed advanced_frame settled.rule_state) settled.log stands))
 
 -- an event that results in a completion
 took-does : {A X : Type 0} (k : ℕ) (w : WorldState) (fold : Fold A X k w) (go : Goes A X) (on : Go) (old : List FrameState) (phase : Phase) (common : Common) (completion : Completion)
@@ -192,12 +192,12 @@ took-does : {A X : Type 0} (k : ℕ) (w : WorldState) (fold : Fold A X k w) (go 
     fold.after go (fold.kept common) (turn_taken (standing k w old phase common) k [] (turn_of_completion completion frames)) ≡ fold.seen (does k on frames common completion)
 took-does k w fold go on old phase common completion frames stands same =
     took-rules k w fold go on old phase common (course_of completion) (code_rule_of completion frames) stands
-    (λ bytes advanced_frame said. ruled-front bytes advanced_frame completion frames said) same
+    (λ bytes advanced_frame rule_state. ruled-front bytes advanced_frame completion frames rule_state) same
 
 -- the world's turn of the shell
 pub turn-is : (k : ℕ) (w : WorldState) (frames : List FrameState) (phase : Phase) (common : Common) → Stands k common →
     step_of (standing k w frames phase common) (Turn k)
-    ≡ turning_response (standing k w frames phase common) k common.said.parts.codes
+    ≡ turning_response (standing k w frames phase common) k common.rule_state.parts.codes
     (flagged_turning common.flagged no_input frames (start_in k frames phase (common_without_flag common)) phase)
 turn-is k w frames phase common stands =
     rw (
@@ -210,7 +210,7 @@ turn-is k w frames phase common stands =
 -- an answer for it
 pub answer-is : (k : ℕ) (w : WorldState) (frames : List FrameState) (phase : Phase) (common : Common) (reply : Reply) → Stands k common →
     step_of (standing k w frames phase common) (Answer k reply)
-    ≡ turning_response (standing k w frames phase common) k common.said.parts.codes
+    ≡ turning_response (standing k w frames phase common) k common.rule_state.parts.codes
     (turning_of_completion no_input frames (answered_in (newest_sink frames) (start_in k frames phase common) phase reply))
 answer-is k w frames phase common reply stands =
     rw (
@@ -234,9 +234,9 @@ line-same k w fold go on frame frames common (Some line) stands same =
 -- a turn, which may find the flag
 turn-same : {A X : Type 0} (k : ℕ) (w : WorldState) (fold : Fold A X k w) (go : Goes A X) (on : Go) (frames : List FrameState) (common : Common) (phase : Phase) (queue : List (List ℕ))
     (turned : TurnResult) (work : Common → Lone) → Stands k common → Same k w fold go on →
-    turning_in_phase no_input frames (start_in k frames phase (common_without_flag common)) phase ≡ Takes queue turned →
+    turning_in_phase no_input frames (start_in k frames phase (common_without_flag common)) phase ≡ Turned queue turned →
     fold.after go (fold.kept common)
-    (turning_response (standing k w frames phase common) k common.said.parts.codes (turning_in_phase no_input frames (start_in k frames phase (common_without_flag common)) phase))
+    (turning_response (standing k w frames phase common) k common.rule_state.parts.codes (turning_in_phase no_input frames (start_in k frames phase (common_without_flag common)) phase))
     ≡ fold.seen (work (common_without_flag common)) →
     fold.after go (fold.kept common) (step_of (standing k w frames phase common) (Turn k)) ≡ fold.seen (turn_event k on frames common work)
 turn-same k w fold go on frames common phase queue turned work stands same takes plain =
@@ -244,14 +244,14 @@ turn-same k w fold go on frames common phase queue turned work stands same takes
     (elim (cases_Bool (common.flagged && has_script frames)) [
       | inl e ↦ rw (e, takes)
           (took-rules k w fold go on frames phase common (with_bytes_printed break_text (start_in k frames phase (common_without_flag common))) (end_at_break frames) stands
-          (λ bytes advanced_frame said. broken-front bytes advanced_frame frames said) same)
+          (λ bytes advanced_frame rule_state. broken-front bytes advanced_frame frames rule_state) same)
       | inr e ↦ rw e plain
     ])
 
 completion-same : {A X : Type 0} (k : ℕ) (w : WorldState) (fold : Fold A X k w) (go : Goes A X) (on : Go) (frames : List FrameState) (phase : Phase) (common : Common)
     (completion : Option Completion) → Stands k common → Same k w fold go on →
     fold.after go (fold.kept common)
-    (turning_response (standing k w frames phase common) k common.said.parts.codes (turning_of_completion no_input frames completion))
+    (turning_response (standing k w frames phase common) k common.rule_state.parts.codes (turning_of_completion no_input frames completion))
     ≡ fold.seen (completion_event k on frames common completion)
 completion-same k w fold go on frames phase common None stands same = fold.refused go common _
 completion-same k w fold go on frames phase common (Some completion) stands same = took-does k w fold go on frames phase common completion frames stands same
@@ -301,7 +301,7 @@ event-same k w fold go on answers frame frames common (Waiting (ForEnd child)) s
 -- the world and what was printed, after each event
 abbrev execs : (k : ℕ) (w : WorldState) → Fold Bytes Exec k w
 execs k w = record {
-  kept = λ common. common.said.printed;
+  kept = λ common. common.rule_state.printed;
   seen = lift k w;
   after = exec_step;
   reply = λ go world printed answers. reply_next go k world printed answers;

@@ -2,7 +2,7 @@
 use Rattle.std.proofs.Common.{◌≡◌, ◌∙◌, ap, ℕ, ◌&&◌, not, Option, Some, None, refl, inl, inr}
 use Rattle.std.proofs.lemmas.Bool.{cases_Bool}
 use Rattle.ados_machine.specs.declared.events.Event.TheVariants.{Break}
-use Rattle.ados_machine.specs.declared.events.Kind as by
+use Rattle.ados_machine.specs.declared.events.BreakKind as by
 use Rattle.ados_machine.specs.Breaks.{kind_breaks}
 use Rattle.ados_find.specs.declared.outcomes.Breaks.{Breaks}
 use Rattle.ados_machine.specs.Laws.{KeepsWhatComes, BreaksKeepWhatComes}
@@ -24,7 +24,7 @@ abbrev KeepsBy : WorldState → Response → Type 0
 KeepsBy w (Refused why) = Unit {0}
 KeepsBy w (Accepted world out items) = KeepsWhatComes w world
 
-broken-keeps : (w : WorldState) (k : ℕ) (kind : by.Kind) (o : Option ShellState) → KeepsBy w (break_response w k kind o)
+broken-keeps : (w : WorldState) (k : ℕ) (kind : by.BreakKind) (o : Option ShellState) → KeepsBy w (break_response w k kind o)
 broken-keeps w k kind None = tt
 broken-keeps w k kind (Some shell) =
     let breaking = Some (record { shell = k; breaks = kind_breaks kind }) in
@@ -35,7 +35,7 @@ broken-keeps w k kind (Some shell) =
           (ap wants_input (found-broken breaking w.shells 1) ∙ broken-wants (broken_for breaking 1) (found w.shells 1));
     }
 
-step-keeps : (w : WorldState) (k : ℕ) (kind : by.Kind) → KeepsBy w (step_of w (Break k kind))
+step-keeps : (w : WorldState) (k : ℕ) (kind : by.BreakKind) → KeepsBy w (step_of w (Break k kind))
 step-keeps w k kind =
     elim (cases_Bool (is_over w)) [
       | inl e ↦ rw e tt

@@ -28,8 +28,8 @@ use Rattle.ados_machine.specs.Laws.{AnswersMoveChildren}
 use Rattle.ados_machine.specs.Limits.{RunsFrame}
 use Rattle.ados_machine.specs.Opening.{OpenedOutput, line_output}
 use Rattle.ados_machine.specs.Requests.{request_while, request_of}
-use Rattle.ados_machine.specs.Settle.{turn_by_rule, frames_at_line, said_of, turn_of_completion}
-use Rattle.ados_machine.specs.Settled.{RuleResult}
+use Rattle.ados_machine.specs.Apply.{turn_by_rule, frames_at_line, rule_state_of, turn_of_completion}
+use Rattle.ados_machine.specs.CodeRule.{RuleResult}
 use Rattle.ados_machine.specs.Shells.{ShellState}
 use Rattle.ados_machine.specs.Sinks.{Sink, newest_sink}
 use Rattle.ados_machine.specs.Step.{Response, Refused, Accepted, shell_of_turn, is_done, shell_after_turn, moved_at_turn, start, turning_response, answer_response, step_of}
@@ -105,21 +105,21 @@ waits-child : (k : ℕ) (moved : Option Renamed) (wait : Wait) (course : Course)
 waits-child k moved wait course frames runs =
     rw (runs, carried_by-child moved (shell_of_turn (turn_of_completion (Waits wait course) frames))) refl
 
-rests-child : (k : ℕ) (moved : Option Renamed) (course : Course) (settled : RuleResult) → Rests (said_of course) settled →
+rests-child : (k : ℕ) (moved : Option Renamed) (course : Course) (settled : RuleResult) → Rests (rule_state_of course) settled →
     child_of_shell (shell_after_turn k moved (turn_by_rule course settled)) ≡ Closed
 rests-child k moved course settled rests = left-child k moved (turn_by_rule course settled) (idle-asked settled.phase rests.idle)
 
 settled-child : (k : ℕ) (moved : Option Renamed) (completion : Completion) (frames : List FrameState) → is_done k frames ≡ false →
     child_of_shell (shell_after_turn k moved (turn_of_completion completion frames)) ≡ child_after completion
-settled-child k moved (Passes course) frames runs = rests-child k moved course _ (passed-rests frames (said_of course))
+settled-child k moved (Passes course) frames runs = rests-child k moved course _ (passed-rests frames (rule_state_of course))
 settled-child k moved (Answers word answer quits course) frames runs =
-    rests-child k moved course _ (finished-rests word answer quits frames (said_of course))
+    rests-child k moved course _ (finished-rests word answer quits frames (rule_state_of course))
 settled-child k moved (Jumps word answer line course) frames runs =
-    rests-child k moved course _ (finished-rests word answer false (frames_at_line line frames) (said_of course))
+    rests-child k moved course _ (finished-rests word answer false (frames_at_line line frames) (rule_state_of course))
 settled-child k moved (Calls word output script course) frames runs =
-    rests-child k moved course _ (called-rests word output script frames (said_of course))
+    rests-child k moved course _ (called-rests word output script frames (rule_state_of course))
 settled-child k moved (Ticks before command after course) frames runs =
-    rests-child k moved course _ (ticked-rests before command after frames (said_of course))
+    rests-child k moved course _ (ticked-rests before command after frames (rule_state_of course))
 settled-child k moved (Waits wait course) frames runs = waits-child k moved wait course frames runs
 
 -- what an accepted answer moves, if each background shell that is there runs a frame

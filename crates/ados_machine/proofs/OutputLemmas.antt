@@ -25,7 +25,7 @@ use Rattle.ados_machine.specs.Course.{Course, put, with_devices_used}
 use Rattle.ados_machine.specs.Completions.{Waits}
 use Rattle.ados_machine.specs.InUse.{outputs_seen, outputs_held, is_running, runs_program, OutputsStayOpen, StartsOpenOutputs}
 use Rattle.ados_machine.specs.Opening.{OpenedOutput, line_output, output_devices}
-use Rattle.ados_machine.specs.Settle.{turn_of_completion}
+use Rattle.ados_machine.specs.Apply.{turn_of_completion}
 use Rattle.ados_machine.specs.Shells.{ShellState, seen_of}
 use Rattle.ados_machine.specs.Sinks.{Sink, newest_sink, sink_or, frame_outputs, held_while, held_in_phase}
 use Rattle.ados_machine.specs.Step.{Response, Refused, Accepted, shell_after_turn, moved_at_turn, turn_taken, start, turning_response, answer_response, step_of}

@@ -13,11 +13,11 @@ use Rattle.ados_machine.specs.Answers.{answered_in}
 use Rattle.ados_machine.specs.Breaks.{has_script}
 use Rattle.ados_machine.specs.Course.{Course}
 use Rattle.ados_machine.specs.Completions.{Completion}
-use Rattle.ados_machine.specs.Runs.{resulting_world, IsAnswer}
+use Rattle.ados_machine.specs.Runs.{resulting_world, IsResponse}
 use Rattle.ados_machine.specs.Shells.{ShellState}
 use Rattle.ados_machine.specs.Sinks.{newest_sink}
 use Rattle.ados_machine.specs.Step.{Response, Refused, Accepted, start, course_without_flag, turning_response, turn_response, answer_response, step_of, typing_response}
-use Rattle.ados_machine.specs.Turning.{Input, Turning, Refuses, Ends, Takes, console_turning, input_turning, turning_in_phase, turning_at_break, flagged_turning, turning_of_completion, ready_turning}
+use Rattle.ados_machine.specs.Turning.{Input, Turning, Refuses, Ends, Turned, console_turning, input_turning, turning_in_phase, turning_at_break, flagged_turning, turning_of_completion, ready_turning}
 use Rattle.ados_machine.specs.World.{WorldState, numbered_shell, input_of, takes_input, wants_input}
 use Rattle.ados_machine.specs.Laws.{is_breakable}
 use Rattle.ados_machine.specs.Given.{lines_taken, lines_typed, all_lines_typed, all_lines_taken, TypedLinesAreTakenInOrder}
@@ -28,7 +28,7 @@ use Rattle.ados_machine.proofs.TurnCases.{each-turning}
 abbrev Takes_of : Bool → List (List ℕ) → Turning → Type 0
 Takes_of wants queue (Refuses why) = Unit {0}
 Takes_of wants queue Ends = queue ≡ (if wants then take 1 queue else []) ++ queue
-Takes_of wants queue (Takes now t) = queue ≡ (if wants then take 1 queue else []) ++ now
+Takes_of wants queue (Turned now t) = queue ≡ (if wants then take 1 queue else []) ++ now
 
 console-takes : (queue : List (List ℕ)) (is_ended : Bool) (course : Course) → Takes_of true queue (console_turning queue is_ended course)
 console-takes [] true course = refl
@@ -56,7 +56,7 @@ in_place-takes : (now : Turning) (input : Input) (frames : List FrameState) (cou
     Takes_of false input.queue (turning_at_break now input frames course)
 in_place-takes (Refuses why) input frames course = tt
 in_place-takes Ends input frames course = refl
-in_place-takes (Takes queue t) input frames course = refl
+in_place-takes (Turned queue t) input frames course = refl
 
 flagged-takes : (flagged : Bool) (input : Input) (frames : List FrameState) (course : Course) (now : Phase) →
     Takes_of (not (flagged && has_script frames) && takes_input frames now) input.queue (flagged_turning flagged input frames course now)
@@ -75,12 +75,12 @@ first-queues : (w : WorldState) (shell : ShellState) (now : Turning) → numbere
     Takes_of (not (shell.flagged && has_script shell.frames) && takes_input shell.frames shell.phase) w.queue now → Queues w (Turn 1) (turning_response w 1 shell.parts.codes now)
 first-queues w shell (Refuses why) is takes = tt
 first-queues w shell Ends is takes = append-nil w.queue ∙ (rw (ap is_breakable is, ap wants_input is) takes)
-first-queues w shell (Takes queue t) is takes = append-nil w.queue ∙ (rw (ap is_breakable is, ap wants_input is) takes)
+first-queues w shell (Turned queue t) is takes = append-nil w.queue ∙ (rw (ap is_breakable is, ap wants_input is) takes)
 
 other-queues : (w : WorldState) (k : ℕ) (codes : Codes) (now : Turning) → k ≢ 1 → Queues w (Turn k) (turning_response w k codes now)
 other-queues w k codes (Refuses why) ne = tt
 other-queues w k codes Ends ne = rw (ne_eqb k 1 ne) (append-nil w.queue)
-other-queues w k codes (Takes queue t) ne = rw (ne_eqb k 1 ne) (append-nil w.queue)
+other-queues w k codes (Turned queue t) ne = rw (ne_eqb k 1 ne) (append-nil w.queue)
 
 first-turned : (w : WorldState) (o : Option ShellState) → numbered_shell w 1 ≡ o → Queues w (Turn 1) (turn_response w 1 o)
 first-turned w None is = tt
@@ -123,7 +123,7 @@ step-queues w event = of-step w (Queues w) (record {
   broken = λ k kind shell is. append-nil w.queue;
 }) event
 
-after-queues : (w : WorldState) (event : Event) (out : Out) (r : Response) → IsAnswer event (Ok out) r → Queues w event r →
+after-queues : (w : WorldState) (event : Event) (out : Out) (r : Response) → IsResponse event (Ok out) r → Queues w event r →
     w.queue ++ lines_typed event ≡ lines_taken w event ++ (resulting_world w (Ok out) r).queue
 after-queues w event out (Refused why) answer queues = absurd answer
 after-queues w event out (Accepted world given items) answer queues = queues

@@ -10,7 +10,7 @@ use Rattle.ados_machine.specs.Course.{Course}
 use Rattle.ados_machine.specs.Completions.{Completion}
 use Rattle.ados_machine.specs.Shells.{ShellState}
 use Rattle.ados_machine.specs.Step.{is_accepted, start, course_without_flag, turning_response, turn_response}
-use Rattle.ados_machine.specs.Turning.{Input, Turning, Refuses, Ends, Takes, console_turning, input_turning, ready_turning, turning_in_phase, turning_at_break, flagged_turning}
+use Rattle.ados_machine.specs.Turning.{Input, Turning, Refuses, Ends, Turned, console_turning, input_turning, ready_turning, turning_in_phase, turning_at_break, flagged_turning}
 use Rattle.ados_machine.specs.World.{WorldState, numbered_shell, is_over, input_of, can_take, can_turn}
 use Rattle.ados_machine.specs.Given.{ReadyShellsAreTurned}
 use Rattle.ados_machine.proofs.MovedChildren.{over-none}
@@ -19,12 +19,12 @@ use Rattle.ados_machine.proofs.TurnCases.{each-turning}
 abbrev accepts : Turning → Bool
 accepts (Refuses why) = false
 accepts Ends = true
-accepts (Takes queue t) = true
+accepts (Turned queue t) = true
 
 applied-accepted : (w : WorldState) (k : ℕ) (codes : Codes) (now : Turning) → is_accepted (turning_response w k codes now) ≡ accepts now
 applied-accepted w k codes (Refuses why) = refl
 applied-accepted w k codes Ends = refl
-applied-accepted w k codes (Takes queue t) = refl
+applied-accepted w k codes (Turned queue t) = refl
 
 some-waits : (n : ℕ) → nat_lt 0 (suc n) ≡ true
 some-waits n = lt-ltb 0 (suc n) (omega arith)
@@ -55,7 +55,7 @@ in_place-accepts : (now : Turning) (input : Input) (frames : List FrameState) (c
     accepts (turning_at_break now input frames course) ≡ accepts now
 in_place-accepts (Refuses why) input frames course = refl
 in_place-accepts Ends input frames course = refl
-in_place-accepts (Takes queue t) input frames course = refl
+in_place-accepts (Turned queue t) input frames course = refl
 
 flagged-accepts : (flagged : Bool) (input : Input) (frames : List FrameState) (course : Course) (now : Phase) →
     accepts (flagged_turning flagged input frames course now) ≡ can_take input frames now

@@ -5,7 +5,7 @@ use Rattle.ados_line.specs.Cut.{line_limit}
 use Rattle.ados_machine.specs.declared.answers.Answer.{Answer as Reply}
 use Rattle.ados_machine.specs.declared.events.Event.{Event}
 use Rattle.ados_machine.specs.declared.events.Event.TheVariants.{Typed, EndOfInput, Turn, Answer, Break}
-use Rattle.ados_machine.specs.declared.events.Kind.{Kind}
+use Rattle.ados_machine.specs.declared.events.BreakKind.{BreakKind}
 use Rattle.ados_machine.specs.declared.refusals.Refusal.{Refusal}
 use Rattle.ados_machine.specs.declared.refusals.Refusal.TheVariants.{Over, NoSuchShell, NotReady, QueueFull, LineTooLong}
 use Rattle.ados_machine.specs.Shells.{ShellState}
@@ -20,7 +20,7 @@ pub record Cases (w : WorldState) (P : Event → Response → Type 0) : Type 0 w
   pub ended : P EndOfInput (Accepted (record w { input_ended = true }) (event_out [] None []) [])
   pub turned : (k : ℕ) (shell : ShellState) → numbered_shell w k ≡ Some shell → P (Turn k) (turn_response w k (Some shell))
   pub answered : (k : ℕ) (reply : Reply) (shell : ShellState) → numbered_shell w k ≡ Some shell → P (Answer k reply) (answer_response w k reply (Some shell))
-  pub broken : (k : ℕ) (kind : Kind) (shell : ShellState) → numbered_shell w k ≡ Some shell → P (Break k kind) (break_response w k kind (Some shell))
+  pub broken : (k : ℕ) (kind : BreakKind) (shell : ShellState) → numbered_shell w k ≡ Some shell → P (Break k kind) (break_response w k kind (Some shell))
 
 either : (P : Response → Type 0) (b : Bool) (r s : Response) → P r → P s → P (if b then r else s)
 either P true r s there here = there
@@ -35,7 +35,7 @@ of-answer : (w : WorldState) (P : Event → Response → Type 0) → Cases w P �
 of-answer w P cases k reply None is = cases.refused (Answer k reply) NoSuchShell
 of-answer w P cases k reply (Some shell) is = cases.answered k reply shell is
 
-of-break : (w : WorldState) (P : Event → Response → Type 0) → Cases w P → (k : ℕ) (kind : Kind) (o : Option ShellState) → numbered_shell w k ≡ o →
+of-break : (w : WorldState) (P : Event → Response → Type 0) → Cases w P → (k : ℕ) (kind : BreakKind) (o : Option ShellState) → numbered_shell w k ≡ o →
     P (Break k kind) (break_response w k kind o)
 of-break w P cases k kind None is = cases.refused (Break k kind) NoSuchShell
 of-break w P cases k kind (Some shell) is = cases.broken k kind shell is

@@ -6,12 +6,12 @@ use Rattle.std.proofs.lemmas.Bool.{cases_eq}
 use Rattle.ados_find.specs.declared.codes.Codes.{Codes}
 use Rattle.ados_machine.specs.declared.answers.Answer.{Answer as Reply}
 use Rattle.ados_machine.specs.declared.events.Event.{Event}
-use Rattle.ados_machine.specs.declared.events.Kind.{Kind}
+use Rattle.ados_machine.specs.declared.events.BreakKind.{BreakKind}
 use Rattle.ados_machine.specs.Breaks.{kind_breaks}
 use Rattle.ados_machine.specs.declared.outs.Out.{Out}
 use Rattle.ados_machine.specs.declared.refusals.Refusal.{Refusal}
 use Rattle.ados_machine.specs.Shells.{ShellState}
-use Rattle.ados_machine.specs.Turning.{Turning, Refuses, Ends, Takes, flagged_turning, turning_of_answer}
+use Rattle.ados_machine.specs.Turning.{Turning, Refuses, Ends, Turned, flagged_turning, turning_of_answer}
 use Rattle.ados_machine.specs.World.{WorldState, numbered_shell, input_of}
 use Rattle.ados_machine.specs.Step.{Response, Refused, Accepted, moved_at_turn, start, course_without_flag, turning_response, turn_response, answer_response, break_response, step_of}
 use Rattle.ados_machine.specs.Runs.{resulting_world}
@@ -43,7 +43,7 @@ applied-leads : (w : WorldState) (k : ℕ) (shell : ShellState) (codes : Codes) 
     numbered_shell w k ≡ Some shell → TurningGoes shell.parts shell.frames turning → Leads w (turning_response w k codes turning)
 applied-leads w k shell codes (Refuses why) sane is goes = tt
 applied-leads w k shell codes Ends sane is goes = λ j. ended-moves w.shells k shell j sane is goes
-applied-leads w k shell codes (Takes queue t) sane is goes = λ j. turn-moves w.shells k shell (moved_at_turn w t) t j sane is goes
+applied-leads w k shell codes (Turned queue t) sane is goes = λ j. turn-moves w.shells k shell (moved_at_turn w t) t j sane is goes
 
 turned-leads : (w : WorldState) (k : ℕ) (o : Option ShellState) → AllSane w.shells → numbered_shell w k ≡ o → Leads w (turn_response w k o)
 turned-leads w k None sane is = tt
@@ -57,7 +57,7 @@ answered-leads w k reply (Some shell) sane is =
     applied-leads w k shell shell.parts.codes (turning_of_answer (input_of w k) shell.frames (start w shell) shell.phase reply) sane is
     (answering-goes (input_of w k) shell.frames (start w shell) shell.phase reply (rw is at (sane.each k)))
 
-broken-leads : (w : WorldState) (k : ℕ) (kind : Kind) (o : Option ShellState) → AllSane w.shells → Leads w (break_response w k kind o)
+broken-leads : (w : WorldState) (k : ℕ) (kind : BreakKind) (o : Option ShellState) → AllSane w.shells → Leads w (break_response w k kind o)
 broken-leads w k kind None sane = tt
 broken-leads w k kind (Some shell) sane = λ j. broken-moves (Some (record { shell = k; breaks = kind_breaks kind })) j w.shells [] w.shells (stays w.shells j sane)
 

@@ -3,7 +3,7 @@ use Rattle.std.proofs.Common.{◌≡◌, ℕ, zero, suc, ◌-◌, List, [], ◌�
 use Rattle.ados_flow.specs.Frames.{FrameState}
 use Rattle.ados_machine.specs.declared.answers.Answer.{Answer as Reply}
 use Rattle.ados_machine.specs.Phases.{Ready}
-use Rattle.ados_machine.specs.Items.{Item}
+use Rattle.ados_machine.specs.Items.{TraceItem}
 use Rattle.ados_machine.specs.Shells.{ShellState}
 use Rattle.ados_machine.specs.World.{WorldState}
 use Rattle.ados_machine.specs.Whole.{Common}
@@ -24,7 +24,7 @@ use Rattle.ados_machine.proofs.Places.{set-set}
 use Rattle.ados_machine.proofs.Systems.{none_below, free-two, opened-stands}
 use Rattle.ados_machine.proofs.Lonely.{Fold, Same, Stands, ended-at, event-same, stands-at, took_world}
 
-pub onto-ends : (k : ℕ) (log : List Item) (reports : List EndReport) → reports_onto (reports_of k log) reports ≡ with_ends k log reports
+pub onto-ends : (k : ℕ) (log : List TraceItem) (reports : List EndReport) → reports_onto (reports_of k log) reports ≡ with_ends k log reports
 onto-ends k [] reports = refl
 onto-ends k (Began depth kind limit ∷ log) reports = onto-ends k log reports
 onto-ends k (Answered depth entry ∷ log) reports = onto-ends k log reports

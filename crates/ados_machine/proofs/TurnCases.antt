@@ -14,12 +14,12 @@ use Rattle.ados_machine.specs.Course.{Course}
 use Rattle.ados_machine.specs.Lines.{answer_completion, line_completion, parted_completion}
 use Rattle.ados_machine.specs.NewShells.{gathered_completion, joined_completion}
 use Rattle.ados_machine.specs.Phases.{Phase, Ready, GoingOn, Waiting}
-use Rattle.ados_machine.specs.Settle.{TurnResult, here_of, turn_of_completion}
-use Rattle.ados_machine.specs.Turning.{Input, Turning, Refuses, Ends, Takes, console_turning, input_turning, ready_turning, turn_of_frame, turning_at_end, turning_in_phase}
+use Rattle.ados_machine.specs.Apply.{TurnResult, here_of, turn_of_completion}
+use Rattle.ados_machine.specs.Turning.{Input, Turning, Refuses, Ends, Turned, console_turning, input_turning, ready_turning, turn_of_frame, turning_at_end, turning_in_phase}
 
 pub each-turning : (P : Phase → Turning → Type 0) (input : Input) (frames : List FrameState) (course : Course) →
     P Ready (ready_turning input frames course) →
-    ((parted : Parted) (completion : Completion) → P (GoingOn parted) (Takes input.queue (turn_of_completion completion frames))) →
+    ((parted : Parted) (completion : Completion) → P (GoingOn parted) (Turned input.queue (turn_of_completion completion frames))) →
     ((asking : Asking) (by_line : Text → Completion) (by_end : Completion) → P (Waiting (ForAnswer asking)) (input_turning input.queue input.is_ended frames by_line by_end)) →
     ((gathering : Gathering) (by_line : Text → Completion) (by_end : Completion) → P (Waiting (ForLines gathering)) (input_turning input.queue input.is_ended frames by_line by_end)) →
     ((starting : Starting) → P (Waiting (ForStart starting)) (Refuses NotReady)) →
@@ -40,7 +40,7 @@ each-turning P input frames course ready goes_on answer lines start piece end (W
 abbrev pub TurnIs : (List FrameState → TurnResult → Type 0) → List FrameState → Turning → Type 0
 TurnIs P frames (Refuses why) = Unit {0}
 TurnIs P frames Ends = frames ≡ []
-TurnIs P frames (Takes queue t) = P frames t
+TurnIs P frames (Turned queue t) = P frames t
 
 module _ (P : List FrameState → TurnResult → Type 0) (settles : (completion : Completion) (frames : List FrameState) → P frames (turn_of_completion completion frames))
     (advances : (frame : FrameState) (frames : List FrameState) (t : TurnResult) → P (advanced_frame frame ∷ frames) t → P (frame ∷ frames) t) where
@@ -62,7 +62,7 @@ module _ (P : List FrameState → TurnResult → Type 0) (settles : (completion 
 
   input-is : (queue : List Text) (is_ended : Bool) (frames : List FrameState) (by_line : Text → Completion) (by_end : Completion) →
       TurnIs P frames (input_turning queue is_ended frames by_line by_end)
-  input-is [] is_ended frames by_line by_end = at_end-is frames is_ended (Takes [] (turn_of_completion by_end frames)) (settles by_end frames)
+  input-is [] is_ended frames by_line by_end = at_end-is frames is_ended (Turned [] (turn_of_completion by_end frames)) (settles by_end frames)
   input-is (line ∷ rest) is_ended frames by_line by_end = settles (by_line line) frames
 
   pub turning-is : (input : Input) (frames : List FrameState) (course : Course) (phase : Phase) → TurnIs P frames (turning_in_phase input frames course phase)

@@ -10,20 +10,20 @@ use Rattle.ados_machine.specs.Breaks.{kind_breaks}
 use Rattle.ados_machine.specs.declared.answers.Answer.{Answer as Reply}
 use Rattle.ados_machine.specs.declared.events.Event.{Event}
 use Rattle.ados_machine.specs.declared.events.Event.TheVariants.{Typed, EndOfInput, Turn, Answer, Break}
-use Rattle.ados_machine.specs.declared.events.Kind.{Kind}
+use Rattle.ados_machine.specs.declared.events.BreakKind.{BreakKind}
 use Rattle.ados_machine.specs.declared.outs.Out.{Out}
 use Rattle.ados_machine.specs.declared.refusals.Refusal.{Refusal}
 use Rattle.ados_machine.specs.declared.refusals.Refusal.TheVariants.{Over, NoSuchShell, NotReady, WrongAnswer, QueueFull, LineTooLong, NoMemory}
-use Rattle.ados_machine.specs.Items.{Item}
+use Rattle.ados_machine.specs.Items.{TraceItem}
 use Rattle.ados_machine.specs.Shells.{ShellStart, begun_shell, ShellState}
-use Rattle.ados_machine.specs.Settle.{TurnResult}
+use Rattle.ados_machine.specs.Apply.{TurnResult}
 use Rattle.ados_machine.specs.Numbers.{free_number}
-use Rattle.ados_machine.specs.Turning.{Turning, Refuses, Ends, Takes, flagged_turning, turning_of_answer}
+use Rattle.ados_machine.specs.Turning.{Turning, Refuses, Ends, Turned, flagged_turning, turning_of_answer}
 use Rattle.ados_machine.specs.World.{WorldState, option_flatten, numbered_shell, is_over, seen_shells, input_of}
 use Rattle.ados_machine.specs.Course.{shared_after_event}
 use Rattle.ados_machine.specs.Carrying.{moved_object, carried_shells}
 use Rattle.ados_machine.specs.Step.{Response, Refused, Accepted, of_shell, begun_items, with_begun, is_done, shell_after_turn, moved_at_turn, codes_of_ended, queue_after_event, queue_limit, turn_taken, start, course_without_flag, turning_response, turn_response, answer_response, break_response, typing_response, end_of_input, event_response, step_of}
-use Rattle.ados_machine.specs.Runs.{MayWantMemory, IsAnswer, resulting_world}
+use Rattle.ados_machine.specs.Runs.{MayFailToAllocate, IsResponse, resulting_world}
 use Rattle.ados_machine.specs.Quiet.{shell_of}
 use Rattle.ados_machine.proofs.Shells.{shells_after}
 use Rattle.ados_machine.proofs.Alike.{alike-broken, Alike, alike-get, alike-set, LooksLike, alike-seen, free-seen, any-seen, alike-carried}
@@ -125,7 +125,7 @@ applied-both j a b k codes Ends twins ne = (
     input = twins.input;
   },
 )
-applied-both j a b k codes (Takes queue t) twins ne = took-both j a b k queue t twins ne
+applied-both j a b k codes (Turned queue t) twins ne = took-both j a b k queue t twins ne
 
 turned-both : (j : ℕ) (a b : WorldState) (k : ℕ) (o : Option ShellState) → Twins j a b → k ≢ j → Both j (turn_response a k o) (turn_response b k o)
 turned-both j a b k None twins ne = refl
@@ -174,7 +174,7 @@ end-both j a b twins ne =
       | inr e ↦ rw e (refl, refl, record { shared = twins.shared; shells = twins.shells; ended = twins.ended; queue = twins.queue; input = λ other. refl })
     ])
 
-broken-both : (j : ℕ) (a b : WorldState) (k : ℕ) (kind : Kind) (o : Option ShellState) → Twins j a b → Both j (break_response a k kind o) (break_response b k kind o)
+broken-both : (j : ℕ) (a b : WorldState) (k : ℕ) (kind : BreakKind) (o : Option ShellState) → Twins j a b → Both j (break_response a k kind o) (break_response b k kind o)
 broken-both j a b k kind None twins = refl
 broken-both j a b k kind (Some shell) twins = (
   refl,
@@ -204,8 +204,8 @@ step-both j a b event twins ne =
     ])
 
 -- `NoMemory` replaces the same acceptances in both
-may-want-both : (j : ℕ) (event : Event) (a b : WorldState) (items : List (ℕ × Item)) → Twins j a b → shell_of event ≢ j →
-    MayWantMemory event a items → MayWantMemory event b items
+may-want-both : (j : ℕ) (event : Event) (a b : WorldState) (items : List (ℕ × TraceItem)) → Twins j a b → shell_of event ≢ j →
+    MayFailToAllocate event a items → MayFailToAllocate event b items
 may-want-both j (Typed line) a b items twins ne h = tt
 may-want-both j EndOfInput a b items twins ne h = absurd h
 may-want-both j (Turn k) a b [] twins ne h = rw (twins-found j a b twins k ne) h
@@ -213,9 +213,9 @@ may-want-both j (Turn k) a b (item ∷ items) twins ne h = tt
 may-want-both j (Answer k reply) a b items twins ne h = tt
 may-want-both j (Break k kind) a b items twins ne h = absurd h
 
-want-both : (j : ℕ) (event : Event) (refusal : Refusal) (a b : WorldState) (out out' : Out) (items items' : List (ℕ × Item)) →
+want-both : (j : ℕ) (event : Event) (refusal : Refusal) (a b : WorldState) (out out' : Out) (items items' : List (ℕ × TraceItem)) →
     Twins j a b → shell_of event ≢ j → items' ≡ items →
-    IsAnswer event (Err refusal) (Accepted a out items) → IsAnswer event (Err refusal) (Accepted b out' items')
+    IsResponse event (Err refusal) (Accepted a out items) → IsResponse event (Err refusal) (Accepted b out' items')
 want-both j event NoMemory a b out out' items items' twins ne same h = rw same (may-want-both j event a b items twins ne h)
 want-both j event Over a b out out' items items' twins ne same h = h
 want-both j event NoSuchShell a b out out' items items' twins ne same h = h
@@ -225,8 +225,8 @@ want-both j event QueueFull a b out out' items items' twins ne same h = h
 want-both j event LineTooLong a b out out' items items' twins ne same h = h
 
 -- what was answered in the one world is an answer in the other
-pub same-answer : (j : ℕ) (a b : WorldState) (event : Event) (out : Result Out Refusal) (r s : Response) → Twins j a b → shell_of event ≢ j → Both j r s → IsAnswer event out r →
-    IsAnswer event out s × Twins j (resulting_world a out r) (resulting_world b out s)
+pub same-answer : (j : ℕ) (a b : WorldState) (event : Event) (out : Result Out Refusal) (r s : Response) → Twins j a b → shell_of event ≢ j → Both j r s → IsResponse event out r →
+    IsResponse event out s × Twins j (resulting_world a out r) (resulting_world b out s)
 same-answer j a b event (Ok out) (Refused why) s twins ne both answer = absurd answer
 same-answer j a b event (Err refusal) (Refused why) (Refused other) twins ne both answer = (answer ∙ sym both, twins)
 same-answer j a b event (Err refusal) (Refused why) (Accepted world given items) twins ne both answer = absurd both

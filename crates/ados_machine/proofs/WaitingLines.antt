@@ -9,14 +9,14 @@ use Rattle.ados_machine.specs.Breaks.{has_script}
 use Rattle.ados_machine.specs.Course.{Course}
 use Rattle.ados_machine.specs.Shells.{ShellState}
 use Rattle.ados_machine.specs.Step.{start, course_without_flag, turning_response, turn_response}
-use Rattle.ados_machine.specs.Turning.{Input, Turning, Refuses, Ends, Takes, turning_in_phase, turning_at_break, flagged_turning}
+use Rattle.ados_machine.specs.Turning.{Input, Turning, Refuses, Ends, Turned, turning_in_phase, turning_at_break, flagged_turning}
 use Rattle.ados_machine.specs.World.{WorldState, numbered_shell, is_over}
 use Rattle.ados_machine.specs.Given.{with_lines_waiting, FurtherLinesWait}
 
 abbrev leaving : List (List ℕ) → Turning → Turning
 leaving lines (Refuses why) = Refuses why
 leaving lines Ends = Ends
-leaving lines (Takes queue t) = Takes (queue ++ lines) t
+leaving lines (Turned queue t) = Turned (queue ++ lines) t
 
 abbrev input_with : List (List ℕ) → Bool → Input
 input_with queue is_ended = record { queue = queue; is_ended = is_ended }
@@ -37,7 +37,7 @@ in_place-leaves : (line : List ℕ) (lines : List (List ℕ)) (is_ended : Bool) 
     ≡ leaving lines (turning_at_break now (input_with (line ∷ []) is_ended) frames course)
 in_place-leaves line lines is_ended frames course (Refuses why) = refl
 in_place-leaves line lines is_ended frames course Ends = refl
-in_place-leaves line lines is_ended frames course (Takes queue t) = refl
+in_place-leaves line lines is_ended frames course (Turned queue t) = refl
 
 flagged-leaves : (line : List ℕ) (lines : List (List ℕ)) (flagged is_ended : Bool) (frames : List FrameState) (course : Course) (now : Phase) →
     flagged_turning flagged (input_with (line ∷ lines) is_ended) frames course now
@@ -57,13 +57,13 @@ first-leaves : (w : WorldState) (line : List ℕ) (lines : List (List ℕ)) (cod
     turning_response (with_lines w (line ∷ lines)) 1 codes (leaving lines now) ≡ with_lines_waiting lines (turning_response (with_lines w (line ∷ [])) 1 codes now)
 first-leaves w line lines codes (Refuses why) = refl
 first-leaves w line lines codes Ends = refl
-first-leaves w line lines codes (Takes queue t) = refl
+first-leaves w line lines codes (Turned queue t) = refl
 
 other-leaves : (w : WorldState) (k : ℕ) (line : List ℕ) (lines : List (List ℕ)) (codes : Codes) (now : Turning) → k ≢ 1 →
     turning_response (with_lines w (line ∷ lines)) k codes now ≡ with_lines_waiting lines (turning_response (with_lines w (line ∷ [])) k codes now)
 other-leaves w k line lines codes (Refuses why) ne = refl
 other-leaves w k line lines codes Ends ne = refl
-other-leaves w k line lines codes (Takes queue t) ne = rw (ne_eqb k 1 ne) refl
+other-leaves w k line lines codes (Turned queue t) ne = rw (ne_eqb k 1 ne) refl
 
 first-waits : (w : WorldState) (line : List ℕ) (lines : List (List ℕ)) (o : Option ShellState) →
     turn_response (with_lines w (line ∷ lines)) 1 o ≡ with_lines_waiting lines (turn_response (with_lines w (line ∷ [])) 1 o)

@@ -9,9 +9,9 @@ use Rattle.ados_assign.specs.Assigns.{AssignMap}
 use Rattle.ados_assign.specs.Uses.{is_defer, is_used}
 use Rattle.ados_assign.specs.declared.assigns.Assign.{Assign}
 use Rattle.ados_assign.specs.declared.bindings.Binding.TheVariants.{Dirs}
-use Rattle.ados_machine.specs.Items.{Item}
+use Rattle.ados_machine.specs.Items.{TraceItem}
 use Rattle.ados_machine.specs.declared.outs.Out.{Out}
-use Rattle.ados_machine.specs.Settle.{TurnResult}
+use Rattle.ados_machine.specs.Apply.{TurnResult}
 use Rattle.ados_machine.specs.Step.{Accepted, turn_taken}
 use Rattle.ados_machine.specs.World.{WorldState}
 
@@ -34,6 +34,6 @@ BindsOnly used files before after = (name : Text) → (map.get after name ≡ ma
 -- that are there after it
 abbrev pub EventsBindOnlyWhatTheyUsed : Type 0
 EventsBindOnlyWhatTheyUsed =
-    (w world : WorldState) (k : ℕ) (queue : List Text) (turned : TurnResult) (out : Out) (items : List (ℕ × Item)) →
+    (w world : WorldState) (k : ℕ) (queue : List Text) (turned : TurnResult) (out : Out) (items : List (ℕ × TraceItem)) →
     turn_taken w k queue turned ≡ Accepted world out items →
     BindsOnly turned.course.used world.shared.files turned.course.shared.assigns world.shared.assigns

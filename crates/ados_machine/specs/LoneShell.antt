@@ -86,7 +86,7 @@ abbrev pub first_common : WorldState → ℕ → List Text → Common
 first_common w k commands = record {
   shells = (world_with_opened w k commands).shells;
   shared = w.shared;
-  said = record { parts = parts_in k [] (first_settings k); kept = []; printed = [] };
+  rule_state = record { parts = parts_in k [] (first_settings k); kept = []; printed = [] };
   reports = [];
   flagged = false;
 }

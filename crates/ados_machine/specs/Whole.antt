@@ -27,7 +27,7 @@ use Rattle.ados_machine.specs.Breaks.{break_text}
 use Rattle.ados_machine.specs.Course.{Course, new_course}
 use Rattle.ados_machine.specs.Items.{broken_codes}
 use Rattle.ados_machine.specs.Completions.{Here, Completion, Passes, Answers, Jumps, Calls, Ticks, Waits, course_of}
-use Rattle.ados_machine.specs.Settled.{RuleState, with_fault_line, with_answer, with_limit, newest_kept, with_tick, without_tick}
+use Rattle.ados_machine.specs.CodeRule.{RuleState, with_fault_line, with_answer, with_limit, newest_kept, with_tick, without_tick}
 use Rattle.ados_machine.specs.World.{seen_shells}
 use Rattle.ados_machine.specs.Step.{after_event}
 
@@ -37,7 +37,7 @@ use Rattle.ados_machine.specs.Step.{after_event}
 pub record Common : Type 0 where
   pub shells : List (Option ShellState)
   pub shared : SharedState
-  pub said : RuleState
+  pub rule_state : RuleState
   pub reports : List EndReport
   pub flagged : Bool
 
@@ -128,8 +128,8 @@ seen_at at wait directory = record {
 -- an event of the shell begins, which waits for something or for nothing
 abbrev pub start_at : Configuration → Option Wait → Course
 start_at now wait =
-    new_course now.common.said.parts now.common.said.kept now.common.shared
-    (slice_set (seen_shells now.common.shells) (now.at.shell - 1) (Some (seen_at now.at wait now.common.said.parts.directory))) now.common.flagged
+    new_course now.common.rule_state.parts now.common.rule_state.kept now.common.shared
+    (slice_set (seen_shells now.common.shells) (now.at.shell - 1) (Some (seen_at now.at wait now.common.rule_state.parts.directory))) now.common.flagged
 
 -- a current directory moves with what was moved, if anything was
 abbrev pub directory_after_move : Option Renamed → Place → Place
@@ -147,29 +147,29 @@ common_after_event common course =
       reports = common.reports;
       shells = later.shells;
       shared = later.shared;
-      said = record { parts = carried_parts later.moved course.parts; kept = course.kept; printed = common.said.printed ++ course.printed };
+      rule_state = record { parts = carried_parts later.moved course.parts; kept = course.kept; printed = common.rule_state.printed ++ course.printed };
       flagged = course.flagged;
     })
 
 -- a command returned: the shell has its codes, and if its code reaches the limit it is printed that it failed
 abbrev pub says : Text → Codes → Common → Common
-says word answer common = record common { said = with_answer word answer common.said }
+says word answer common = record common { rule_state = with_answer word answer common.rule_state }
 
 -- its record: the line at which it began, its codes, and the limit in force
 abbrev pub record_at : At → Codes → Common → Record
-record_at at answer common = record { line = at.line; codes = answer; limit = common.said.parts.limit }
+record_at at answer common = record { line = at.line; codes = answer; limit = common.rule_state.parts.limit }
 
 -- a command of these lines returned: a script ends here at its limit, or if it quits; other lines continue
 abbrev pub after_answer : Continuation → Remainder → Configuration → Text → Codes → Bool → Whole
 after_answer go left now word answer quits =
-    if now.at.in_script && (quits || is_reached now.common.said.parts.limit answer.code)
+    if now.at.in_script && (quits || is_reached now.common.rule_state.parts.limit answer.code)
     then Done left.events left.answers (Some (record_at now.at answer now.common)) (says word answer now.common)
     else go left (configuration (says word answer now.common) (record now.at { last = Some (record_at now.at answer now.common) })) None
 
 -- the same if the command did its work itself: the text of its fault is printed first, which that of a script was already
 abbrev pub after_own_answer : Continuation → Remainder → Configuration → Text → Codes → Bool → Whole
 after_own_answer go left now word answer quits =
-    after_answer go left (configuration (record now.common { said = with_fault_line word answer.result2 now.common.said }) now.at) word answer quits
+    after_answer go left (configuration (record now.common { rule_state = with_fault_line word answer.result2 now.common.rule_state }) now.at) word answer quits
 
 -- where a script's lines begin, and those of a command substitution
 abbrev pub script_at : At → Option Target → Called → At
@@ -220,7 +220,7 @@ with_report report common = record common { reports = report ∷ common.reports 
 -- that called it returns 10 and 304, and otherwise these lines end too, at the same break
 abbrev pub after_broken : Continuation → Remainder → Configuration → Code → Text → ℕ → Whole
 after_broken go left now limit word zero =
-    after_answer go left (configuration (record now.common { said = with_limit (limit_above_scripts now.at.scripts limit) now.common.said }) now.at)
+    after_answer go left (configuration (record now.common { rule_state = with_limit (limit_above_scripts now.at.scripts limit) now.common.rule_state }) now.at)
     word broken_codes false
 after_broken go left now limit word (suc scripts) = Broken left.events left.answers now.at.last now.common
 
@@ -229,7 +229,7 @@ after_broken go left now limit word (suc scripts) = Broken left.events left.answ
 abbrev pub after_call : Continuation → At → Code → Text → Text → Whole → Whole
 after_call go at limit name word (Done n answers last common) =
     after_answer go (remainder n answers)
-    (configuration (record (with_report (report_of at.shell name last) common) { said = with_limit (limit_above_scripts at.scripts limit) common.said }) at)
+    (configuration (record (with_report (report_of at.shell name last) common) { rule_state = with_limit (limit_above_scripts at.scripts limit) common.rule_state }) at)
     word (last_codes last) false
 after_call go at limit name word (Broken n answers last common) =
     after_broken go (remainder n answers) (configuration (with_report (report_broken at.shell name last) common) at) limit word at.scripts
@@ -238,15 +238,15 @@ after_call go at limit name word Short = Short
 
 -- a command substitution begins to keep output, and gives it to the line that continues after it
 abbrev pub common_with_tick : Common → Common
-common_with_tick common = record common { said = with_tick common.said }
+common_with_tick common = record common { rule_state = with_tick common.rule_state }
 
 abbrev pub common_without_tick : Common → Common
-common_without_tick common = record common { said = without_tick common.said }
+common_without_tick common = record common { rule_state = without_tick common.rule_state }
 
 abbrev pub after_tick : Continuation → At → Text → Text → Whole → Whole
 after_tick go at before after (Done n answers last common) =
     go (remainder n answers) (configuration (common_without_tick common) at)
-    (Some (record { before = before; output = newest_kept common.said.kept; after = after }))
+    (Some (record { before = before; output = newest_kept common.rule_state.kept; after = after }))
 after_tick go at before after (Broken n answers last common) = Broken n answers at.last (common_without_tick common)
 after_tick go at before after (Late answers) = Late answers
 after_tick go at before after Short = Short
@@ -259,7 +259,7 @@ after_completion further go left now (Jumps word answer line course) =
     after_own_answer go left (configuration now.common (record now.at { position = line - 1 })) word answer false
 after_completion further go left now (Calls word output called course) =
     if is_deepest now.at then after_own_answer go left now word (fail_codes TOO_MANY_LEVELS) false
-    else after_call go now.at now.common.said.parts.limit called.name word (go left (configuration now.common (script_at now.at output called)) None)
+    else after_call go now.at now.common.rule_state.parts.limit called.name word (go left (configuration now.common (script_at now.at output called)) None)
 after_completion further go left now (Ticks before command after course) =
     after_tick go now.at before after (go left (configuration (common_with_tick now.common) (tick_at now.at command)) None)
 after_completion further go left now (Waits wait course) = further now wait
@@ -283,4 +283,4 @@ abbrev pub breaks_at : Configuration → Bool
 breaks_at now = now.common.flagged && nat_lt 0 now.at.scripts
 
 abbrev pub common_after_break : Common → Common
-common_after_break common = record common { said = record common.said { printed = common.said.printed ++ break_text }; flagged = false }
+common_after_break common = record common { rule_state = record common.rule_state { printed = common.rule_state.printed ++ break_text }; flagged = false }

@@ -21,7 +21,7 @@ pub use ados_resident::Builtin;
 pub use answers::Answer;
 pub use builtins::{reads_in_use, reads_shells, template};
 pub use children::ChildState;
-pub use events::{BreakAt, Event, Kind};
+pub use events::{BreakAt, BreakKind, Event};
 pub use laws::{
     alone_means_the_direct_meaning, breaks_end_scripts, children_go_by_their_answers,
     each_end_is_reported_once, each_frame_ends_once, events_bind_only_what_they_used,

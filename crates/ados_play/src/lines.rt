@@ -1,7 +1,7 @@
 //! The lines of a list.
 
 use ados_text::{NoMemory, Octets, Text};
-use ados_world::{Answer, Event, HostEntry, Kind};
+use ados_world::{Answer, BreakKind, Event, HostEntry};
 use std::alloc::Global;
 
 /// What a line of a list asks for.
@@ -145,10 +145,10 @@ fn break_of(text: &str) -> Option<Event> {
         .map(|(shell, kind)| Event::Break(shell, kind))
 }
 
-fn kind_of(text: &str) -> Option<Kind> {
+fn kind_of(text: &str) -> Option<BreakKind> {
     match text {
-        "C" => Some(Kind::C),
-        "D" => Some(Kind::D),
+        "C" => Some(BreakKind::C),
+        "D" => Some(BreakKind::D),
         _ => None,
     }
 }

@@ -5,8 +5,8 @@ use Rattle.std.specs.Str.{bytes_eq}
 use Rattle.ados_text.specs.Number.{is_negative, number_of}
 use Rattle.ados_text.specs.Text.{Text}
 use Rattle.ados_machine.specs.declared.events.BreakAt.{BreakAt}
-use Rattle.ados_machine.specs.declared.events.Kind.{Kind}
-use Rattle.ados_machine.specs.declared.events.Kind.TheVariants.{C, D}
+use Rattle.ados_machine.specs.declared.events.BreakKind.{BreakKind}
+use Rattle.ados_machine.specs.declared.events.BreakKind.TheVariants.{C, D}
 use Rattle.ados_session.specs.Parts.{split_at_space}
 
 -- the number that digits write, from 1 to a highest one
@@ -18,10 +18,10 @@ abbrev pub bounded_number : ℕ → Text → Option ℕ
 bounded_number most digits = if is_negative digits then None else number_up_to most (number_of digits)
 
 -- the kind of a break
-abbrev pub kind_of : Text → Option Kind
+abbrev pub kind_of : Text → Option BreakKind
 kind_of word = if bytes_eq word (codes "C") then Some C else (if bytes_eq word (codes "D") then Some D else None)
 
-abbrev pub break_of_parts : Option ℕ → Option ℕ → Option Kind → Option BreakAt
+abbrev pub break_of_parts : Option ℕ → Option ℕ → Option BreakKind → Option BreakAt
 break_of_parts (Some event) (Some shell) (Some kind) = Some (record { event = event; shell = shell; kind = kind })
 break_of_parts event shell kind = None
 

@@ -6,7 +6,7 @@ ghost use Rattle.ados_session.specs.Breaks.{are_rising, break_of, kind_of, last_
 use crate::parts::parted;
 use ados_machine::BreakAt;
 use ados_text::{NoMemory, bounded_number};
-use ados_world::Kind;
+use ados_world::BreakKind;
 
 // The highest number of an event that a break may name.
 const EVENTS: u64 = 1_000_000_000;
@@ -74,13 +74,13 @@ fn shell_in(digits: &[u8]) -> Option<u8>
 }
 
 // The kind of a break.
-fn kind_of(word: &[u8]) -> Option<Kind>
+fn kind_of(word: &[u8]) -> Option<BreakKind>
     ensures { result ≡ kind_of word.now }
 {
     if word == b"C".as_slice() {
-        Some(Kind::C)
+        Some(BreakKind::C)
     } else if word == b"D".as_slice() {
-        Some(Kind::D)
+        Some(BreakKind::D)
     } else {
         None
     }

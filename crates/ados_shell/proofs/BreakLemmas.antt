@@ -13,11 +13,11 @@ use Rattle.ados_machine.specs.declared.refusals.Refusal.TheVariants.{NotReady}
 use Rattle.ados_machine.specs.Breaks.{has_script, kept_after_break, marked_in}
 use Rattle.ados_machine.specs.Course.{Course}
 use Rattle.ados_machine.specs.Completions.{Completion}
-use Rattle.ados_machine.specs.Items.{Item, Broke, break_item, broken_codes, reports_of}
+use Rattle.ados_machine.specs.Items.{TraceItem, Broke, break_item, broken_codes, reports_of}
 use Rattle.ados_machine.specs.Requests.{request_of}
-use Rattle.ados_machine.specs.Settle.{turn_by_rule, said_of}
-use Rattle.ados_machine.specs.Settled.{RuleState, RuleResult, after_break, with_items_first, end_at_break, finish, with_limit}
-use Rattle.ados_machine.specs.Turning.{Input, Turning, Refuses, Takes, turn_at_break, turning_at_break, input_turning, turning_in_phase}
+use Rattle.ados_machine.specs.Apply.{turn_by_rule, rule_state_of}
+use Rattle.ados_machine.specs.CodeRule.{RuleState, RuleResult, after_break, with_items_first, end_at_break, finish, with_limit}
+use Rattle.ados_machine.specs.Turning.{Input, Turning, Refuses, Turned, turn_at_break, turning_at_break, input_turning, turning_in_phase}
 use Rattle.ados_machine.specs.World.{can_take}
 use Rattle.ados_machine.proofs.Marks.{marked-same}
 use Rattle.ados_shell.specs.declared.scenes.Scene.{Scene}
@@ -26,7 +26,7 @@ use Rattle.ados_shell.specs.Breaks.{GivesUp, ReportsBreak}
 use Rattle.ados_shell.specs.Drafts.{IsRuled, course_of, frames_of, held_state, turn_start}
 use Rattle.ados_shell.specs.Stacks.{drafted_frames}
 use Rattle.ados_shell.proofs.StackLemmas.{some-run}
-use Rattle.ados_shell.proofs.TurnLemmas.{IsStill, goes-on, said_in, step-ruled, still-course}
+use Rattle.ados_shell.proofs.TurnLemmas.{IsStill, goes-on, rule_state_in, step-ruled, still-course}
 
 -- a mark does not change what is asked for
 pub marked_request : (number : ℕ) (phase : Phase) → request_of number (marked_in phase) ≡ request_of number phase
@@ -43,7 +43,7 @@ never e = cc
 -- a turn that takes a line of its input, or the end of that, if one is there
 input-taken : (queue : List (List ℕ)) (is_ended : Bool) (input : Input) (frames : List FrameState) (course : Course) (by_line : List ℕ → Completion) (by_end : Completion)
     → (nat_lt 0 (length queue) || is_ended) ≡ true
-    → turning_at_break (input_turning queue is_ended frames by_line by_end) input frames course ≡ Takes input.queue (turn_at_break frames course)
+    → turning_at_break (input_turning queue is_ended frames by_line by_end) input frames course ≡ Turned input.queue (turn_at_break frames course)
 input-taken [] true input frames course by_line by_end e = refl
 input-taken [] false input frames course by_line by_end e = absurd cc
 input-taken (line ∷ rest) is_ended input frames course by_line by_end e = refl
@@ -58,7 +58,7 @@ input-refused (line ∷ rest) is_ended input frames course by_line by_end e = ab
 
 -- the turn of a shell in which a script runs, if it can take one
 script-taken : (input : Input) (frames : List FrameState) (course : Course) (phase : Phase) → has_script frames ≡ true → can_take input frames phase ≡ true
-    → turning_at_break (turning_in_phase input frames course phase) input frames course ≡ Takes input.queue (turn_at_break frames course)
+    → turning_at_break (turning_in_phase input frames course phase) input frames course ≡ Turned input.queue (turn_at_break frames course)
 script-taken input [] course phase there e = absurd cc
 script-taken input (frame ∷ frames) course Ready there e = refl
 script-taken input (frame ∷ frames) course (GoingOn parted) there e = refl
@@ -82,7 +82,7 @@ script-refused input (frame ∷ frames) course (Waiting (ForEnd child)) there e 
 
 -- so what holds of that holds of the scene's turn
 pub takes-at_break : (P : Turning → Type 0) (scene : Scene) (input : Input) → has_script scene.shell.now.frames ≡ true → can_take input scene.shell.now.frames scene.shell.now.phase ≡ true
-    → P (Takes input.queue (turn_at_break scene.shell.now.frames (turn_start scene)))
+    → P (Turned input.queue (turn_at_break scene.shell.now.frames (turn_start scene)))
     → P (turning_at_break (turning_in_phase input scene.shell.now.frames (turn_start scene) scene.shell.now.phase) input scene.shell.now.frames (turn_start scene))
 takes-at_break P scene input there can p = subst P (sym (script-taken input scene.shell.now.frames (turn_start scene) scene.shell.now.phase there can)) p
 
@@ -92,21 +92,21 @@ pub refuses-at_break : (P : Turning → Type 0) (scene : Scene) (input : Input) 
 refuses-at_break P scene input there cannot p = subst P (sym (script-refused input scene.shell.now.frames (turn_start scene) scene.shell.now.phase there cannot)) p
 
 -- the report of a frame's end at a break is the first of those that follow
-first-report : (shell depth line : ℕ) (kind : FrameKind) (log : List Item)
+first-report : (shell depth line : ℕ) (kind : FrameKind) (log : List TraceItem)
     → reports_of shell (Broke depth kind line ∷ log) ≡ reports_of shell (Broke depth kind line ∷ []) ++ reports_of shell log
 first-report shell depth line (Script name command) log = refl
 first-report shell depth line RunCommands log = refl
 first-report shell depth line (Tick before after) log = refl
 
-deeper-is : (scripts : ℕ) (kind : FrameKind) (limit : Code) (further : RuleResult) (frames : List FrameState) (said : RuleState) → nat_lt 0 scripts ≡ true
-    → after_break scripts kind limit further frames said ≡ further
-deeper-is zero kind limit further frames said e = absurd cc
-deeper-is (suc scripts) kind limit further frames said e = refl
+deeper-is : (scripts : ℕ) (kind : FrameKind) (limit : Code) (further : RuleResult) (frames : List FrameState) (rule_state : RuleState) → nat_lt 0 scripts ≡ true
+    → after_break scripts kind limit further frames rule_state ≡ further
+deeper-is zero kind limit further frames rule_state e = absurd cc
+deeper-is (suc scripts) kind limit further frames rule_state e = refl
 
-ends-is : (scripts : ℕ) (kind : FrameKind) (limit : Code) (further : RuleResult) (frames : List FrameState) (said : RuleState) → nat_lt 0 scripts ≡ false
-    → after_break scripts kind limit further frames said ≡ finish (caller_word kind) broken_codes false frames (with_limit (limit_above_frames frames limit) said)
-ends-is zero kind limit further frames said e = refl
-ends-is (suc scripts) kind limit further frames said e = absurd (never (sym (some-run scripts) ∙ e))
+ends-is : (scripts : ℕ) (kind : FrameKind) (limit : Code) (further : RuleResult) (frames : List FrameState) (rule_state : RuleState) → nat_lt 0 scripts ≡ false
+    → after_break scripts kind limit further frames rule_state ≡ finish (caller_word kind) broken_codes false frames (with_limit (limit_above_frames frames limit) rule_state)
+ends-is zero kind limit further frames rule_state e = refl
+ends-is (suc scripts) kind limit further frames rule_state e = absurd (never (sym (some-run scripts) ∙ e))
 
 -- one frame fewer is left
 pub frames-fewer : (scene : Scene) (before popped reported mid : Draft) (frame : FrameState) (frames : List FrameState)
@@ -122,26 +122,26 @@ pub break-deeper : (scene : Scene) (before popped reported mid after : Draft) (f
     → frames_of scene before ≡ frame ∷ frames → IsStill before popped → frames_of scene popped ≡ frames
     → ReportsBreak scene popped reported frame → has_script (frames_of scene reported) ≡ true
     → GivesUp scene reported mid frame
-    → IsRuled scene mid after (end_at_break (frames_of scene mid) (said_in scene mid))
-    → IsRuled scene before after (end_at_break (frames_of scene before) (said_in scene before))
+    → IsRuled scene mid after (end_at_break (frames_of scene mid) (rule_state_in scene mid))
+    → IsRuled scene before after (end_at_break (frames_of scene before) (rule_state_in scene before))
 break-deeper scene before popped reported mid after frame frames there s f r scripts u g =
     let course = course_of scene before in
     let giving : Course → Course = λ c. record c { kept = kept_after_break frame.kind c.kept } in
     let given : Course = giving course in
-    let further : RuleResult = end_at_break frames (said_of given) in
+    let further : RuleResult = end_at_break frames (rule_state_of given) in
     let item = break_item (suc (length frames)) frame in
     let left : frames_of scene reported ≡ frames = ap (frames_of scene) r.same ∙ f in
     let below : frames_of scene mid ≡ frames = ap (drafted_frames scene.shell.now) u.frames ∙ left in
     let same : course_of scene reported ≡ course = ap (course_of scene) r.same ∙ still-course scene before popped s in
     let handed : course_of scene mid ≡ given = u.course ∙ ap giving same in
-    let now : turn_by_rule (course_of scene mid) (end_at_break (frames_of scene mid) (said_in scene mid)) ≡ turn_by_rule given further =
-    ap (λ fs. turn_by_rule (course_of scene mid) (end_at_break fs (said_in scene mid))) below
-    ∙ ap (λ c. turn_by_rule c (end_at_break frames (said_of c))) handed in
-    let whole : end_at_break (frames_of scene before) (said_of course) ≡ with_items_first (item ∷ []) further =
-    ap (λ fs. end_at_break fs (said_of course)) there
-    ∙ ap (with_items_first (item ∷ [])) (deeper-is (script_count frames) frame.kind frame.limit further frames (said_of course) (ap has_script (sym left) ∙ scripts)) in
-    goes-on scene before mid after (turn_by_rule (course_of scene mid) (end_at_break (frames_of scene mid) (said_in scene mid)))
-    (turn_by_rule course (end_at_break (frames_of scene before) (said_of course))) (reports_of scene.number (item ∷ []))
+    let now : turn_by_rule (course_of scene mid) (end_at_break (frames_of scene mid) (rule_state_in scene mid)) ≡ turn_by_rule given further =
+    ap (λ fs. turn_by_rule (course_of scene mid) (end_at_break fs (rule_state_in scene mid))) below
+    ∙ ap (λ c. turn_by_rule c (end_at_break frames (rule_state_of c))) handed in
+    let whole : end_at_break (frames_of scene before) (rule_state_of course) ≡ with_items_first (item ∷ []) further =
+    ap (λ fs. end_at_break fs (rule_state_of course)) there
+    ∙ ap (with_items_first (item ∷ [])) (deeper-is (script_count frames) frame.kind frame.limit further frames (rule_state_of course) (ap has_script (sym left) ∙ scripts)) in
+    goes-on scene before mid after (turn_by_rule (course_of scene mid) (end_at_break (frames_of scene mid) (rule_state_in scene mid)))
+    (turn_by_rule course (end_at_break (frames_of scene before) (rule_state_of course))) (reports_of scene.number (item ∷ []))
     (u.reports ∙ r.reports (suc (length frames)) ∙ ap (λ x. x ++ reports_of scene.number (item ∷ [])) s.reports)
     (ap (λ x. x.frames) whole ∙ sym (ap (λ x. x.frames) now))
     (ap (λ x. x.phase) whole ∙ sym (ap (λ x. x.phase) now))
@@ -156,23 +156,23 @@ pub break-ends : (scene : Scene) (before popped reported after : Draft) (limit :
     → ReportsBreak scene popped reported frame → has_script (frames_of scene reported) ≡ false
     → limit ≡ limit_above_frames (frames_of scene reported) frame.limit
     → (let mid : Draft = record reported { shell = record reported.shell { limit = limit } } in
-    IsRuled scene mid after (finish (caller_word frame.kind) broken_codes false (frames_of scene mid) (said_in scene mid)))
-    → IsRuled scene before after (end_at_break (frames_of scene before) (said_in scene before))
+    IsRuled scene mid after (finish (caller_word frame.kind) broken_codes false (frames_of scene mid) (rule_state_in scene mid)))
+    → IsRuled scene before after (end_at_break (frames_of scene before) (rule_state_in scene before))
 break-ends scene before popped reported after limit frame frames there s f r scripts l g =
     let course = course_of scene before in
-    let said = said_of course in
+    let rule_state = rule_state_of course in
     let mid : Draft = record reported { shell = record reported.shell { limit = limit } } in
     let items = break_item (suc (length frames)) frame ∷ [] in
     let left : frames_of scene reported ≡ frames = ap (frames_of scene) r.same ∙ f in
     let held : held_state reported ≡ held_state before = ap held_state r.same ∙ s.held in
     let same : course_of scene reported ≡ course = ap (course_of scene) r.same ∙ still-course scene before popped s in
-    let back : said_in scene mid ≡ with_limit (limit_above_frames (frames_of scene reported) frame.limit) said =
-    ap (λ x. with_limit x (said_in scene reported)) l
-    ∙ ap (λ c. with_limit (limit_above_frames (frames_of scene reported) frame.limit) (said_of c)) same in
+    let back : rule_state_in scene mid ≡ with_limit (limit_above_frames (frames_of scene reported) frame.limit) rule_state =
+    ap (λ x. with_limit x (rule_state_in scene reported)) l
+    ∙ ap (λ c. with_limit (limit_above_frames (frames_of scene reported) frame.limit) (rule_state_of c)) same in
     step-ruled scene before mid after (reports_of scene.number items) items _ _
-    (ap (λ fs. end_at_break fs said) there
-    ∙ ap (with_items_first items) (ends-is (script_count frames) frame.kind frame.limit _ frames said (ap has_script (sym left) ∙ scripts)
-    ∙ ap (λ fs. finish (caller_word frame.kind) broken_codes false fs (with_limit (limit_above_frames fs frame.limit) said)) (sym left)
+    (ap (λ fs. end_at_break fs rule_state) there
+    ∙ ap (with_items_first items) (ends-is (script_count frames) frame.kind frame.limit _ frames rule_state (ap has_script (sym left) ∙ scripts)
+    ∙ ap (λ fs. finish (caller_word frame.kind) broken_codes false fs (with_limit (limit_above_frames fs frame.limit) rule_state)) (sym left)
     ∙ ap (λ x. finish (caller_word frame.kind) broken_codes false (frames_of scene reported) x) (sym back)))
     (λ log. first-report scene.number (suc (length frames)) (last_line frame.last) frame.kind log)
     held

@@ -17,12 +17,12 @@ use Rattle.ados_machine.specs.Completions.{FrameLines, Jumps, Waits}
 use Rattle.ados_machine.specs.Course.{Course, put}
 use Rattle.ados_machine.specs.NewShells.{begun_put, frame_run, gathered_completion, joined_or_waiting, joined_completion, new_shell, run_at, with_command}
 use Rattle.ados_machine.specs.Numbers.{free_number}
-use Rattle.ados_machine.specs.Settle.{here_of}
+use Rattle.ados_machine.specs.Apply.{here_of}
 use Rattle.ados_machine.specs.Sinks.{Sink, newest_sink, sink_or}
 use Rattle.ados_machine.specs.World.{seen_shells}
 use Rattle.ados_shell.specs.declared.scenes.Scene.{Scene}
 use Rattle.ados_shell.specs.declared.drafts.Draft.{Draft}
-use Rattle.ados_shell.specs.Drafts.{HasBegun, Settles, course_of, next_line_place}
+use Rattle.ados_shell.specs.Drafts.{HasBegun, IsApplied, course_of, here_in}
 use Rattle.ados_shell.specs.Completions.{HasEnded, line_after, lines_left}
 use Rattle.ados_shell.specs.declared.completions.Completion.TheVariants.{Took}
 use Rattle.ados_shell.specs.Outputs.{IsPut}
@@ -32,11 +32,11 @@ use Rattle.ados_shell.specs.Stacks.{drafted_frames}
 pub begun-put : (scene : Scene) (before mid after : Draft) (codes : Codes) (number : ℕ) (commands : List Text) (output : Option Target)
     → free_number (seen_shells scene.shells.now) ≡ Some number
     → HasBegun scene before mid number commands output
-    → IsPut scene mid after codes (put (sink_or output (next_line_place scene mid).sink) (number_line number) went_well (course_of scene mid))
-    → IsPut scene before after codes (new_shell commands output (next_line_place scene before).sink (course_of scene before))
+    → IsPut scene mid after codes (put (sink_or output (here_in scene mid).sink) (number_line number) went_well (course_of scene mid))
+    → IsPut scene before after codes (new_shell commands output (here_in scene before).sink (course_of scene before))
 begun-put scene before mid after codes number commands output n b g =
-    let sink = (next_line_place scene before).sink in
-    let done : put (sink_or output (next_line_place scene mid).sink) (number_line number) went_well (course_of scene mid) ≡ new_shell commands output sink (course_of scene before) =
+    let sink = (here_in scene before).sink in
+    let done : put (sink_or output (here_in scene mid).sink) (number_line number) went_well (course_of scene mid) ≡ new_shell commands output sink (course_of scene before) =
     ap (λ x. put (sink_or output (newest_sink (drafted_frames scene.shell.now x))) (number_line number) went_well (course_of scene mid)) b.frames
     ∙ ap (λ x. put (sink_or output sink) (number_line number) went_well x) b.course
     ∙ ap (λ x. begun_put x commands output sink (course_of scene before)) (sym n) in
@@ -54,13 +54,13 @@ front-is text front command t e c = c ∙ front_stays text front t e
 -- a Run that gathers makes its shell if it is full, and else waits again
 pub joins : (scene : Scene) (before after : Draft) (gathering : Gathering) (line command : Text) (sink : Sink) (is_full : Bool)
     → before_plus line ≡ Some command → nat_le (run_limit - 1) (length gathering.commands) ≡ is_full
-    → Settles scene before after (if is_full then gathered_completion (with_command command gathering) sink (course_of scene before)
+    → IsApplied scene before after (if is_full then gathered_completion (with_command command gathering) sink (course_of scene before)
     else Waits (ForLines (with_command command gathering)) (course_of scene before))
-    → Settles scene before after (joined_completion gathering line sink (course_of scene before))
+    → IsApplied scene before after (joined_completion gathering line sink (course_of scene before))
 joins scene before after gathering line command sink is_full e b g =
     let course = course_of scene before in
-    let P : Option Text → Type 0 = λ o. Settles scene before after (joined_or_waiting gathering line sink course o) in
-    let Q : Bool → Type 0 = λ x. Settles scene before after
+    let P : Option Text → Type 0 = λ o. IsApplied scene before after (joined_or_waiting gathering line sink course o) in
+    let Q : Bool → Type 0 = λ x. IsApplied scene before after
     (if x then gathered_completion (with_command command gathering) sink course else Waits (ForLines (with_command command gathering)) course) in
     subst P (sym e) (subst Q (sym b) g)
 
@@ -82,14 +82,14 @@ jumped word text codes all output sink course left (Some frame) e w k l =
 
 -- in a frame a Run takes more lines, and makes its shell
 pub run-ends : (scene : Scene) (before after : Draft) (word text : Text) (codes : Codes) (all : Gathered) (output : Option Target)
-    → option_map (all_of text) (next_line_place scene before).frame_lines ≡ Some all
-    → all.taken ≤ lines_left (next_line_place scene before).frame_lines
-    → IsPut scene before after codes (new_shell all.commands output (next_line_place scene before).sink (course_of scene before))
+    → option_map (all_of text) (here_in scene before).frame_lines ≡ Some all
+    → all.taken ≤ lines_left (here_in scene before).frame_lines
+    → IsPut scene before after codes (new_shell all.commands output (here_in scene before).sink (course_of scene before))
     → HasEnded scene before after word (Ok (Took codes all.taken))
-    (run_at word output text (next_line_place scene before).sink (course_of scene before) (next_line_place scene before).frame_lines)
+    (run_at word output text (here_in scene before).sink (course_of scene before) (here_in scene before).frame_lines)
 run-ends scene before after word text codes all output e w p = record {
   frames = p.frames;
   reports = p.reports;
   completion_is = ap (λ x. Jumps word codes (line_after all.taken (here_of (drafted_frames scene.shell.now x)).frame_lines) (course_of scene after)) p.frames
-      ∙ jumped word text codes all output (next_line_place scene before).sink (course_of scene before) (course_of scene after) _ e w p.codes_are p.course;
+      ∙ jumped word text codes all output (here_in scene before).sink (course_of scene before) (course_of scene after) _ e w p.codes_are p.course;
 }

@@ -12,7 +12,7 @@ use Rattle.ados_machine.specs.Breaks.{has_script}
 use Rattle.ados_machine.specs.Sinks.{Console, sink_by, newest_sink}
 use Rattle.ados_shell.specs.Stacks.{sink_above, skipped_frames}
 use Rattle.ados_shell.specs.Completions.{line_after, lines_left}
-use Rattle.ados_machine.specs.Settle.{frames_at_line, lines_of_frame, newest}
+use Rattle.ados_machine.specs.Apply.{frames_at_line, lines_of_frame, newest}
 
 -- one is more than none
 pub some-run : (scripts : ℕ) → nat_lt 0 (suc scripts) ≡ true

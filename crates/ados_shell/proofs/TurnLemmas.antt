@@ -11,18 +11,18 @@ use Rattle.ados_flow.specs.declared.kinds.FrameKind.TheVariants.{Script, RunComm
 use Rattle.ados_flow.specs.Frames.{FrameState, is_over, is_ended, limit_above_frames, last_codes, last_line, is_early, caller_word, answered_frame}
 use Rattle.ados_machine.specs.declared.outs.EndReport.{EndReport}
 use Rattle.ados_machine.specs.Phases.{Ready, GoingOn}
-use Rattle.ados_machine.specs.CodeRule.{failed_line}
-use Rattle.ados_machine.specs.Items.{Item, Ended, answered_item, end_item, reports_of}
+use Rattle.ados_machine.specs.FaultLines.{failed_line}
+use Rattle.ados_machine.specs.Items.{TraceItem, Ended, answered_item, end_item, reports_of}
 use Rattle.ados_machine.specs.Course.{Course}
 use Rattle.ados_machine.specs.Completions.{Passes}
-use Rattle.ados_machine.specs.Settled.{RuleState, RuleResult, with_items_first, rule_at_rest, with_answer, with_limit, newest_kept, without_tick, after_end, finish, pass_line}
-use Rattle.ados_machine.specs.Settle.{TurnResult, turn_by_rule, said_of}
+use Rattle.ados_machine.specs.CodeRule.{RuleState, RuleResult, with_items_first, rule_at_rest, with_answer, with_limit, newest_kept, without_tick, after_end, finish, pass_line}
+use Rattle.ados_machine.specs.Apply.{TurnResult, turn_by_rule, rule_state_of}
 use Rattle.ados_shell.specs.declared.scenes.Scene.{Scene}
 use Rattle.ados_shell.specs.declared.drafts.Draft.{Draft}
 use Rattle.ados_shell.specs.Reports.{report_of}
 use Rattle.ados_shell.specs.declared.stacks.Stack.{Stack}
 use Rattle.ados_shell.specs.Stacks.{IsPopped, drafted_frames}
-use Rattle.ados_shell.specs.Drafts.{GoesOn, IsReported, IsTicked, IsRuled, Settles, held_course, course_of, frames_of, held_state, drafted_phase}
+use Rattle.ados_shell.specs.Drafts.{GoesOn, IsReported, IsTicked, IsRuled, IsApplied, held_course, course_of, frames_of, held_state, drafted_phase}
 
 pub goes-on : (scene : Scene) (before mid after : Draft) (t t' : TurnResult) (rs : List EndReport)
     → mid.reports.items ≡ before.reports.items ++ rs
@@ -79,12 +79,12 @@ told-course scene before mid word codes t =
     ∙ ap (λ p. held_course scene (held_state before) before.shell.limit codes p) t.printed
 
 -- the input of the code rule
-abbrev pub said_in : Scene → Draft → RuleState
-said_in scene draft = said_of (course_of scene draft)
+abbrev pub rule_state_in : Scene → Draft → RuleState
+rule_state_in scene draft = rule_state_of (course_of scene draft)
 
 -- the code rule ends here
-rests-ruled : (scene : Scene) (before after : Draft) (word : List ℕ) (codes : Codes) (frames : List FrameState) (log : List Item) (settled : RuleResult)
-    → settled ≡ with_items_first log (rule_at_rest frames Ready (with_answer word codes (said_in scene before)))
+rests-ruled : (scene : Scene) (before after : Draft) (word : List ℕ) (codes : Codes) (frames : List FrameState) (log : List TraceItem) (settled : RuleResult)
+    → settled ≡ with_items_first log (rule_at_rest frames Ready (with_answer word codes (rule_state_in scene before)))
     → reports_of scene.number log ≡ []
     → IsTold before after word codes → frames_of scene after ≡ frames → drafted_phase after.shell ≡ Ready
     → IsRuled scene before after settled
@@ -101,10 +101,10 @@ pub finish-stays : (scene : Scene) (before after : Draft) (word : List ℕ) (cod
     → frames_of scene before ≡ frame ∷ frames → is_ended quits codes before.shell.limit frame ≡ false
     → frames_of scene after ≡ answered_frame frame frames codes before.shell.limit ∷ frames
     → IsTold before after word codes → drafted_phase after.shell ≡ Ready
-    → IsRuled scene before after (finish word codes quits (frames_of scene before) (said_in scene before))
+    → IsRuled scene before after (finish word codes quits (frames_of scene before) (rule_state_in scene before))
 finish-stays scene before after word codes quits frame frames there test f t p =
     rests-ruled scene before after word codes (answered_frame frame frames codes before.shell.limit ∷ frames) (answered_item (frame ∷ frames) codes before.shell.limit ∷ []) _
-    (ap (λ fs. finish word codes quits fs (said_in scene before)) there ∙ else-is (is_ended quits codes before.shell.limit frame) _ _ test) refl t f p
+    (ap (λ fs. finish word codes quits fs (rule_state_in scene before)) there ∙ else-is (is_ended quits codes before.shell.limit frame) _ _ test) refl t f p
 
 -- a turn in which no frame was changed, and nothing else
 pub record IsStill (before after : Draft) : Type 0 where
@@ -123,17 +123,17 @@ still-course scene before after s =
 
 -- what the end of a frame leads to, above these frames
 abbrev pub leads : FrameState → List FrameState → Codes → RuleState → RuleResult
-leads last frames codes said =
-    after_end last.kind (finish (caller_word last.kind) codes false frames (with_limit (limit_above_frames frames last.limit) said)) frames said
+leads last frames codes rule_state =
+    after_end last.kind (finish (caller_word last.kind) codes false frames (with_limit (limit_above_frames frames last.limit) rule_state)) frames rule_state
 
 -- the same with the frame's end in the trace
 abbrev pub led : FrameState → List FrameState → Codes → RuleState → RuleResult
-led last frames codes said = with_items_first (end_item (suc (length frames)) last ∷ []) (leads last frames codes said)
+led last frames codes rule_state = with_items_first (end_item (suc (length frames)) last ∷ []) (leads last frames codes rule_state)
 
 -- the code rule goes on from the middle, before which it gave these items
-pub step-ruled : (scene : Scene) (before mid after : Draft) (rs : List EndReport) (items : List Item) (settled settled' : RuleResult)
+pub step-ruled : (scene : Scene) (before mid after : Draft) (rs : List EndReport) (items : List TraceItem) (settled settled' : RuleResult)
     → settled' ≡ with_items_first items settled
-    → ((log : List Item) → reports_of scene.number (items ++ log) ≡ rs ++ reports_of scene.number log)
+    → ((log : List TraceItem) → reports_of scene.number (items ++ log) ≡ rs ++ reports_of scene.number log)
     → held_state mid ≡ held_state before → mid.reports.items ≡ before.reports.items ++ rs
     → IsRuled scene mid after settled → IsRuled scene before after settled'
 step-ruled scene before mid after rs items settled settled' e reported held r g =
@@ -144,67 +144,67 @@ step-ruled scene before mid after rs items settled settled' e reported held r g 
     (ap (λ s. s.frames) e) (ap (λ s. s.phase) e) course (ap (λ s. reports_of scene.number s.log) e ∙ reported settled.log) g
 
 -- the report of a script's end
-end-script : (shell depth line : ℕ) (kind : FrameKind) (codes : Codes) (early : Bool) (name command : Text) (log : List Item) → kind ≡ Script name command
+end-script : (shell depth line : ℕ) (kind : FrameKind) (codes : Codes) (early : Bool) (name command : Text) (log : List TraceItem) → kind ≡ Script name command
     → reports_of shell (Ended depth kind line codes early ∷ log)
     ≡ record { shell = shell; name = name; last_line = line; code = codes.code; early = early; broken = false } ∷ reports_of shell log
 end-script shell depth line kind codes early name command log e = ap (λ k. reports_of shell (Ended depth k line codes early ∷ log)) e
 
 -- the state of the code rule after the end of a script
-reported-said : (scene : Scene) (mid ended : Draft) (name : Text) (last : FrameState) → IsReported scene mid ended name last
-    → said_in scene ended ≡ with_limit (limit_above_frames (frames_of scene mid) last.limit) (said_in scene mid)
-reported-said scene mid ended name last e =
-    ap (λ x. said_of (held_course scene x ended.shell.limit ended.shell.codes ended.printed.items)) e.held
-    ∙ ap (λ x. said_of (held_course scene (held_state mid) x ended.shell.codes ended.printed.items)) e.limit
-    ∙ ap (λ x. said_of (held_course scene (held_state mid) (limit_above_frames (frames_of scene mid) last.limit) x ended.printed.items)) e.codes
-    ∙ ap (λ x. said_of (held_course scene (held_state mid) (limit_above_frames (frames_of scene mid) last.limit) mid.shell.codes x)) e.printed
+reported-rule_state : (scene : Scene) (mid ended : Draft) (name : Text) (last : FrameState) → IsReported scene mid ended name last
+    → rule_state_in scene ended ≡ with_limit (limit_above_frames (frames_of scene mid) last.limit) (rule_state_in scene mid)
+reported-rule_state scene mid ended name last e =
+    ap (λ x. rule_state_of (held_course scene x ended.shell.limit ended.shell.codes ended.printed.items)) e.held
+    ∙ ap (λ x. rule_state_of (held_course scene (held_state mid) x ended.shell.codes ended.printed.items)) e.limit
+    ∙ ap (λ x. rule_state_of (held_course scene (held_state mid) (limit_above_frames (frames_of scene mid) last.limit) x ended.printed.items)) e.codes
+    ∙ ap (λ x. rule_state_of (held_course scene (held_state mid) (limit_above_frames (frames_of scene mid) last.limit) mid.shell.codes x)) e.printed
 
 -- the end of a script was reported, and is the answer of the command that made it
 pub script-leads : (scene : Scene) (mid ended after : Draft) (name command : Text) (codes : Codes) (last : FrameState)
     → last.kind ≡ Script name command
     → IsReported scene mid ended name last
-    → IsRuled scene ended after (finish command codes false (frames_of scene ended) (said_in scene ended))
-    → IsRuled scene mid after (led last (frames_of scene mid) codes (said_in scene mid))
+    → IsRuled scene ended after (finish command codes false (frames_of scene ended) (rule_state_in scene ended))
+    → IsRuled scene mid after (led last (frames_of scene mid) codes (rule_state_in scene mid))
 script-leads scene mid ended after name command codes last k e g =
     let frames = frames_of scene mid in
-    let said = with_limit (limit_above_frames frames last.limit) (said_in scene mid) in
-    let answer = finish (caller_word last.kind) codes false frames said in
+    let rule_state = with_limit (limit_above_frames frames last.limit) (rule_state_in scene mid) in
+    let answer = finish (caller_word last.kind) codes false frames rule_state in
     let depth = suc (length frames) in
     step-ruled scene mid ended after (report_of scene.number name last ∷ []) (end_item depth last ∷ []) _ _
     (ap (with_items_first (end_item depth last ∷ []))
-    (ap (λ x. after_end x answer frames (said_in scene mid)) k
-    ∙ ap (λ x. finish (caller_word x) codes false frames said) k
-    ∙ ap (λ x. finish command codes false (drafted_frames scene.shell.now x) said) (sym e.frames)
-    ∙ ap (λ x. finish command codes false (frames_of scene ended) x) (sym (reported-said scene mid ended name last e))))
+    (ap (λ x. after_end x answer frames (rule_state_in scene mid)) k
+    ∙ ap (λ x. finish (caller_word x) codes false frames rule_state) k
+    ∙ ap (λ x. finish command codes false (drafted_frames scene.shell.now x) rule_state) (sym e.frames)
+    ∙ ap (λ x. finish command codes false (frames_of scene ended) x) (sym (reported-rule_state scene mid ended name last e))))
     (λ log. end-script scene.number depth _ last.kind (last_codes last.last) _ name command log k)
     e.held e.reports g
 
 -- a shell that ran the commands of a Run rests
 pub lines-lead : (scene : Scene) (mid : Draft) (codes : Codes) (last : FrameState)
     → last.kind ≡ RunCommands → drafted_phase mid.shell ≡ Ready
-    → IsRuled scene mid mid (led last (frames_of scene mid) codes (said_in scene mid))
+    → IsRuled scene mid mid (led last (frames_of scene mid) codes (rule_state_in scene mid))
 lines-lead scene mid codes last k p =
     let frames = frames_of scene mid in
-    let said = said_in scene mid in
-    let rested = with_items_first (Ended (suc (length frames)) RunCommands (last_line last.last) (last_codes last.last) (is_early last.kind last.last) ∷ []) (rule_at_rest frames Ready said) in
-    let e : led last frames codes said ≡ rested =
+    let rule_state = rule_state_in scene mid in
+    let rested = with_items_first (Ended (suc (length frames)) RunCommands (last_line last.last) (last_codes last.last) (is_early last.kind last.last) ∷ []) (rule_at_rest frames Ready rule_state) in
+    let e : led last frames codes rule_state ≡ rested =
     ap (λ x. with_items_first (Ended (suc (length frames)) x (last_line last.last) (last_codes last.last) (is_early last.kind last.last) ∷ [])
-    (after_end x (finish (caller_word last.kind) codes false frames (with_limit (limit_above_frames frames last.limit) said)) frames said)) k in
+    (after_end x (finish (caller_word last.kind) codes false frames (with_limit (limit_above_frames frames last.limit) rule_state)) frames rule_state)) k in
     goes-same scene mid mid mid (turn_by_rule (course_of scene mid) rested) _ refl (ap (turn_by_rule (course_of scene mid)) (sym e))
     (record { frames = refl; phase = p; course = refl; reports = sym (append-nil mid.reports.items) })
 
 -- after a tick its line goes on
 pub tick-leads : (scene : Scene) (mid after : Draft) (codes : Codes) (last : FrameState) (front rear : Text)
     → last.kind ≡ Tick front rear → IsTicked scene mid after front rear
-    → IsRuled scene mid after (led last (frames_of scene mid) codes (said_in scene mid))
+    → IsRuled scene mid after (led last (frames_of scene mid) codes (rule_state_in scene mid))
 tick-leads scene mid after codes last front rear k t =
     let frames = frames_of scene mid in
-    let said = said_in scene mid in
-    let phase = GoingOn (record { before = front; output = newest_kept said.kept; after = rear }) in
+    let rule_state = rule_state_in scene mid in
+    let phase = GoingOn (record { before = front; output = newest_kept rule_state.kept; after = rear }) in
     let rested = with_items_first (Ended (suc (length frames)) (Tick front rear) (last_line last.last) (last_codes last.last) (is_early last.kind last.last) ∷ [])
-    (rule_at_rest frames phase (without_tick said)) in
-    let e : led last frames codes said ≡ rested =
+    (rule_at_rest frames phase (without_tick rule_state)) in
+    let e : led last frames codes rule_state ≡ rested =
     ap (λ x. with_items_first (Ended (suc (length frames)) x (last_line last.last) (last_codes last.last) (is_early last.kind last.last) ∷ [])
-    (after_end x (finish (caller_word last.kind) codes false frames (with_limit (limit_above_frames frames last.limit) said)) frames said)) k in
+    (after_end x (finish (caller_word last.kind) codes false frames (with_limit (limit_above_frames frames last.limit) rule_state)) frames rule_state)) k in
     goes-same scene mid mid after (turn_by_rule (course_of scene mid) rested) _ refl (ap (turn_by_rule (course_of scene mid)) (sym e))
     (record { frames = ap (drafted_frames scene.shell.now) t.frames; phase = t.phase; course = t.course; reports = t.reports ∙ sym (append-nil mid.reports.items) })
 
@@ -212,15 +212,15 @@ tick-leads scene mid after codes last front rear k t =
 pub finish-ends : (scene : Scene) (before popped after : Draft) (word : List ℕ) (codes : Codes) (quits : Bool) (frame : FrameState) (frames : List FrameState)
     → frames_of scene before ≡ frame ∷ frames → is_ended quits codes before.shell.limit frame ≡ true
     → IsTold before popped word codes → frames_of scene popped ≡ frames
-    → IsRuled scene popped after (led (answered_frame frame frames codes before.shell.limit) (frames_of scene popped) codes (said_in scene popped))
-    → IsRuled scene before after (finish word codes quits (frames_of scene before) (said_in scene before))
+    → IsRuled scene popped after (led (answered_frame frame frames codes before.shell.limit) (frames_of scene popped) codes (rule_state_in scene popped))
+    → IsRuled scene before after (finish word codes quits (frames_of scene before) (rule_state_in scene before))
 finish-ends scene before popped after word codes quits frame frames there test t f g =
     let last = answered_frame frame frames codes before.shell.limit in
-    let said : said_in scene popped ≡ with_answer word codes (said_in scene before) = ap said_of (told-course scene before popped word codes t) in
+    let rule_state : rule_state_in scene popped ≡ with_answer word codes (rule_state_in scene before) = ap rule_state_of (told-course scene before popped word codes t) in
     step-ruled scene before popped after [] (answered_item (frame ∷ frames) codes before.shell.limit ∷ []) _ _
-    (ap (λ fs. finish word codes quits fs (said_in scene before)) there ∙ then-is (is_ended quits codes before.shell.limit frame) _ _ test
-    ∙ ap (λ x. with_items_first (answered_item (frame ∷ frames) codes before.shell.limit ∷ []) (led last frames codes x)) (sym said)
-    ∙ ap (λ x. with_items_first (answered_item (frame ∷ frames) codes before.shell.limit ∷ []) (led last x codes (said_in scene popped))) (sym f))
+    (ap (λ fs. finish word codes quits fs (rule_state_in scene before)) there ∙ then-is (is_ended quits codes before.shell.limit frame) _ _ test
+    ∙ ap (λ x. with_items_first (answered_item (frame ∷ frames) codes before.shell.limit ∷ []) (led last frames codes x)) (sym rule_state)
+    ∙ ap (λ x. with_items_first (answered_item (frame ∷ frames) codes before.shell.limit ∷ []) (led last x codes (rule_state_in scene popped))) (sym f))
     (λ log. refl)
     t.held (t.reports ∙ sym (append-nil before.reports.items)) g
 
@@ -228,14 +228,14 @@ finish-ends scene before popped after word codes quits frame frames there test t
 pub pass-ends : (scene : Scene) (before popped after : Draft) (frame : FrameState) (frames : List FrameState)
     → frames_of scene before ≡ frame ∷ frames → is_over frame ≡ true
     → IsStill before popped → frames_of scene popped ≡ frames
-    → IsRuled scene popped after (led frame (frames_of scene popped) (last_codes frame.last) (said_in scene popped))
-    → Settles scene before after (Passes (course_of scene before))
+    → IsRuled scene popped after (led frame (frames_of scene popped) (last_codes frame.last) (rule_state_in scene popped))
+    → IsApplied scene before after (Passes (course_of scene before))
 pass-ends scene before popped after frame frames there over s f g =
-    let said : said_in scene popped ≡ said_in scene before = ap said_of (still-course scene before popped s) in
+    let rule_state : rule_state_in scene popped ≡ rule_state_in scene before = ap rule_state_of (still-course scene before popped s) in
     step-ruled scene before popped after [] [] _ _
-    (ap (λ fs. pass_line fs (said_in scene before)) there ∙ then-is (is_over frame) _ _ over
-    ∙ ap (λ x. led frame frames (last_codes frame.last) x) (sym said)
-    ∙ ap (λ x. led frame x (last_codes frame.last) (said_in scene popped)) (sym f))
+    (ap (λ fs. pass_line fs (rule_state_in scene before)) there ∙ then-is (is_over frame) _ _ over
+    ∙ ap (λ x. led frame frames (last_codes frame.last) x) (sym rule_state)
+    ∙ ap (λ x. led frame x (last_codes frame.last) (rule_state_in scene popped)) (sym f))
     (λ log. refl)
     s.held (s.reports ∙ sym (append-nil before.reports.items)) g
 
@@ -245,8 +245,8 @@ popped_draft before stack = record before { shell = record before.shell { phase 
 
 pub pass-popped : {found : Option FrameState} (scene : Scene) (before after : Draft) (stack : Stack) (frame : FrameState)
     → IsPopped scene.shell.now before.shell.frames stack found → found ≡ Some frame → is_over frame ≡ true
-    → IsRuled scene (popped_draft before stack) after (led frame (drafted_frames scene.shell.now stack) (last_codes frame.last) (said_in scene (popped_draft before stack)))
-    → Settles scene before after (Passes (course_of scene before))
+    → IsRuled scene (popped_draft before stack) after (led frame (drafted_frames scene.shell.now stack) (last_codes frame.last) (rule_state_in scene (popped_draft before stack)))
+    → IsApplied scene before after (Passes (course_of scene before))
 pass-popped scene before after stack frame popped is over g =
     pass-ends scene before (popped_draft before stack) after frame (drafted_frames scene.shell.now stack) (subst (IsPopped scene.shell.now before.shell.frames stack) is popped) over
     (record { held = refl; limit = refl; codes = refl; printed = refl; reports = refl }) refl g
@@ -259,12 +259,12 @@ pub finish-popped : {found : Option FrameState} (scene : Scene) (before after : 
     → IsPopped scene.shell.now before.shell.frames stack found → found ≡ Some frame
     → last ≡ answered_frame frame (drafted_frames scene.shell.now stack) codes before.shell.limit → is_ended quits codes before.shell.limit last ≡ true
     → printed.items ≡ before.printed.items ++ failed_line word codes.code before.shell.limit
-    → IsRuled scene (answered_draft before stack codes printed) after (led last (drafted_frames scene.shell.now stack) codes (said_in scene (answered_draft before stack codes printed)))
-    → IsRuled scene before after (finish word codes quits (frames_of scene before) (said_in scene before))
+    → IsRuled scene (answered_draft before stack codes printed) after (led last (drafted_frames scene.shell.now stack) codes (rule_state_in scene (answered_draft before stack codes printed)))
+    → IsRuled scene before after (finish word codes quits (frames_of scene before) (rule_state_in scene before))
 finish-popped scene before after stack printed word codes quits frame last popped is answer ends told g =
     let mid = answered_draft before stack codes printed in
     let frames = drafted_frames scene.shell.now stack in
     finish-ends scene before mid after word codes quits frame frames (subst (IsPopped scene.shell.now before.shell.frames stack) is popped)
     (ap (is_ended quits codes before.shell.limit) (sym answer) ∙ ends)
     (record { held = refl; limit = refl; codes_are = refl; printed = told; reports = refl }) refl
-    (subst (λ f. IsRuled scene mid after (led f frames codes (said_in scene mid))) answer g)
+    (subst (λ f. IsRuled scene mid after (led f frames codes (rule_state_in scene mid))) answer g)

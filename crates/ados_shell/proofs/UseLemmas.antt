@@ -9,11 +9,11 @@ use Rattle.ados_line.specs.declared.lines.Redirection.{Redirection}
 use Rattle.ados_machine.specs.Course.{Course, with_devices_used}
 use Rattle.ados_machine.specs.Completions.{Completion, Here}
 use Rattle.ados_machine.specs.Opening.{OpenedOutput, output_devices}
-use Rattle.ados_machine.specs.Settle.{here_of, turn_of_completion}
+use Rattle.ados_machine.specs.Apply.{here_of, turn_of_completion}
 use Rattle.ados_machine.specs.Uses.{shared_with_bound}
 use Rattle.ados_shell.specs.declared.scenes.Scene.{Scene}
 use Rattle.ados_shell.specs.declared.drafts.Draft.{Draft}
-use Rattle.ados_shell.specs.Drafts.{Settles, course_of, frames_of, next_line_place}
+use Rattle.ados_shell.specs.Drafts.{IsApplied, course_of, frames_of, here_in}
 use Rattle.ados_shell.specs.Outputs.{OpensOutput, opened_course}
 use Rattle.ados_shell.specs.Stacks.{drafted_frames}
 use Rattle.ados_shell.specs.Uses.{HasUsed}
@@ -22,12 +22,12 @@ use Rattle.ados_shell.proofs.TurnLemmas.{goes-same}
 -- devices were used on the way
 pub used-goes : (scene : Scene) (before mid after : Draft) (work : Here → Course → Completion) (course : Course)
     → HasUsed scene before mid course
-    → Settles scene mid after (work (next_line_place scene mid) (course_of scene mid))
-    → Settles scene before after (work (next_line_place scene before) course)
+    → IsApplied scene mid after (work (here_in scene mid) (course_of scene mid))
+    → IsApplied scene before after (work (here_in scene before) course)
 used-goes scene before mid after work course u g =
     goes-same scene before mid after _ _ u.reports
     (ap (λ x. turn_of_completion (work (here_of (drafted_frames scene.shell.now x)) (course_of scene mid)) (drafted_frames scene.shell.now x)) u.frames
-    ∙ ap (λ x. turn_of_completion (work (next_line_place scene before) x) (frames_of scene before)) u.course_is)
+    ∙ ap (λ x. turn_of_completion (work (here_in scene before) x) (frames_of scene before)) u.course_is)
     g
 
 -- an output was opened, and its device is used

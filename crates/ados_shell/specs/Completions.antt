@@ -10,7 +10,7 @@ use Rattle.ados_shell.specs.declared.completions.Completion.{Completion}
 use Rattle.ados_shell.specs.declared.completions.Completion.TheVariants.{Answered, Jumped, Took, Called, Waits}
 use Rattle.ados_shell.specs.declared.scenes.Scene.{Scene}
 use Rattle.ados_shell.specs.declared.drafts.Draft.{Draft}
-use Rattle.ados_shell.specs.Drafts.{Settles, course_of, next_line_place}
+use Rattle.ados_shell.specs.Drafts.{IsApplied, course_of, here_in}
 
 -- the lines that are left of a frame; the console has none
 abbrev pub lines_left : Option FrameLines → ℕ
@@ -38,12 +38,12 @@ pub record Ends (before after : Draft) (completion given : machine.Completion) :
 
 -- a line ended by a completion, or was refused, by the machine's completion
 abbrev pub HasEnded : Scene → Draft → Draft → Text → Result Completion Stop → machine.Completion → Type 0
-HasEnded scene before after word (Ok completion) given = Ends before after (completion_of word completion (next_line_place scene after).frame_lines (course_of scene after)) given
+HasEnded scene before after word (Ok completion) given = Ends before after (completion_of word completion (here_in scene after).frame_lines (course_of scene after)) given
 HasEnded scene before after word (Err (Refused fault)) given = Ends before after (machine.refusal_completion word fault (course_of scene after)) given
 HasEnded scene before after word (Err NoMemory) given = Unit {0}
 
 -- a turn went on by how its line ended
 abbrev pub Concludes : Scene → Draft → Draft → Text → Result Completion Stop → Type 0
-Concludes scene before after word (Ok completion) = Settles scene before after (completion_of word completion (next_line_place scene before).frame_lines (course_of scene before))
-Concludes scene before after word (Err (Refused fault)) = Settles scene before after (machine.refusal_completion word fault (course_of scene before))
+Concludes scene before after word (Ok completion) = IsApplied scene before after (completion_of word completion (here_in scene before).frame_lines (course_of scene before))
+Concludes scene before after word (Err (Refused fault)) = IsApplied scene before after (machine.refusal_completion word fault (course_of scene before))
 Concludes scene before after word (Err NoMemory) = ⊥

@@ -23,8 +23,8 @@ use Rattle.ados_find.specs.declared.targets.Target.{Target}
 use Rattle.ados_machine.specs.Course.{Course, new_course, shared_after_event}
 use Rattle.ados_machine.specs.NewShells.{with_shell_begun}
 use Rattle.ados_machine.specs.Completions.{Here, Completion}
-use Rattle.ados_machine.specs.Settled.{RuleResult, newest_kept}
-use Rattle.ados_machine.specs.Settle.{TurnResult, turn_by_rule, here_of, turn_of_completion}
+use Rattle.ados_machine.specs.CodeRule.{RuleResult, newest_kept}
+use Rattle.ados_machine.specs.Apply.{TurnResult, turn_by_rule, here_of, turn_of_completion}
 use Rattle.ados_machine.specs.Step.{event_out, shell_of_turn, course_without_flag}
 use Rattle.ados_machine.specs.World.{seen_shells}
 use Rattle.ados_shell.specs.declared.scenes.Scene.{Scene}
@@ -70,8 +70,8 @@ abbrev pub frames_of : Scene → Draft → List FrameState
 frames_of scene draft = drafted_frames scene.shell.now draft.shell.frames
 
 -- what the next line of the newest frame knows of the frames
-abbrev pub next_line_place : Scene → Draft → Here
-next_line_place scene draft = here_of (frames_of scene draft)
+abbrev pub here_in : Scene → Draft → Here
+here_in scene draft = here_of (frames_of scene draft)
 
 -- the shell's parts as they are now
 abbrev pub parts_of : Scene → Draft → Parts
@@ -165,8 +165,8 @@ pub record GoesOn (scene : Scene) (before after : Draft) (turned : TurnResult) :
   pub reports : after.reports.items ≡ before.reports.items ++ reports_of scene.number turned.log
 
 -- a turn went on by a completion
-abbrev pub Settles : Scene → Draft → Draft → Completion → Type 0
-Settles scene before after completion = GoesOn scene before after (turn_of_completion completion (frames_of scene before))
+abbrev pub IsApplied : Scene → Draft → Draft → Completion → Type 0
+IsApplied scene before after completion = GoesOn scene before after (turn_of_completion completion (frames_of scene before))
 
 -- a turn went on by what the code rule leaves
 abbrev pub IsRuled : Scene → Draft → Draft → RuleResult → Type 0

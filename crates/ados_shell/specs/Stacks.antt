@@ -15,7 +15,7 @@ oldest_frames n frames = reverse (take n (reverse frames))
 
 -- the frames of the shell as a turn has changed them, the newest first
 abbrev pub drafted_frames : ShellState → Stack → List FrameState
-drafted_frames shell stack = reverse stack.own.items ++ oldest_frames stack.kept shell.frames
+drafted_frames shell stack = reverse stack.own.items ++ oldest_frames stack.kept_count shell.frames
 
 -- the newest frame, if there is one, was popped
 abbrev pub IsPopped : ShellState → Stack → Stack → Option FrameState → Type 0
@@ -40,9 +40,9 @@ sink_by_way ways.Kept below = Kept
 sink_by_way (ways.To target) below = To target.now
 
 -- the number of the newest frame's next line fits into a usize
-abbrev pub HasRoom : List FrameState → Type 0
-HasRoom [] = Unit {0}
-HasRoom (frame ∷ frames) = frame.position + 1 < 2 ^ 64
+abbrev pub NextLineFits : List FrameState → Type 0
+NextLineFits [] = Unit {0}
+NextLineFits (frame ∷ frames) = frame.position + 1 < 2 ^ 64
 
 -- these frames after this many more lines of the newest were taken, or all that are left of it
 abbrev pub skipped_frames : ℕ → List FrameState → List FrameState

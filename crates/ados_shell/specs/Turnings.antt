@@ -9,8 +9,8 @@ use Rattle.ados_machine.specs.Turning as machine
 use Rattle.ados_shell.specs.declared.scenes.Input.{Input}
 use Rattle.ados_shell.specs.declared.scenes.Scene.{Scene}
 use Rattle.ados_shell.specs.declared.drafts.Draft.{Draft}
-use Rattle.ados_shell.specs.declared.turnings.Turning.{Turning}
-use Rattle.ados_shell.specs.declared.turnings.Turning.TheVariants.{NotReady, Ends, Goes, Takes}
+use Rattle.ados_shell.specs.declared.turnings.TurnKind.{TurnKind}
+use Rattle.ados_shell.specs.declared.turnings.TurnKind.TheVariants.{NotReady, Ends, Goes, Takes}
 use Rattle.ados_shell.specs.Drafts.{IsDrafted, turn_start}
 
 -- the first of the lines that wait, or none if no line waits
@@ -32,11 +32,11 @@ abbrev pub plain_turning : Scene → Input → Phase → List Text → machine.T
 plain_turning scene input phase queue = machine.turning_in_phase (waiting_input input queue) scene.shell.now.frames (turn_start scene) phase
 
 -- a turn is that of the machine: it leaves these lines waiting, or takes the first of them
-abbrev pub IsTurning : Scene → List Text → Turning → Draft → machine.Turning → Type 0
+abbrev pub IsTurning : Scene → List Text → TurnKind → Draft → machine.Turning → Type 0
 IsTurning scene queue NotReady draft (machine.Refuses why) = why ≡ refusal.NotReady
 IsTurning scene queue Ends draft machine.Ends = Unit {0}
-IsTurning scene queue Goes draft (machine.Takes rest turned) = (rest ≡ queue) × IsDrafted scene draft turned
-IsTurning scene queue Takes draft (machine.Takes rest turned) = (line : Text) × (queue ≡ line ∷ rest) × IsDrafted scene draft turned
+IsTurning scene queue Goes draft (machine.Turned rest turned) = (rest ≡ queue) × IsDrafted scene draft turned
+IsTurning scene queue Takes draft (machine.Turned rest turned) = (line : Text) × (queue ≡ line ∷ rest) × IsDrafted scene draft turned
 IsTurning scene queue _ draft _ = ⊥
 
 -- the machine's turn of a shell in the phase Ready that runs no frame, when these lines wait
@@ -44,7 +44,7 @@ abbrev pub console_turning : Scene → Input → List Text → machine.Turning
 console_turning scene input queue = machine.console_turning queue input.is_ended (turn_start scene)
 
 -- the turn is the one that the machine takes, whatever lines wait after the first; `turning` gives that one by the lines that wait
-abbrev pub GivesTurning : Scene → Input → (List Text → machine.Turning) → Turning → Draft → Type 0
+abbrev pub GivesTurning : Scene → Input → (List Text → machine.Turning) → TurnKind → Draft → Type 0
 GivesTurning scene input turning turn draft =
     (queue : List Text) → IsFirst (option_copied input.line) queue → IsTurning scene queue turn draft (turning queue)
 
@@ -60,11 +60,11 @@ IsScriptDrafted scene draft (frame ∷ frames) =
     IsDrafted scene draft (machine.turn_of_frame frame frames (turn_start scene) (slice_get frame.lines frame.position))
 
 -- the machine goes on, but an allocation may fail: a refusal and a shell's end allocate nothing
-abbrev pub MayWantMemory : machine.Turning → Type 0
-MayWantMemory (machine.Refuses why) = ⊥
-MayWantMemory machine.Ends = ⊥
-MayWantMemory (machine.Takes rest turned) = Unit {0}
+abbrev pub TurnMayFailToAllocate : machine.Turning → Type 0
+TurnMayFailToAllocate (machine.Refuses why) = ⊥
+TurnMayFailToAllocate machine.Ends = ⊥
+TurnMayFailToAllocate (machine.Turned rest turned) = Unit {0}
 
 -- the machine goes on at the turn, whatever lines wait after the first, so an allocation may fail
 abbrev pub MayLackMemory : Input → (List Text → machine.Turning) → Type 0
-MayLackMemory input turning = (queue : List Text) → IsFirst (option_copied input.line) queue → MayWantMemory (turning queue)
+MayLackMemory input turning = (queue : List Text) → IsFirst (option_copied input.line) queue → TurnMayFailToAllocate (turning queue)

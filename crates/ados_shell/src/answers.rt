@@ -24,7 +24,7 @@ pub enum Answering {
 
 impl Draft {
     ghost use Rattle.ados_shell.specs.Answerings.{GivesReply, IsReplied, TakesReply};
-    ghost use Rattle.ados_shell.specs.Drafts.{Settles, course_of, next_line_place};
+    ghost use Rattle.ados_shell.specs.Drafts.{IsApplied, course_of, here_in};
 
     /// A launcher's answer for the scene's shell: if it waits for one of this kind, the draft is filled with what is
     /// to be changed. Nothing else is changed, and what the draft held before is forgotten.
@@ -50,8 +50,8 @@ impl Draft {
     /// An answer for the scene's shell, of which nothing is changed yet.
     fn reply_by(&mut self, scene: &Scene, answer: &Answer) -> Result<Answering, NoMemory>
         ensures completion { IfOk result (λ answering. IsReplied scene.now self.old self.new answering
-            (answered_in (next_line_place scene.now self.old).sink (course_of scene.now self.old) scene.now.shell.now.phase answer.now)) }
-        ensures memory { OnErr result (is_some (answered_in (next_line_place scene.now self.old).sink (course_of scene.now self.old) scene.now.shell.now.phase answer.now) ≡ true) }
+            (answered_in (here_in scene.now self.old).sink (course_of scene.now self.old) scene.now.shell.now.phase answer.now)) }
+        ensures memory { OnErr result (is_some (answered_in (here_in scene.now self.old).sink (course_of scene.now self.old) scene.now.shell.now.phase answer.now) ≡ true) }
     {
         let shell = scene.shell;
         match &shell.phase {
@@ -79,8 +79,8 @@ impl Draft {
         answer: &Answer,
     ) -> Result<Answering, NoMemory>
         ensures completion { IfOk result (λ answering. IsReplied scene.now self.old self.new answering
-            (answered_completion (next_line_place scene.now self.old).sink (course_of scene.now self.old) (StartOf starting.now) answer.now)) }
-        ensures memory { OnErr result (is_some (answered_completion (next_line_place scene.now self.old).sink (course_of scene.now self.old) (StartOf starting.now) answer.now) ≡ true) }
+            (answered_completion (here_in scene.now self.old).sink (course_of scene.now self.old) (StartOf starting.now) answer.now)) }
+        ensures memory { OnErr result (is_some (answered_completion (here_in scene.now self.old).sink (course_of scene.now self.old) (StartOf starting.now) answer.now) ≡ true) }
     {
         let word = &starting.word;
         match answer {
@@ -97,7 +97,7 @@ impl Draft {
     /// The program has started: its output is opened by its text, and the shell waits for a piece, or for the program's end
     /// if that was broken. That the output is refused is the program's first fault.
     fn begin_to_read(&mut self, scene: &Scene, starting: &Starting) -> Result<(), NoMemory>
-        ensures { OnOk result (Settles scene.now self.old self.new
+        ensures { OnOk result (IsApplied scene.now self.old self.new
             (started_completion starting.now (course_of scene.now self.old) (line_output (course_of scene.now self.old) starting.now.output))) }
     {
         match self.open_own(scene, starting.output.as_ref()) {
@@ -121,8 +121,8 @@ impl Draft {
         answer: &Answer,
     ) -> Result<Answering, NoMemory>
         ensures completion { IfOk result (λ answering. IsReplied scene.now self.old self.new answering
-            (answered_completion (next_line_place scene.now self.old).sink (course_of scene.now self.old) (PieceOf child.now) answer.now)) }
-        ensures memory { OnErr result (is_some (answered_completion (next_line_place scene.now self.old).sink (course_of scene.now self.old) (PieceOf child.now) answer.now) ≡ true) }
+            (answered_completion (here_in scene.now self.old).sink (course_of scene.now self.old) (PieceOf child.now) answer.now)) }
+        ensures memory { OnErr result (is_some (answered_completion (here_in scene.now self.old).sink (course_of scene.now self.old) (PieceOf child.now) answer.now) ≡ true) }
     {
         match answer {
             Answer::Bytes(bytes) if is_piece(bytes) => self.take_piece(scene, child, bytes)?,
@@ -140,8 +140,8 @@ impl Draft {
     /// A piece of the program's output is written as it comes, and the shell waits for the next, or for the program's end if
     /// that was broken; after a fault the piece is dropped.
     fn take_piece(&mut self, scene: &Scene, child: &Child, bytes: &Octets) -> Result<(), NoMemory>
-        ensures { OnOk result (Settles scene.now self.old self.new
-            (piece_completion child.now bytes.now (next_line_place scene.now self.old).sink (course_of scene.now self.old) child.now.fault)) }
+        ensures { OnOk result (IsApplied scene.now self.old self.new
+            (piece_completion child.now bytes.now (here_in scene.now self.old).sink (course_of scene.now self.old) child.now.fault)) }
     {
         match child.fault {
             Some(_) => self.wait(scene, child.copy()?.with_break().next()),
@@ -152,8 +152,8 @@ impl Draft {
     /// A piece of the program's output is written, and the shell waits for what comes next. If it does not fit, that is the
     /// program's first fault, unless it was broken before; its output stays open.
     fn put_piece(&mut self, scene: &Scene, child: &Child, bytes: &Octets) -> Result<(), NoMemory>
-        ensures { OnOk result (Settles scene.now self.old self.new
-            (piece_completion child.now bytes.now (next_line_place scene.now self.old).sink (course_of scene.now self.old) None)) }
+        ensures { OnOk result (IsApplied scene.now self.old self.new
+            (piece_completion child.now bytes.now (here_in scene.now self.old).sink (course_of scene.now self.old) None)) }
     {
         let output = child.output.as_ref();
         let codes = self.put(scene, output, bytes.copy()?, Codes::NONE)?;
@@ -170,8 +170,8 @@ impl Draft {
         answer: &Answer,
     ) -> Result<Answering, NoMemory>
         ensures completion { IfOk result (λ answering. IsReplied scene.now self.old self.new answering
-            (answered_completion (next_line_place scene.now self.old).sink (course_of scene.now self.old) (EndOf child.now) answer.now)) }
-        ensures memory { OnErr result (is_some (answered_completion (next_line_place scene.now self.old).sink (course_of scene.now self.old) (EndOf child.now) answer.now) ≡ true) }
+            (answered_completion (here_in scene.now self.old).sink (course_of scene.now self.old) (EndOf child.now) answer.now)) }
+        ensures memory { OnErr result (is_some (answered_completion (here_in scene.now self.old).sink (course_of scene.now self.old) (EndOf child.now) answer.now) ≡ true) }
     {
         match answer {
             Answer::Exit(status) => self.end_program(scene, child, codes_of(*status))?,
@@ -190,7 +190,7 @@ impl Draft {
 
     /// The program has ended: the first fault that came is its command's; without one the command returns these codes.
     fn end_program(&mut self, scene: &Scene, child: &Child, codes: Codes) -> Result<(), NoMemory>
-        ensures { OnOk result (Settles scene.now self.old self.new (ended_completion child.now codes (course_of scene.now self.old) child.now.fault)) }
+        ensures { OnOk result (IsApplied scene.now self.old self.new (ended_completion child.now codes (course_of scene.now self.old) child.now.fault)) }
     {
         match child.fault {
             Some(fault) => self.refuse(scene, &child.word, fault),

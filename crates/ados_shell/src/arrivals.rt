@@ -16,7 +16,7 @@ use std::alloc::Global;
 
 impl Draft {
     ghost use Rattle.ados_shell.specs.Completions.{HasEnded};
-    ghost use Rattle.ados_shell.specs.Drafts.{IsUnset, course_of, next_line_place};
+    ghost use Rattle.ados_shell.specs.Drafts.{IsUnset, course_of, here_in};
 
     /// A line whose word leads to a directory: its input is read and its output is opened, and it changes to the directory.
     pub(crate) fn change_directory(
@@ -27,7 +27,7 @@ impl Draft {
     ) -> Result<Completion, Stop>
         requires { IsUnset self.old }
         ensures { HasEnded scene.now self.old self.new line.now.command result
-            (directory_completion place line.now (next_line_place scene.now self.old) (course_of scene.now self.old)) }
+            (directory_completion place line.now (here_in scene.now self.old) (course_of scene.now self.old)) }
     {
         self.read_own(scene, line.input.as_ref())?;
         self.arrive(scene, place, line)
@@ -37,7 +37,7 @@ impl Draft {
     fn arrive(&mut self, scene: &Scene, place: Place, line: &Line) -> Result<Completion, Stop>
         requires { IsUnset self.old }
         ensures { HasEnded scene.now self.old self.new line.now.command result
-            (arriving_completion place line.now (next_line_place scene.now self.old) (course_of scene.now self.old)) }
+            (arriving_completion place line.now (here_in scene.now self.old) (course_of scene.now self.old)) }
     {
         let target = self.open_own(scene, line.output.as_ref())?;
         let outcome = arrival(scene.alloc, place, &line.args)?;

@@ -2,8 +2,8 @@
 ghost use Rattle.std.specs.Prelude.{◌≡◌, true, IfOk, OnErr, OnOk};
 ghost use Rattle.ados_flow.specs.Frames.{caller_word};
 ghost use Rattle.ados_machine.specs.Breaks.{broken_shell, flags_own, has_script};
-ghost use Rattle.ados_machine.specs.Settle.{said_of};
-ghost use Rattle.ados_machine.specs.Settled.{end_at_break};
+ghost use Rattle.ados_machine.specs.Apply.{rule_state_of};
+ghost use Rattle.ados_machine.specs.CodeRule.{end_at_break};
 ghost use Rattle.ados_machine.specs.Turning.{turn_at_break};
 ghost use Rattle.ados_shell.specs.Reports.{broken_report};
 
@@ -11,7 +11,7 @@ use crate::drafts::Draft;
 use crate::scenes::{Input, Scene};
 use crate::shells::Shell;
 use crate::stacks::has_script;
-use crate::turnings::Turning;
+use crate::turnings::TurnKind;
 use ados_find::{Breaking, Breaks, Codes};
 use ados_flow::{Frame, FrameKind};
 use ados_machine::EndReport;
@@ -45,16 +45,16 @@ impl Draft {
 
     /// A turn of a shell that is flagged, in which a script runs: if it can take one, its scripts end instead of
     /// what it would have done, and its input stays.
-    pub(crate) fn broken_turn(&mut self, scene: &Scene, input: &Input) -> Result<Turning, NoMemory>
+    pub(crate) fn broken_turn(&mut self, scene: &Scene, input: &Input) -> Result<TurnKind, NoMemory>
         requires { has_script scene.now.shell.now.frames ≡ true }
         ensures turn { IfOk result (λ turn. GivesTurning scene.now input.now (broken_turning scene.now input.now) turn self.new) }
         ensures memory { OnErr result (MayLackMemory input.now (broken_turning scene.now input.now)) }
     {
         if scene.shell.can_take(input.has_lines()) {
             self.break_off(scene)?;
-            Ok(Turning::Goes)
+            Ok(TurnKind::Goes)
         } else {
-            Ok(Turning::NotReady)
+            Ok(TurnKind::NotReady)
         }
     }
 
@@ -72,7 +72,7 @@ impl Draft {
     /// that script is finished, with 10 and 304, and the code rule follows.
     fn break_frames(&mut self, scene: &Scene) -> Result<(), NoMemory>
         ensures { OnOk result (IsRuled scene.now self.old self.new
-            (end_at_break (frames_of scene.now self.old) (said_of (course_of scene.now self.old)))) }
+            (end_at_break (frames_of scene.now self.old) (rule_state_of (course_of scene.now self.old)))) }
     {
         self.shell.phase = None;
         let Some(frame) = self.shell.frames.pop(scene.shell)? else {

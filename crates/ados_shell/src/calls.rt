@@ -19,7 +19,7 @@ impl Draft {
     ghost use Rattle.ados_flow.specs.Execute.{script_row};
     ghost use Rattle.ados_machine.specs.Lines.{nameless_view};
     ghost use Rattle.ados_shell.specs.Completions.{HasEnded};
-    ghost use Rattle.ados_shell.specs.Drafts.{IsUnset, course_of, next_line_place};
+    ghost use Rattle.ados_shell.specs.Drafts.{IsUnset, course_of, here_in};
 
     /// A line whose word is a script: its input is read and its output is opened, and the script is called.
     pub(crate) fn run_script(
@@ -30,7 +30,7 @@ impl Draft {
     ) -> Result<Completion, Stop>
         requires { IsUnset self.old }
         ensures { HasEnded scene.now self.old self.new line.now.command result
-            (script_completion place.now line.now (next_line_place scene.now self.old) (course_of scene.now self.old)) }
+            (script_completion place.now line.now (here_in scene.now self.old) (course_of scene.now self.old)) }
     {
         self.read_own(scene, line.input.as_ref())?;
         self.call_into(scene, place, line)
@@ -40,7 +40,7 @@ impl Draft {
     fn call_into(&mut self, scene: &Scene, place: &Place, line: &Line) -> Result<Completion, Stop>
         requires { IsUnset self.old }
         ensures { HasEnded scene.now self.old self.new line.now.command result
-            (calling_completion place.now line.now (next_line_place scene.now self.old) (course_of scene.now self.old)) }
+            (calling_completion place.now line.now (here_in scene.now self.old) (course_of scene.now self.old)) }
     {
         let target = self.open_own(scene, line.output.as_ref())?;
         let action = self.script(scene, place, line, target.as_ref())?;

@@ -1,9 +1,9 @@
 // The code rule: when a frame ends, and what its end is to the command that made it.
 ghost use Rattle.std.specs.Prelude.{◌≡◌, IfOk, OnOk};
 ghost use Rattle.ados_shell.specs.Completions.{line_after};
-ghost use Rattle.ados_machine.specs.Settled.{finish};
+ghost use Rattle.ados_machine.specs.CodeRule.{finish};
 ghost use Rattle.ados_machine.specs.Completions.{Answers, Calls, Jumps, Passes, refusal_completion};
-ghost use Rattle.ados_machine.specs.Settle.{enter_script, said_of};
+ghost use Rattle.ados_machine.specs.Apply.{enter_script, rule_state_of};
 ghost use Rattle.ados_shell.specs.Reports.{report_of};
 
 use crate::console::{push_failed, push_fault};
@@ -15,11 +15,11 @@ use ados_machine::EndReport;
 use ados_text::{NoMemory, Result2, Text};
 
 impl Draft {
-    ghost use Rattle.ados_shell.specs.Drafts.{IsReported, IsRuled, Settles, course_of, frames_of, next_line_place};
+    ghost use Rattle.ados_shell.specs.Drafts.{IsReported, IsRuled, IsApplied, course_of, frames_of, here_in};
 
     /// No command was there to return: the newest frame ends if no line is left.
     pub(crate) fn pass(&mut self, scene: &Scene) -> Result<(), NoMemory>
-        ensures { OnOk result (Settles scene.now self.old self.new (Passes (course_of scene.now self.old))) }
+        ensures { OnOk result (IsApplied scene.now self.old self.new (Passes (course_of scene.now self.old))) }
     {
         self.shell.phase = None;
         let Some(frame) = self.shell.frames.pop(scene.shell)? else {
@@ -46,7 +46,7 @@ impl Draft {
         codes: Codes,
         quits: bool,
     ) -> Result<(), NoMemory>
-        ensures { OnOk result (Settles scene.now self.old self.new (Answers word.now codes quits (course_of scene.now self.old))) }
+        ensures { OnOk result (IsApplied scene.now self.old self.new (Answers word.now codes quits (course_of scene.now self.old))) }
     {
         push_fault(&mut self.printed, word, codes.result2)?;
         self.finish(scene, word, codes, quits)
@@ -59,7 +59,7 @@ impl Draft {
         word: &Text,
         fault: Result2,
     ) -> Result<(), NoMemory>
-        ensures { OnOk result (Settles scene.now self.old self.new (refusal_completion word.now fault (course_of scene.now self.old))) }
+        ensures { OnOk result (IsApplied scene.now self.old self.new (refusal_completion word.now fault (course_of scene.now self.old))) }
     {
         self.answer(scene, word.as_bytes(), Codes::failed(fault), false)
     }
@@ -73,7 +73,7 @@ impl Draft {
         codes: Codes,
         line: usize,
     ) -> Result<(), NoMemory>
-        ensures { OnOk result (Settles scene.now self.old self.new (Jumps word.now codes line (course_of scene.now self.old))) }
+        ensures { OnOk result (IsApplied scene.now self.old self.new (Jumps word.now codes line (course_of scene.now self.old))) }
     {
         self.shell.frames.jump_to(scene.shell, line)?;
         self.answer(scene, word.as_bytes(), codes, false)
@@ -88,8 +88,8 @@ impl Draft {
         codes: Codes,
         taken: usize,
     ) -> Result<(), NoMemory>
-        ensures { OnOk result (Settles scene.now self.old self.new
-            (Jumps word.now codes (line_after taken (next_line_place scene.now self.old).frame_lines) (course_of scene.now self.old))) }
+        ensures { OnOk result (IsApplied scene.now self.old self.new
+            (Jumps word.now codes (line_after taken (here_in scene.now self.old).frame_lines) (course_of scene.now self.old))) }
     {
         self.shell.frames.skip(scene.shell, taken)?;
         self.answer(scene, word.as_bytes(), codes, false)
@@ -104,7 +104,7 @@ impl Draft {
         output: Option<Target>,
         script: Called,
     ) -> Result<(), NoMemory>
-        ensures { OnOk result (Settles scene.now self.old self.new (Calls word.now output script (course_of scene.now self.old))) }
+        ensures { OnOk result (IsApplied scene.now self.old self.new (Calls word.now output script (course_of scene.now self.old))) }
     {
         if self.shell.frames.is_full(scene.shell) {
             self.refuse(scene, word, Result2::TOO_MANY_LEVELS)
@@ -122,7 +122,7 @@ impl Draft {
         called: Called,
     ) -> Result<(), NoMemory>
         ensures { OnOk result (IsRuled scene.now self.old self.new
-            (enter_script word.now output called (frames_of scene.now self.old) (said_of (course_of scene.now self.old)))) }
+            (enter_script word.now output called (frames_of scene.now self.old) (rule_state_of (course_of scene.now self.old)))) }
     {
         let kind = FrameKind::Script {
             name: called.name,
@@ -143,7 +143,7 @@ impl Draft {
         quits: bool,
     ) -> Result<(), NoMemory>
         ensures { OnOk result (IsRuled scene.now self.old self.new
-            (finish word.now codes quits (frames_of scene.now self.old) (said_of (course_of scene.now self.old)))) }
+            (finish word.now codes quits (frames_of scene.now self.old) (rule_state_of (course_of scene.now self.old)))) }
     {
         let limit = self.shell.limit;
         self.shell.phase = None;

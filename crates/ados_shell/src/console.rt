@@ -1,7 +1,7 @@
 // What is printed on the console.
 ghost use Rattle.std.specs.Prelude.{◌≡◌, ◌++◌, OnOk};
 ghost use Rattle.std.specs.Fmt.{signed_decimal};
-ghost use Rattle.ados_machine.specs.CodeRule.{fault_line, failure, failed_line};
+ghost use Rattle.ados_machine.specs.FaultLines.{fault_line, failure, failed_line};
 
 use ados_flow::is_reached;
 use ados_text::{Code, NoMemory, Octets, Result2, fault_text, push_number};

@@ -17,7 +17,7 @@ use ados_text::{NoMemory, Result2, Stop, Text, Texts};
 
 impl Draft {
     ghost use Rattle.ados_shell.specs.Completions.{HasEnded};
-    ghost use Rattle.ados_shell.specs.Drafts.{IsUnset, course_of, next_line_place};
+    ghost use Rattle.ados_shell.specs.Drafts.{IsUnset, course_of, here_in};
 
     /// Runs a line whose command is a program, which runs from an entry of the resident list, or from a file.
     pub(crate) fn run_program(
@@ -29,7 +29,7 @@ impl Draft {
     ) -> Result<Completion, Stop>
         requires { IsUnset self.old }
         ensures { HasEnded scene.now self.old self.new line.now.command result
-            (program_completion entry program line.now (next_line_place scene.now self.old) (course_of scene.now self.old)) }
+            (program_completion entry program line.now (here_in scene.now self.old) (course_of scene.now self.old)) }
     {
         match program {
             Program::Disk(command) => self.builtin(scene, command.builtin(), line),

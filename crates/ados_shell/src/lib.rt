@@ -39,4 +39,4 @@ pub use drafts::{Draft, ShellDraft};
 pub use scenes::{Input, Scene};
 pub use seen::free_number;
 pub use shells::Shell;
-pub use turnings::Turning;
+pub use turnings::TurnKind;

@@ -14,7 +14,7 @@ use ados_text::{NoMemory, Result2, Stop, Text};
 
 impl Draft {
     ghost use Rattle.ados_shell.specs.Completions.{HasEnded};
-    ghost use Rattle.ados_shell.specs.Drafts.{IsUnset, Settles, course_of, next_line_place};
+    ghost use Rattle.ados_shell.specs.Drafts.{IsUnset, IsApplied, course_of, here_in};
     ghost use Rattle.ados_line.specs.Answers.{Gives};
     ghost use Rattle.ados_line.specs.declared.faults.LineFault.{LineFault};
     ghost use Rattle.ados_line.specs.declared.lines.Expanded.{Expanded};
@@ -28,8 +28,8 @@ impl Draft {
     /// Takes a raw line.
     pub(crate) fn obey(&mut self, scene: &Scene, raw: &Text) -> Result<(), NoMemory>
         requires { IsUnset self.old }
-        ensures { OnOk result (Settles scene.now self.old self.new
-            (line_completion raw.now (next_line_place scene.now self.old) (course_of scene.now self.old))) }
+        ensures { OnOk result (IsApplied scene.now self.old self.new
+            (line_completion raw.now (here_in scene.now self.old) (course_of scene.now self.old))) }
     {
         let expanded = self.expanded(scene, raw);
         self.use_variables(scene, raw)?;
@@ -44,7 +44,7 @@ impl Draft {
     ) -> Result<(), NoMemory>
         requires { IsUnset self.old }
         ensures { OnOk result ((found : Result Expanded LineFault) → Gives expanded found →
-            Settles scene.now self.old self.new (expanded_completion found (next_line_place scene.now self.old) (course_of scene.now self.old))) }
+            IsApplied scene.now self.old self.new (expanded_completion found (here_in scene.now self.old) (course_of scene.now self.old))) }
     {
         match expanded {
             Err(LineFault::NoMemory) => Err(NoMemory),
@@ -57,7 +57,7 @@ impl Draft {
 
     /// The line is invalid: it uses nothing.
     pub(crate) fn refuse_line(&mut self, scene: &Scene, fault: Result2) -> Result<(), NoMemory>
-        ensures { OnOk result (Settles scene.now self.old self.new (line_fault fault (course_of scene.now self.old))) }
+        ensures { OnOk result (IsApplied scene.now self.old self.new (line_fault fault (course_of scene.now self.old))) }
     {
         self.use_nothing(scene);
         self.answer(scene, b"Shell", Codes::failed(fault), false)
@@ -96,8 +96,8 @@ impl Draft {
     /// Searches for the command of a line.
     fn seek(&mut self, scene: &Scene, line: &Line) -> Result<(), NoMemory>
         requires { IsUnset self.old }
-        ensures { OnOk result (Settles scene.now self.old self.new
-            (found_completion (found_in (course_of scene.now self.old) line.now.command) line.now (next_line_place scene.now self.old) (with_search_used line.now.command (course_of scene.now self.old)))) }
+        ensures { OnOk result (IsApplied scene.now self.old self.new
+            (found_completion (found_in (course_of scene.now self.old) line.now.command) line.now (here_in scene.now self.old) (with_search_used line.now.command (course_of scene.now self.old)))) }
     {
         let Search { found, route } = self.find(scene, &line.command)?;
         self.use_route(scene, route, &line.command)?;
@@ -107,8 +107,8 @@ impl Draft {
     /// Runs a line for whose command this was found, and applies its completion to the frames.
     fn run_line(&mut self, scene: &Scene, found: Found, line: &Line) -> Result<(), NoMemory>
         requires { IsUnset self.old }
-        ensures { OnOk result (Settles scene.now self.old self.new
-            (found_completion found line.now (next_line_place scene.now self.old) (course_of scene.now self.old))) }
+        ensures { OnOk result (IsApplied scene.now self.old self.new
+            (found_completion found line.now (here_in scene.now self.old) (course_of scene.now self.old))) }
     {
         let ended = self.execute(scene, found, line);
         self.conclude(scene, &line.command, ended)
@@ -118,7 +118,7 @@ impl Draft {
     fn execute(&mut self, scene: &Scene, found: Found, line: &Line) -> Result<Completion, Stop>
         requires { IsUnset self.old }
         ensures { HasEnded scene.now self.old self.new line.now.command result
-            (found_completion found line.now (next_line_place scene.now self.old) (course_of scene.now self.old)) }
+            (found_completion found line.now (here_in scene.now self.old) (course_of scene.now self.old)) }
     {
         match found {
             Found::Internal(command) => match command.builtin() {

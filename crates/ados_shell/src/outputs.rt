@@ -67,7 +67,7 @@ impl Opened {
 
 impl Draft {
     ghost use Rattle.ados_shell.specs.Outputs.{HasHeld, HasOpened, HoldsFiles, IsOpened, IsPut};
-    ghost use Rattle.ados_shell.specs.Drafts.{course_of, next_line_place};
+    ghost use Rattle.ados_shell.specs.Drafts.{course_of, here_in};
 
     /// Opens what a redirection names, with the shell and the shared state as it is now.
     pub(crate) fn open(&self, scene: &Scene, output: Option<&Redirection>) -> Result<Opened, Stop>
@@ -135,7 +135,7 @@ impl Draft {
         codes: Codes,
     ) -> Result<Codes, NoMemory>
         ensures { IfOk result (λ answered. IsPut scene.now self.old self.new answered
-            (put (sink_or (option_copied target.entry) (next_line_place scene.now self.old).sink) output codes (course_of scene.now self.old))) }
+            (put (sink_or (option_copied target.entry) (here_in scene.now self.old).sink) output codes (course_of scene.now self.old))) }
     {
         match target {
             Some(target) => self.put_to(scene, target, output, codes),

@@ -18,7 +18,7 @@ use ados_text::{NoMemory, Stop, Text, Texts};
 use std::alloc::Global;
 
 impl Draft {
-    ghost use Rattle.ados_shell.specs.Drafts.{IsUnset, Settles, course_of, next_line_place};
+    ghost use Rattle.ados_shell.specs.Drafts.{IsUnset, IsApplied, course_of, here_in};
     ghost use Rattle.ados_shell.specs.Completions.{HasEnded};
     ghost use Rattle.ados_shell.specs.Inputs.{HasRead};
 
@@ -31,7 +31,7 @@ impl Draft {
     ) -> Result<Completion, Stop>
         requires { IsUnset self.old }
         ensures { HasEnded scene.now self.old self.new line.now.command result
-            (builtin_completion builtin line.now (next_line_place scene.now self.old) (course_of scene.now self.old)) }
+            (builtin_completion builtin line.now (here_in scene.now self.old) (course_of scene.now self.old)) }
     {
         let lines = self.read_own(scene, line.input.as_ref())?;
         let input = slice_of(lines.as_ref());
@@ -81,7 +81,7 @@ impl Draft {
     ) -> Result<Completion, Stop>
         requires { IsUnset self.old }
         ensures { HasEnded scene.now self.old self.new line.now.command result
-            (prompt_completion builtin line.now (next_line_place scene.now self.old) (course_of scene.now self.old) (option_map (λ l. l.now) input.entry)) }
+            (prompt_completion builtin line.now (here_in scene.now self.old) (course_of scene.now self.old) (option_map (λ l. l.now) input.entry)) }
     {
         push_prompt(&mut self.printed, builtin)?;
         match input {
@@ -99,7 +99,7 @@ impl Draft {
 
     /// The shell waits.
     pub(crate) fn wait(&mut self, scene: &Scene, wait: Wait) -> Result<(), NoMemory>
-        ensures { OnOk result (Settles scene.now self.old self.new (Waits wait (course_of scene.now self.old))) }
+        ensures { OnOk result (IsApplied scene.now self.old self.new (Waits wait (course_of scene.now self.old))) }
     {
         self.shell.phase = Some(Box::new(scene.alloc, Suspension::Waiting(wait))?);
         Ok(())
@@ -113,8 +113,8 @@ impl Draft {
         answer: &Text,
     ) -> Result<(), NoMemory>
         requires { IsUnset self.old }
-        ensures { OnOk result (Settles scene.now self.old self.new
-            (answer_completion answer.now asking.now (next_line_place scene.now self.old) (course_of scene.now self.old))) }
+        ensures { OnOk result (IsApplied scene.now self.old self.new
+            (answer_completion answer.now asking.now (here_in scene.now self.old) (course_of scene.now self.old))) }
     {
         match asking {
             Asking::Arguments { builtin, line } => {

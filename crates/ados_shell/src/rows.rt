@@ -19,7 +19,7 @@ use ados_text::{Name, NoMemory, Stop, Text, Texts};
 
 impl Draft {
     ghost use Rattle.ados_shell.specs.Completions.{HasEnded};
-    ghost use Rattle.ados_shell.specs.Drafts.{IsUnset, course_of, next_line_place, parts_of};
+    ghost use Rattle.ados_shell.specs.Drafts.{IsUnset, course_of, here_in, parts_of};
     ghost use Rattle.ados_shell.specs.Outputs.{IsPut, effect_put};
     ghost use Rattle.ados_shell.specs.Views.{Serves, ServesInUse, ServesNames, ServesUses, shell_view};
     ghost use Rattle.ados_machine.specs.Course.{uses_of};
@@ -35,7 +35,7 @@ impl Draft {
     ) -> Result<Completion, Stop>
         requires { IsUnset self.old }
         ensures { HasEnded scene.now self.old self.new line.now.command result
-            (command_completion builtin line.now (option_map (λ l. l.now) input.entry) (next_line_place scene.now self.old) (course_of scene.now self.old)) }
+            (command_completion builtin line.now (option_map (λ l. l.now) input.entry) (here_in scene.now self.old) (course_of scene.now self.old)) }
     {
         let target = self.open_own(scene, line.output.as_ref())?;
         let action = self.action(scene, builtin, line, target.as_ref())?;
@@ -54,7 +54,7 @@ impl Draft {
         requires { IsUnset self.old }
         ensures { HasEnded scene.now self.old self.new word.now result
             (action_completion word.now target (option_map (λ l. l.now) input.entry) (action_effect (course_of scene.now self.old).shared action)
-            (next_line_place scene.now self.old) (course_of scene.now self.old)) }
+            (here_in scene.now self.old) (course_of scene.now self.old)) }
     {
         match action {
             Action::Does(outcome) => {
@@ -90,7 +90,7 @@ impl Draft {
     ) -> Result<Action, NoMemory>
         requires { IsUnset self.old }
         ensures action { IfOk result (λ action. action_effect (course_of scene.now self.old).shared action
-            ≡ action_in builtin line.now (option_copied target.entry) (next_line_place scene.now self.old) (course_of scene.now self.old)) }
+            ≡ action_in builtin line.now (option_copied target.entry) (here_in scene.now self.old) (course_of scene.now self.old)) }
         ensures used { OnOk result (HasUsed scene.now self.old self.new (with_argument_devices builtin line.now (course_of scene.now self.old))) }
     {
         let others = self.others_for(scene, builtin, &line.command, target)?;
@@ -185,7 +185,7 @@ impl Draft {
     ) -> Result<Codes, NoMemory>
         requires { IsUnset self.old }
         ensures { IfOk result (λ codes. IsPut scene.now self.old self.new codes
-            (effect_put (option_copied target.entry) (effect_of (course_of scene.now self.old).shared outcome) (next_line_place scene.now self.old) (course_of scene.now self.old))) }
+            (effect_put (option_copied target.entry) (effect_of (course_of scene.now self.old).shared outcome) (here_in scene.now self.old) (course_of scene.now self.old))) }
     {
         let Outcome {
             shared,
@@ -207,7 +207,7 @@ impl ShellDraft {
     ghost use Rattle.ados_machine.specs.Uses.{devices_of};
     ghost use Rattle.ados_flow.specs.Frames.{script_line_of};
     ghost use Rattle.ados_machine.specs.Commands.{action_of};
-    ghost use Rattle.ados_machine.specs.Settle.{newest};
+    ghost use Rattle.ados_machine.specs.Apply.{newest};
     ghost use Rattle.ados_shell.specs.Drafts.{drafted_shell};
     ghost use Rattle.ados_shell.specs.Stacks.{drafted_frames};
     ghost use Rattle.ados_shell.specs.Views.{shell_view};

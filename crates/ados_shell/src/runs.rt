@@ -20,7 +20,7 @@ use ados_text::{NoMemory, Result2, Stop, Text, Texts};
 use std::alloc::Global;
 
 impl Draft {
-    ghost use Rattle.ados_shell.specs.Drafts.{HasBegun, IsUnset, Settles, course_of, next_line_place};
+    ghost use Rattle.ados_shell.specs.Drafts.{HasBegun, IsUnset, IsApplied, course_of, here_in};
     ghost use Rattle.ados_shell.specs.Completions.{HasEnded};
     ghost use Rattle.ados_shell.specs.Outputs.{IsPut};
 
@@ -28,7 +28,7 @@ impl Draft {
     pub(crate) fn run(&mut self, scene: &Scene, line: &Line) -> Result<Completion, Stop>
         requires { IsUnset self.old }
         ensures { HasEnded scene.now self.old self.new line.now.command result
-            (run_completion line.now (next_line_place scene.now self.old) (course_of scene.now self.old)) }
+            (run_completion line.now (here_in scene.now self.old) (course_of scene.now self.old)) }
     {
         self.read_own(scene, line.input.as_ref())?;
         self.run_into(scene, line)
@@ -38,7 +38,7 @@ impl Draft {
     fn run_into(&mut self, scene: &Scene, line: &Line) -> Result<Completion, Stop>
         requires { IsUnset self.old }
         ensures { HasEnded scene.now self.old self.new line.now.command result
-            (running_completion line.now (next_line_place scene.now self.old) (course_of scene.now self.old)) }
+            (running_completion line.now (here_in scene.now self.old) (course_of scene.now self.old)) }
     {
         let output = self.open_own(scene, line.output.as_ref())?;
         if has_no_command(&line.args) {
@@ -58,7 +58,7 @@ impl Draft {
     ) -> Result<Completion, Stop>
         requires { IsUnset self.old }
         ensures { HasEnded scene.now self.old self.new line.now.command result
-            (run_at line.now.command output line.now.args (next_line_place scene.now self.old).sink (course_of scene.now self.old) (next_line_place scene.now self.old).frame_lines) }
+            (run_at line.now.command output line.now.args (here_in scene.now self.old).sink (course_of scene.now self.old) (here_in scene.now self.old).frame_lines) }
     {
         match self.gathered(scene, &line.args)? {
             None => self.run_typed(scene, line, output),
@@ -72,8 +72,8 @@ impl Draft {
     /// The commands of a Run with this text, and how many more lines of the newest frame it takes; `None` on the
     /// console.
     fn gathered(&self, scene: &Scene, text: &Text) -> Result<Option<Gathered>, NoMemory>
-        ensures gathered { IfOk result (λ all. all ≡ option_map (λ frame. run_gathering (run_limit - 1) text.now (drop frame.position frame.lines)) (next_line_place scene.now self.now).frame_lines) }
-        ensures within { IfOk result (λ all. IfSome all (λ a. a.taken ≤ lines_left (next_line_place scene.now self.now).frame_lines)) }
+        ensures gathered { IfOk result (λ all. all ≡ option_map (λ frame. run_gathering (run_limit - 1) text.now (drop frame.position frame.lines)) (here_in scene.now self.now).frame_lines) }
+        ensures within { IfOk result (λ all. IfSome all (λ a. a.taken ≤ lines_left (here_in scene.now self.now).frame_lines)) }
     {
         match self.shell.frames.newest(scene.shell) {
             None => Ok(None),
@@ -90,7 +90,7 @@ impl Draft {
     ) -> Result<Completion, Stop>
         requires { IsUnset self.old }
         ensures { HasEnded scene.now self.old self.new line.now.command result
-            (console_run line.now.command output line.now.args (next_line_place scene.now self.old).sink (course_of scene.now self.old) (before_plus line.now.args)) }
+            (console_run line.now.command output line.now.args (here_in scene.now self.old).sink (course_of scene.now self.old) (before_plus line.now.args)) }
     {
         match before_plus(line.args.as_bytes()) {
             None => {
@@ -122,8 +122,8 @@ impl Draft {
         line: &Text,
     ) -> Result<(), NoMemory>
         requires { IsUnset self.old }
-        ensures { OnOk result (Settles scene.now self.old self.new
-            (joined_completion gathering.now line.now (next_line_place scene.now self.old).sink (course_of scene.now self.old))) }
+        ensures { OnOk result (IsApplied scene.now self.old self.new
+            (joined_completion gathering.now line.now (here_in scene.now self.old).sink (course_of scene.now self.old))) }
     {
         let before = gathering.commands.as_slice();
         let Gathering { word, output, .. } = gathering;
@@ -156,8 +156,8 @@ impl Draft {
         gathering: &Gathering,
     ) -> Result<(), NoMemory>
         requires { IsUnset self.old }
-        ensures { OnOk result (Settles scene.now self.old self.new
-            (gathered_completion gathering.now (next_line_place scene.now self.old).sink (course_of scene.now self.old))) }
+        ensures { OnOk result (IsApplied scene.now self.old self.new
+            (gathered_completion gathering.now (here_in scene.now self.old).sink (course_of scene.now self.old))) }
     {
         let Gathering {
             word,
@@ -176,8 +176,8 @@ impl Draft {
         output: Option<&Target>,
     ) -> Result<(), NoMemory>
         requires { IsUnset self.old }
-        ensures { OnOk result (Settles scene.now self.old self.new
-            (answered_put word.now (new_shell commands (option_copied output.entry) (next_line_place scene.now self.old).sink (course_of scene.now self.old)))) }
+        ensures { OnOk result (IsApplied scene.now self.old self.new
+            (answered_put word.now (new_shell commands (option_copied output.entry) (here_in scene.now self.old).sink (course_of scene.now self.old)))) }
     {
         let codes = self.make_shell(scene, commands, output)?;
         self.answer(scene, word.as_bytes(), codes, false)
@@ -193,7 +193,7 @@ impl Draft {
     ) -> Result<Codes, NoMemory>
         requires { IsUnset self.old }
         ensures { IfOk result (λ codes. IsPut scene.now self.old self.new codes
-            (new_shell commands (option_copied output.entry) (next_line_place scene.now self.old).sink (course_of scene.now self.old))) }
+            (new_shell commands (option_copied output.entry) (here_in scene.now self.old).sink (course_of scene.now self.old))) }
     {
         let Some(number) = free_number(scene.shells) else {
             return Ok(Codes::failed(Result2::OBJECT_IN_USE));

@@ -104,17 +104,17 @@ impl ShellDraft {
     ///
     /// `NoMemory` if there is no room for the frames, for a new name or for what is asked for; the shell is then as it
     /// was.
-    pub fn move_in(&mut self, shell: &mut Shell) -> Result<(), NoMemory>
+    pub fn commit(&mut self, shell: &mut Shell) -> Result<(), NoMemory>
         ensures ok { OnOk result (shell.new ≡ drafted_shell self.old shell.old) }
         ensures err { OnErr result (shell.new ≡ shell.old) }
     {
         let request = self.request(shell.number)?;
-        let Stack { kept, own } = &mut self.frames;
+        let Stack { kept_count, own } = &mut self.frames;
         shell.frames.reserve(own.len())?;
         if let Some(setting) = self.setting.take() {
             shell.settings.set(setting)?;
         }
-        shell.frames.truncate(*kept);
+        shell.frames.truncate(*kept_count);
         let Ok(()) = shell.frames.append(own) else {
             unreachable!();
         };

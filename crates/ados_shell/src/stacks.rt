@@ -19,19 +19,19 @@ use std::alloc::Global;
 #[derive(Drop)]
 pub struct Stack {
     /// How many of the shell's oldest frames stay as they are.
-    pub kept: usize,
+    pub kept_count: usize,
     /// The frames above them, the oldest first.
     pub own: Vec<Frame>,
 }
 
 impl Stack {
-    ghost use Rattle.ados_machine.specs.Settle.{frames_at_line, newest};
-    ghost use Rattle.ados_shell.specs.Stacks.{drafted_frames, oldest_frames, skipped_frames, HasRoom, IsMovedOn, IsPopped};
+    ghost use Rattle.ados_machine.specs.Apply.{frames_at_line, newest};
+    ghost use Rattle.ados_shell.specs.Stacks.{drafted_frames, oldest_frames, skipped_frames, NextLineFits, IsMovedOn, IsPopped};
 
     /// No frame.
     pub fn new(alloc: Global) -> Stack {
         Stack {
-            kept: 0,
+            kept_count: 0,
             own: Vec::new(alloc),
         }
     }
@@ -40,17 +40,17 @@ impl Stack {
     pub fn keep_all(&mut self, shell: &Shell)
         ensures { drafted_frames shell.now self.new ≡ shell.now.frames }
     {
-        self.kept = shell.frames.len();
+        self.kept_count = shell.frames.len();
         self.own.clear();
     }
 
     /// The frames of the shell that stay as they are, the oldest first.
     fn lent<'a>(&self, shell: &'a Shell) -> &'a [Frame]
-        ensures lent { reverse result.now ≡ oldest_frames self.now.kept shell.now.frames }
+        ensures lent { reverse result.now ≡ oldest_frames self.now.kept_count shell.now.frames }
         ensures front { (above : List FrameState) × reverse shell.now.frames ≡ result.now ++ above }
     {
         let frames = shell.frames.as_slice();
-        &frames[..self.kept.min(frames.len())]
+        &frames[..self.kept_count.min(frames.len())]
     }
 
     /// The newest frame; `None` if none runs.
@@ -81,7 +81,7 @@ impl Stack {
             None => Ok(None),
             Some((frame, below)) => {
                 let frame = frame.share()?;
-                self.kept = below.len();
+                self.kept_count = below.len();
                 Ok(Some(frame))
             }
         }
@@ -97,7 +97,7 @@ impl Stack {
 
     /// The line of the newest frame is taken.
     pub fn move_on(&mut self, shell: &Shell) -> Result<(), NoMemory>
-        requires { HasRoom (drafted_frames shell.now self.old) }
+        requires { NextLineFits (drafted_frames shell.now self.old) }
         ensures { OnOk result (IsMovedOn shell.now self.new (drafted_frames shell.now self.old)) }
     {
         match self.pop(shell)? {

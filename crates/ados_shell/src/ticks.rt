@@ -5,7 +5,7 @@ ghost use Rattle.std.specs.Prelude.{if◌then◌else◌};
 ghost use Rattle.ados_text.specs.declared.codes.TheConstants.Result2.{TOO_MANY_LEVELS};
 ghost use Rattle.ados_machine.specs.Completions.{Ticks, line_fault};
 ghost use Rattle.ados_machine.specs.Lines.{parted_completion};
-ghost use Rattle.ados_machine.specs.Settle.{said_of, enter_tick};
+ghost use Rattle.ados_machine.specs.Apply.{rule_state_of, enter_tick};
 ghost use Rattle.ados_machine.specs.Sinks.{Kept};
 
 use crate::drafts::{Draft, ShellDraft};
@@ -23,13 +23,13 @@ use std::alloc::Global;
 const TICK_LIMIT: usize = 1024;
 
 impl Draft {
-    ghost use Rattle.ados_shell.specs.Drafts.{IsRuled, IsTicked, IsUnset, Settles, course_of, frames_of, next_line_place};
+    ghost use Rattle.ados_shell.specs.Drafts.{IsRuled, IsTicked, IsUnset, IsApplied, course_of, frames_of, here_in};
     ghost use Rattle.ados_shell.specs.Outputs.{IsPut};
 
     /// A command substitution of a line begins: if there are as many frames as a shell may have, that is the line's fault.
     pub(crate) fn tick(&mut self, scene: &Scene, tick: Tick) -> Result<(), NoMemory>
-        ensures { OnOk result (Settles scene.now self.old self.new
-            (if (next_line_place scene.now self.old).is_full then line_fault TOO_MANY_LEVELS (course_of scene.now self.old)
+        ensures { OnOk result (IsApplied scene.now self.old self.new
+            (if (here_in scene.now self.old).is_full then line_fault TOO_MANY_LEVELS (course_of scene.now self.old)
             else Ticks tick.before tick.command tick.after (course_of scene.now self.old))) }
     {
         if self.shell.frames.is_full(scene.shell) {
@@ -42,7 +42,7 @@ impl Draft {
     /// A command substitution begins, and takes its line at the next turn.
     fn begin_tick(&mut self, scene: &Scene, tick: Tick) -> Result<(), NoMemory>
         ensures { OnOk result (IsRuled scene.now self.old self.new
-            (enter_tick tick.before tick.command tick.after (frames_of scene.now self.old) (said_of (course_of scene.now self.old)))) }
+            (enter_tick tick.before tick.command tick.after (frames_of scene.now self.old) (rule_state_of (course_of scene.now self.old)))) }
     {
         let Tick {
             before,
@@ -103,8 +103,8 @@ impl Draft {
     /// Goes on with a line whose command substitution has ended.
     pub(crate) fn go_on(&mut self, scene: &Scene, parted: &Parted) -> Result<(), NoMemory>
         requires { IsUnset self.old }
-        ensures { OnOk result (Settles scene.now self.old self.new
-            (parted_completion parted.now (next_line_place scene.now self.old) (course_of scene.now self.old))) }
+        ensures { OnOk result (IsApplied scene.now self.old self.new
+            (parted_completion parted.now (here_in scene.now self.old) (course_of scene.now self.old))) }
     {
         let output = parted.output.as_bytes();
         let expanded = resume(scene.alloc, &parted.before, output, &parted.after);

@@ -3,8 +3,8 @@ ghost use Rattle.std.specs.Prelude.{◌≡◌, [], IfOk, OnErr, OnOk, OnSome};
 ghost use Rattle.std.specs.Option.{option_copied};
 ghost use Rattle.ados_machine.specs.Lines.{answer_completion, line_completion, parted_completion};
 ghost use Rattle.ados_machine.specs.NewShells.{gathered_completion, joined_completion};
-ghost use Rattle.ados_machine.specs.Settle.{here_of, turn_of_completion};
-ghost use Rattle.ados_shell.specs.Stacks.{HasRoom};
+ghost use Rattle.ados_machine.specs.Apply.{here_of, turn_of_completion};
+ghost use Rattle.ados_shell.specs.Stacks.{NextLineFits};
 ghost use Rattle.ados_shell.specs.Turnings.{next_frame_line};
 
 use crate::drafts::Draft;
@@ -16,7 +16,7 @@ use ados_text::{NoMemory, Text};
 
 /// What a turn of a shell results in.
 #[derive(Clone, Copy)]
-pub enum Turning {
+pub enum TurnKind {
     /// The shell has nothing to take.
     NotReady,
     /// It ends: it runs no frame, and no line will come.
@@ -44,7 +44,7 @@ impl Draft {
     ///
     /// `NoMemory` if there is none for what the turn makes, and only if the shell has something to
     /// take: its end needs no memory.
-    pub fn turn(&mut self, scene: &Scene, input: &Input) -> Result<Turning, NoMemory>
+    pub fn turn(&mut self, scene: &Scene, input: &Input) -> Result<TurnKind, NoMemory>
         ensures turn { IfOk result (λ turn. GivesTurning scene.now input.now (scene_turning scene.now input.now) turn self.new) }
         ensures memory { OnErr result (MayLackMemory input.now (scene_turning scene.now input.now)) }
     {
@@ -57,7 +57,7 @@ impl Draft {
     }
 
     /// The same if no flag is found.
-    fn plain_turn(&mut self, scene: &Scene, input: &Input) -> Result<Turning, NoMemory>
+    fn plain_turn(&mut self, scene: &Scene, input: &Input) -> Result<TurnKind, NoMemory>
         ensures turn { IfOk result (λ turn. GivesTurning scene.now input.now (plain_turning scene.now input.now scene.now.shell.now.phase) turn self.new) }
         ensures memory { OnErr result (MayLackMemory input.now (plain_turning scene.now input.now scene.now.shell.now.phase)) }
     {
@@ -67,7 +67,7 @@ impl Draft {
             Some(suspension) => match &**suspension {
                 Suspension::GoingOn(parted) => {
                     self.take_parted(scene, parted)?;
-                    Ok(Turning::Goes)
+                    Ok(TurnKind::Goes)
                 }
                 Suspension::Waiting(Wait::ForAnswer(asking)) => {
                     self.answer_turn(scene, asking, input)
@@ -76,7 +76,7 @@ impl Draft {
                     self.gathering_turn(scene, gathering, input)
                 }
                 Suspension::Waiting(Wait::ForStart(_) | Wait::ForPiece(_) | Wait::ForEnd(_)) => {
-                    Ok(Turning::NotReady)
+                    Ok(TurnKind::NotReady)
                 }
             },
         }
@@ -93,7 +93,7 @@ impl Draft {
     }
 
     /// A turn of a shell in the phase Ready.
-    fn ready_turn(&mut self, scene: &Scene, input: &Input) -> Result<Turning, NoMemory>
+    fn ready_turn(&mut self, scene: &Scene, input: &Input) -> Result<TurnKind, NoMemory>
         ensures turn { IfOk result (λ turn. GivesTurning scene.now input.now (plain_turning scene.now input.now Ready) turn self.new) }
         ensures memory { OnErr result (MayLackMemory input.now (plain_turning scene.now input.now Ready)) }
     {
@@ -102,7 +102,7 @@ impl Draft {
             self.console_turn(scene, input)
         } else {
             self.script_turn(scene)?;
-            Ok(Turning::Goes)
+            Ok(TurnKind::Goes)
         }
     }
 
@@ -112,19 +112,19 @@ impl Draft {
         scene: &Scene,
         gathering: &Gathering,
         input: &Input,
-    ) -> Result<Turning, NoMemory>
+    ) -> Result<TurnKind, NoMemory>
         ensures turn { IfOk result (λ turn. GivesTurning scene.now input.now (plain_turning scene.now input.now (Waiting (ForLines gathering.now))) turn self.new) }
         ensures memory { OnErr result (MayLackMemory input.now (plain_turning scene.now input.now (Waiting (ForLines gathering.now)))) }
     {
         match input.line {
             Some(line) => {
                 self.take_command(scene, gathering, line)?;
-                Ok(Turning::Takes)
+                Ok(TurnKind::Takes)
             }
-            None if !input.is_ended => Ok(Turning::NotReady),
+            None if !input.is_ended => Ok(TurnKind::NotReady),
             None => {
                 self.take_no_command(scene, gathering)?;
-                Ok(Turning::Goes)
+                Ok(TurnKind::Goes)
             }
         }
     }
@@ -160,19 +160,19 @@ impl Draft {
         scene: &Scene,
         asking: &Asking,
         input: &Input,
-    ) -> Result<Turning, NoMemory>
+    ) -> Result<TurnKind, NoMemory>
         ensures turn { IfOk result (λ turn. GivesTurning scene.now input.now (plain_turning scene.now input.now (Waiting (ForAnswer asking.now))) turn self.new) }
         ensures memory { OnErr result (MayLackMemory input.now (plain_turning scene.now input.now (Waiting (ForAnswer asking.now)))) }
     {
         match input.line {
             Some(line) => {
                 self.take_answer(scene, asking, line)?;
-                Ok(Turning::Takes)
+                Ok(TurnKind::Takes)
             }
-            None if !input.is_ended => Ok(Turning::NotReady),
+            None if !input.is_ended => Ok(TurnKind::NotReady),
             None => {
                 self.take_answer(scene, asking, &Text::new(scene.alloc))?;
-                Ok(Turning::Goes)
+                Ok(TurnKind::Goes)
             }
         }
     }
@@ -188,7 +188,7 @@ impl Draft {
     }
 
     /// A turn of a shell in the phase Ready that runs no frame.
-    fn console_turn(&mut self, scene: &Scene, input: &Input) -> Result<Turning, NoMemory>
+    fn console_turn(&mut self, scene: &Scene, input: &Input) -> Result<TurnKind, NoMemory>
         requires { scene.now.shell.now.frames ≡ [] }
         ensures turn { IfOk result (λ turn. GivesTurning scene.now input.now (console_turning scene.now input.now) turn self.new) }
         ensures memory { OnErr result (MayLackMemory input.now (console_turning scene.now input.now)) }
@@ -196,10 +196,10 @@ impl Draft {
         match input.line {
             Some(line) => {
                 self.take_typed(scene, line)?;
-                Ok(Turning::Takes)
+                Ok(TurnKind::Takes)
             }
-            None if !input.is_ended => Ok(Turning::NotReady),
-            None => Ok(Turning::Ends),
+            None if !input.is_ended => Ok(TurnKind::NotReady),
+            None => Ok(TurnKind::Ends),
         }
     }
 
@@ -236,7 +236,7 @@ impl Shell {
     /// The next line of the newest frame; `None` if none is left.
     fn next_line(&self) -> Option<&Text>
         ensures line { option_copied result ≡ next_frame_line self.now.frames }
-        ensures below { OnSome result (HasRoom self.now.frames) }
+        ensures below { OnSome result (NextLineFits self.now.frames) }
     {
         match self.frames.last() {
             None => None,

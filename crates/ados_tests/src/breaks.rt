@@ -3,7 +3,7 @@ use crate::memory::{FlakyReader, FlakyWriter, NEVER};
 use crate::wrong::{Wrong, expect, expect_row};
 use ados_launch::{BreakAt, Counted, Drive, DriveFault, End, Listed};
 use ados_text::NoMemory;
-use ados_world::{Kind, World};
+use ados_world::{BreakKind, World};
 use std::alloc::Global;
 
 // How a fresh world ends that is driven by one line with these breaks. `NoMemory` for the world is passed on.
@@ -68,7 +68,7 @@ fn rows(alloc: Global, rows: &[(u64, u8, u64, Option<u64>, usize)]) -> Result<()
         let at = BreakAt {
             event: *event,
             shell: *shell,
-            kind: Kind::D,
+            kind: BreakKind::D,
         };
         let want = (taken.ok_or(DriveFault::Turns), *bytes);
         expect_row(driven(alloc, &[at], *turns)? == want, place)?;
@@ -86,12 +86,12 @@ const FALLING: &[BreakAt] = &[
     BreakAt {
         event: 3,
         shell: 1,
-        kind: Kind::C,
+        kind: BreakKind::C,
     },
     BreakAt {
         event: 1,
         shell: 1,
-        kind: Kind::D,
+        kind: BreakKind::D,
     },
 ];
 

@@ -7,11 +7,11 @@ use Rattle.ados_find.specs.declared.codes.Codes.{Codes}
 use Rattle.ados_machine.specs.declared.events.Event.TheVariants as event
 use Rattle.ados_machine.specs.declared.outs.Out.{Out}
 use Rattle.ados_machine.specs.declared.refusals.Refusal.TheVariants.{NoMemory, Over, WrongAnswer}
-use Rattle.ados_machine.specs.declared.events.Kind.{Kind}
+use Rattle.ados_machine.specs.declared.events.BreakKind.{BreakKind}
 use Rattle.ados_machine.specs.Breaks.{kind_breaks, broken_number}
 use Rattle.ados_machine.specs.Shells.{ShellState}
 use Rattle.ados_machine.specs.Limits.{IsSane}
-use Rattle.ados_machine.specs.Runs.{IsAnswer, resulting_world}
+use Rattle.ados_machine.specs.Runs.{IsResponse, resulting_world}
 use Rattle.ados_machine.specs.Turning as turning
 use Rattle.ados_machine.specs.World.{WorldState, input_of, is_over, numbered_shell}
 use Rattle.ados_machine.specs.declared.answers.Answer.{Answer as Reply}
@@ -22,8 +22,8 @@ use Rattle.ados_machine.specs.Step.{Response, Refused, Accepted, turning_respons
 use Rattle.ados_machine.proofs.Sane.{sane-after}
 use Rattle.ados_shell.specs.declared.drafts.Draft.{Draft}
 use Rattle.ados_shell.specs.declared.scenes.Scene.{Scene}
-use Rattle.ados_shell.specs.declared.turnings.Turning.TheVariants as turn
-use Rattle.ados_shell.specs.Turnings.{IsTurning, MayWantMemory}
+use Rattle.ados_shell.specs.declared.turnings.TurnKind.TheVariants as turn
+use Rattle.ados_shell.specs.Turnings.{IsTurning, TurnMayFailToAllocate}
 use Rattle.ados_world.specs.Scenes.{Shows}
 use Rattle.ados_world.specs.Steps.{draft_out, world_after_turn}
 use Rattle.ados_world.proofs.StepLemmas.{start_in, Accepts, goes}
@@ -41,7 +41,7 @@ as-turning : (scene : Scene) (queue : List (List ℕ)) (draft : Draft) (turning 
     → IsAnswering scene queue reply.Goes draft turning → IsTurning scene queue turn.Goes draft turning
 as-turning scene queue draft (turning.Refuses why) t = absurd t
 as-turning scene queue draft turning.Ends t = absurd t
-as-turning scene queue draft (turning.Takes rest turn_response) t = t
+as-turning scene queue draft (turning.Turned rest turn_response) t = t
 
 -- an answer by which the shell went on
 pub answer-goes : {found : Answering} (w : WorldState) (k : ℕ) (shell : ShellState) (scene : Scene) (answer : Reply) (draft : Draft) → Shows w k shell scene
@@ -55,37 +55,37 @@ answer-goes w k shell scene answer draft s is gives =
 
 -- an answer that is accepted may still be refused if an allocation fails
 pub accepted-wants : (w world : WorldState) (k : ℕ) (answer : Reply) (given : Out) (response : Response) → Accepts response world given
-    → IsAnswer (event.Answer k answer) (Err NoMemory) response
+    → IsResponse (event.Answer k answer) (Err NoMemory) response
 accepted-wants w world k answer given (Accepted other out items) accepts = tt
 accepted-wants w world k answer given (Refused why) (items, e) = cc
 
 -- the machine goes on, but an allocation may fail
-took-wants : (k : ℕ) (answer : Reply) (w : WorldState) (codes : Codes) (turning : turning.Turning) → MayWantMemory turning
-    → IsAnswer (event.Answer k answer) (Err NoMemory) (turning_response w k codes turning)
+took-wants : (k : ℕ) (answer : Reply) (w : WorldState) (codes : Codes) (turning : turning.Turning) → TurnMayFailToAllocate turning
+    → IsResponse (event.Answer k answer) (Err NoMemory) (turning_response w k codes turning)
 took-wants k answer w codes (turning.Refuses why) m = absurd m
 took-wants k answer w codes turning.Ends m = absurd m
-took-wants k answer w codes (turning.Takes rest turn_response) m = tt
+took-wants k answer w codes (turning.Turned rest turn_response) m = tt
 
 pub answer-wants : (w : WorldState) (k : ℕ) (shell : ShellState) (scene : Scene) (answer : Reply) → Shows w k shell scene
-    → MayWantMemory (scene_answering scene (input_of w k) answer)
-    → IsAnswer (event.Answer k answer) (Err NoMemory) (answered_of w k answer (numbered_shell w k))
+    → TurnMayFailToAllocate (scene_answering scene (input_of w k) answer)
+    → IsResponse (event.Answer k answer) (Err NoMemory) (answered_of w k answer (numbered_shell w k))
 answer-wants w k shell scene answer s m =
-    (let P : Response → Type 0 = λ r. IsAnswer (event.Answer k answer) (Err NoMemory) r in
+    (let P : Response → Type 0 = λ r. IsResponse (event.Answer k answer) (Err NoMemory) r in
     subst P (sym (ap (answered_of w k answer) s.here))
-    (took-wants k answer w shell.parts.codes _ (subst MayWantMemory (answering-is w k shell scene answer s) m)))
+    (took-wants k answer w shell.parts.codes _ (subst TurnMayFailToAllocate (answering-is w k shell scene answer s) m)))
 
 -- an answer of another kind is refused
 refuses-wrong : (scene : Scene) (queue : List (List ℕ)) (draft : Draft) (k : ℕ) (answer : Reply) (w : WorldState) (codes : Codes) (turning : turning.Turning)
-    → IsAnswering scene queue reply.WrongAnswer draft turning → IsAnswer (event.Answer k answer) (Err WrongAnswer) (turning_response w k codes turning)
+    → IsAnswering scene queue reply.WrongAnswer draft turning → IsResponse (event.Answer k answer) (Err WrongAnswer) (turning_response w k codes turning)
 refuses-wrong scene queue draft k answer w codes (turning.Refuses why) t = sym t
 refuses-wrong scene queue draft k answer w codes turning.Ends t = absurd t
-refuses-wrong scene queue draft k answer w codes (turning.Takes rest turn_response) t = absurd t
+refuses-wrong scene queue draft k answer w codes (turning.Turned rest turn_response) t = absurd t
 
 pub answer-wrong : {found : Answering} (w : WorldState) (k : ℕ) (shell : ShellState) (scene : Scene) (answer : Reply) (draft : Draft) → Shows w k shell scene
     → found ≡ reply.WrongAnswer → GivesReply scene answer found draft
-    → IsAnswer (event.Answer k answer) (Err WrongAnswer) (answered_of w k answer (numbered_shell w k))
+    → IsResponse (event.Answer k answer) (Err WrongAnswer) (answered_of w k answer (numbered_shell w k))
 answer-wrong w k shell scene answer draft s is gives =
-    (let P : Response → Type 0 = λ r. IsAnswer (event.Answer k answer) (Err WrongAnswer) r in
+    (let P : Response → Type 0 = λ r. IsResponse (event.Answer k answer) (Err WrongAnswer) r in
     let Q : turning.Turning → Type 0 = λ x. IsAnswering scene (input_of w k).queue reply.WrongAnswer draft x in
     let t = subst (λ a. GivesReply scene answer a draft) is gives (input_of w k) in
     subst P (sym (ap (answered_of w k answer) s.here))
@@ -104,7 +104,7 @@ pub copied-some : {X : Type 0} (shown : Option (Bor X)) → is_some shown ≡ tr
 copied-some None e = e
 copied-some (Some shell) e = refl
 
-found-broken : (w : WorldState) (k : ℕ) (kind : Kind) (found : Option ShellState) → numbered_shell w k ≡ found → is_some found ≡ true → IsSane w → is_over w ≡ false
+found-broken : (w : WorldState) (k : ℕ) (kind : BreakKind) (found : Option ShellState) → numbered_shell w k ≡ found → is_some found ≡ true → IsSane w → is_over w ≡ false
     → IsSane (record w { shells = broken_number (kind_breaks kind) k w.shells })
 found-broken w k kind None e runs sane over = cc
 found-broken w k kind (Some shell) e runs sane over =
@@ -113,6 +113,6 @@ found-broken w k kind (Some shell) e runs sane over =
     subst P (ap (λ b. if b then Refused Over else break_response w k kind (numbered_shell w k)) over ∙ ap (λ f. break_response w k kind f) e) (sane-after w (event.Break k kind) (Ok given) sane))
 
 -- no script runs on after a failure in the world that a break leaves
-pub sane-broken : (w : WorldState) (k : ℕ) (kind : Kind) → IsSane w → is_over w ≡ false → is_some (numbered_shell w k) ≡ true
+pub sane-broken : (w : WorldState) (k : ℕ) (kind : BreakKind) → IsSane w → is_over w ≡ false → is_some (numbered_shell w k) ≡ true
     → IsSane (record w { shells = broken_number (kind_breaks kind) k w.shells })
 sane-broken w k kind sane over runs = found-broken w k kind (numbered_shell w k) refl runs sane over

@@ -5,19 +5,19 @@ use Rattle.ados_machine.specs.declared.answers.Answer.{Answer as Reply}
 use Rattle.ados_machine.specs.declared.events.Event.{Event}
 use Rattle.ados_machine.specs.declared.events.Event.TheVariants.{Turn, Answer}
 use Rattle.ados_machine.specs.declared.outs.Out.{Out}
-use Rattle.ados_machine.specs.Runs.{IsAnswer, resulting_world}
+use Rattle.ados_machine.specs.Runs.{IsResponse, resulting_world}
 use Rattle.ados_machine.specs.Shells.{ShellState}
 use Rattle.ados_machine.specs.Step.{Response, Refused, Accepted, answer_response, turning_response, start, step_of, turn_response, course_without_flag}
-use Rattle.ados_machine.specs.Turning.{Turning, Refuses, Ends, Takes, turning_of_answer, flagged_turning}
+use Rattle.ados_machine.specs.Turning.{Turning, Refuses, Ends, Turned, turning_of_answer, flagged_turning}
 use Rattle.ados_machine.specs.World.{WorldState, input_of, numbered_shell}
 use Rattle.ados_machine.proofs.BindingLemmas.{binds-only}
-use Rattle.ados_world.specs.Binding.{BindsWhatItUsed, TurningBinds}
+use Rattle.ados_world.specs.Binding.{BindsOnlyWhatItUsed, TurningBinds}
 use Rattle.ados_machine.proofs.StepCases.{of-step}
 
 -- the same of an answer that accepts it
 abbrev BindsBy : WorldState → Event → Response → Type 0
 BindsBy w event (Refused why) = Unit {0}
-BindsBy w event (Accepted world out items) = BindsWhatItUsed w event world
+BindsBy w event (Accepted world out items) = BindsOnlyWhatItUsed w event world
 
 abbrev PlaceBinds : Turning → Response → Type 0
 PlaceBinds turning (Refused why) = Unit {0}
@@ -26,7 +26,7 @@ PlaceBinds turning (Accepted world out items) = TurningBinds turning world.share
 applied-binds : (w : WorldState) (k : ℕ) (codes : Codes) (turning : Turning) → PlaceBinds turning (turning_response w k codes turning)
 applied-binds w k codes (Refuses why) = tt
 applied-binds w k codes Ends = tt
-applied-binds w k codes (Takes queue turn_response) = binds-only w _ k queue turn_response _ _ refl
+applied-binds w k codes (Turned queue turn_response) = binds-only w _ k queue turn_response _ _ refl
 
 by-turn : (w : WorldState) (k : ℕ) (shell : ShellState) (r : Response) → numbered_shell w k ≡ Some shell
     → PlaceBinds (flagged_turning shell.flagged (input_of w k) shell.frames (course_without_flag (start w shell)) shell.phase) r → BindsBy w (Turn k) r
@@ -60,11 +60,11 @@ step-by w event = of-step w (BindsBy w) (record {
   broken = λ k kind shell is. refl;
 }) event
 
-accepted-binds : (w : WorldState) (event : Event) (out : Out) (r : Response) → IsAnswer event (Ok out) r → BindsBy w event r
-    → BindsWhatItUsed w event (resulting_world w (Ok out) r)
+accepted-binds : (w : WorldState) (event : Event) (out : Out) (r : Response) → IsResponse event (Ok out) r → BindsBy w event r
+    → BindsOnlyWhatItUsed w event (resulting_world w (Ok out) r)
 accepted-binds w event out (Refused why) answer binds = absurd answer
 accepted-binds w event out (Accepted world given items) answer binds = binds
 
-pub step-binds : (w : WorldState) (event : Event) (out : Out) → IsAnswer event (Ok out) (step_of w event)
-    → BindsWhatItUsed w event (resulting_world w (Ok out) (step_of w event))
+pub step-binds : (w : WorldState) (event : Event) (out : Out) → IsResponse event (Ok out) (step_of w event)
+    → BindsOnlyWhatItUsed w event (resulting_world w (Ok out) (step_of w event))
 step-binds w event out answer = accepted-binds w event out (step_of w event) answer (step-by w event)

@@ -13,21 +13,21 @@ use Rattle.ados_machine.specs.declared.outs.Out.{Out}
 use Rattle.ados_machine.specs.declared.refusals.Refusal.{Refusal}
 use Rattle.ados_machine.specs.Breaks.{has_script, kept_after_break}
 use Rattle.ados_machine.specs.Course.{Course}
-use Rattle.ados_machine.specs.Items.{Item, Began, Answered, Ended, Broke, break_item, reports_of}
+use Rattle.ados_machine.specs.Items.{TraceItem, Began, Answered, Ended, Broke, break_item, reports_of}
 use Rattle.ados_machine.specs.Laws.{finds_flag, has_break, is_breakable}
-use Rattle.ados_machine.specs.Runs.{IsAnswer, Runs, resulting_world}
-use Rattle.ados_machine.specs.Settled.{RuleState, RuleResult, after_break, with_items_first, end_at_break}
+use Rattle.ados_machine.specs.Runs.{IsResponse, Runs, resulting_world}
+use Rattle.ados_machine.specs.CodeRule.{RuleState, RuleResult, after_break, with_items_first, end_at_break}
 use Rattle.ados_machine.specs.Shells.{ShellState}
 use Rattle.ados_machine.specs.Step.{Response, Refused, Accepted, turning_response, start, step_of, turn_response, course_without_flag}
 use Rattle.ados_machine.specs.Trace.{ends_in}
-use Rattle.ados_machine.specs.Turning.{Input, Turning, Refuses, Ends, Takes, turning_at_break, turning_in_phase}
+use Rattle.ados_machine.specs.Turning.{Input, Turning, Refuses, Ends, Turned, turning_at_break, turning_in_phase}
 use Rattle.ados_machine.specs.World.{WorldState, input_of, is_over, numbered_shell}
 use Rattle.ados_machine.proofs.BreakLemmas.{breaks-end}
 use Rattle.ados_machine.proofs.Ends.{reports-hold}
 use Rattle.ados_world.specs.Laws.{BreaksEndScriptsIn, reports_break}
 
 -- if no frame ended at a break no end reports one
-ends-whole : (items : List (ℕ × Item)) → has_break items ≡ false → reports_break (ends_in items) ≡ false
+ends-whole : (items : List (ℕ × TraceItem)) → has_break items ≡ false → reports_break (ends_in items) ≡ false
 ends-whole [] e = refl
 ends-whole ((k, Began depth kind limit) ∷ items) e = ends-whole items e
 ends-whole ((k, Answered depth entry) ∷ items) e = ends-whole items e
@@ -37,34 +37,34 @@ ends-whole ((k, Ended depth (Tick before after) line codes early) ∷ items) e =
 ends-whole ((k, Broke depth kind line) ∷ items) e = cc
 
 -- the end of a script at a break is reported
-told-first : (k depth : ℕ) (kind : FrameKind) (line : ℕ) (log : List Item) → is_script kind ≡ true →
+told-first : (k depth : ℕ) (kind : FrameKind) (line : ℕ) (log : List TraceItem) → is_script kind ≡ true →
     reports_break (reports_of k (Broke depth kind line ∷ log)) ≡ true
 told-first k depth (Script name command) line log e = refl
 told-first k depth RunCommands line log e = cc
 told-first k depth (Tick before after) line log e = cc
 
-told-later : (k depth : ℕ) (kind : FrameKind) (line : ℕ) (log : List Item) → reports_break (reports_of k log) ≡ true →
+told-later : (k depth : ℕ) (kind : FrameKind) (line : ℕ) (log : List TraceItem) → reports_break (reports_of k log) ≡ true →
     reports_break (reports_of k (Broke depth kind line ∷ log)) ≡ true
 told-later k depth (Script name command) line log e = refl
 told-later k depth RunCommands line log e = e
 told-later k depth (Tick before after) line log e = e
 
 -- the same if a script runs below a frame
-below-told : (k depth : ℕ) (frame : FrameState) (frames : List FrameState) (said : RuleState) (n : ℕ) (further : RuleResult) → nat_lt 0 n ≡ true →
+below-told : (k depth : ℕ) (frame : FrameState) (frames : List FrameState) (rule_state : RuleState) (n : ℕ) (further : RuleResult) → nat_lt 0 n ≡ true →
     reports_break (reports_of k further.log) ≡ true →
-    reports_break (reports_of k (with_items_first (break_item depth frame ∷ []) (after_break n frame.kind frame.limit further frames said)).log) ≡ true
-below-told k depth frame frames said zero further e told = cc
-below-told k depth frame frames said (suc n) further e told = told-later k depth frame.kind _ further.log told
+    reports_break (reports_of k (with_items_first (break_item depth frame ∷ []) (after_break n frame.kind frame.limit further frames rule_state)).log) ≡ true
+below-told k depth frame frames rule_state zero further e told = cc
+below-told k depth frame frames rule_state (suc n) further e told = told-later k depth frame.kind _ further.log told
 
 -- a break of frames of which one is a script is reported
-broken-told : (k : ℕ) (frames : List FrameState) (said : RuleState) → has_script frames ≡ true → reports_break (reports_of k (end_at_break frames said).log) ≡ true
-broken-told k [] said e = cc
-broken-told k (frame ∷ frames) said e =
-    let inner = record said { kept = kept_after_break frame.kind said.kept } in
+broken-told : (k : ℕ) (frames : List FrameState) (rule_state : RuleState) → has_script frames ≡ true → reports_break (reports_of k (end_at_break frames rule_state).log) ≡ true
+broken-told k [] rule_state e = cc
+broken-told k (frame ∷ frames) rule_state e =
+    let inner = record rule_state { kept = kept_after_break frame.kind rule_state.kept } in
     elim (cases_Bool (is_script frame.kind)) [
       | inl script ↦ told-first k (suc (length frames)) frame.kind (last_line frame.last) _ script
       | inr other ↦ (let some : has_script frames ≡ true = rw other at e in
-          below-told k (suc (length frames)) frame frames said (script_count frames) (end_at_break frames inner) some (broken-told k frames inner some))
+          below-told k (suc (length frames)) frame frames rule_state (script_count frames) (end_at_break frames inner) some (broken-told k frames inner some))
     ]
 
 -- so a turn that finds a flag reports it, if frames end
@@ -76,7 +76,7 @@ place-tells : (w : WorldState) (k : ℕ) (codes : Codes) (event : Turning) (inpu
     has_script frames ≡ true → Tells (turning_response w k codes (turning_at_break event input frames course))
 place-tells w k codes (Refuses why) input frames course e = tt
 place-tells w k codes Ends input frames course e = λ none. cc
-place-tells w k codes (Takes queue t) input frames course e = λ some. broken-told k frames _ e
+place-tells w k codes (Turned queue t) input frames course e = λ some. broken-told k frames _ e
 
 turn-tells : (w : WorldState) (k : ℕ) (o : Option ShellState) → is_breakable o ≡ true → Tells (turn_response w k o)
 turn-tells w k None e = cc
@@ -101,15 +101,15 @@ event-tells w (Answer k reply) e = cc
 event-tells w (Break k kind) e = cc
 
 -- the reports of an event are the ends among what it leaves in the trace
-reports-are : (w : WorldState) (event : Event) (world : WorldState) (out : Out) (items : List (ℕ × Item)) →
+reports-are : (w : WorldState) (event : Event) (world : WorldState) (out : Out) (items : List (ℕ × TraceItem)) →
     step_of w event ≡ Accepted world out items → out.reports ≡ ends_in items
 reports-are w event world out items is =
-    let answer : IsAnswer event (Ok out) (step_of w event) = rw is refl in
+    let answer : IsResponse event (Ok out) (step_of w event) = rw is refl in
     let held = reports-hold w (event ∷ []) (Ok out ∷ []) (resulting_world w (Ok out) (step_of w event)) (answer, refl) in
     sym (append-nil out.reports) ∙ (rw is at held) ∙ ap ends_in (append-nil items)
 
 -- an accepted event reports a break exactly when it finds a flag
-breaks-told : (w : WorldState) (event : Event) (world : WorldState) (out : Out) (items : List (ℕ × Item)) →
+breaks-told : (w : WorldState) (event : Event) (world : WorldState) (out : Out) (items : List (ℕ × TraceItem)) →
     step_of w event ≡ Accepted world out items → reports_break out.reports ≡ finds_flag w event
 breaks-told w event world out items is =
     let ends = breaks-end w event world out items is in
@@ -118,13 +118,13 @@ breaks-told w event world out items is =
       | inr none ↦ ap reports_break (reports-are w event world out items is) ∙ ends-whole items (ends ∙ none) ∙ sym none
     ]
 
-event-told : (w : WorldState) (event : Event) (out : Result Out Refusal) (r : Response) → step_of w event ≡ r → IsAnswer event out r →
+event-told : (w : WorldState) (event : Event) (out : Result Out Refusal) (r : Response) → step_of w event ≡ r → IsResponse event out r →
     IfOk out (λ given. reports_break given.reports ≡ finds_flag w event)
 event-told w event (Err why) r is answer = tt
 event-told w event (Ok out) (Refused why) is answer = absurd answer
 event-told w event (Ok out) (Accepted world given items) is answer = rw answer (breaks-told w event world given items is)
 
-pub step-told : (w : WorldState) (event : Event) (out : Out) → IsAnswer event (Ok out) (step_of w event) → reports_break out.reports ≡ finds_flag w event
+pub step-told : (w : WorldState) (event : Event) (out : Out) → IsResponse event (Ok out) (step_of w event) → reports_break out.reports ≡ finds_flag w event
 step-told w event out answer = event-told w event (Ok out) (step_of w event) refl answer
 
 pub breaks-end-in : (w : WorldState) (events : List Event) (outs : List (Result Out Refusal)) (last : WorldState) → Runs w events outs last →

@@ -7,13 +7,13 @@ use Rattle.ados_find.specs.declared.outcomes.Renamed.{Renamed}
 use Rattle.ados_flow.specs.Frames.{FrameState}
 use Rattle.ados_machine.specs.declared.events.Event.TheVariants as event
 use Rattle.ados_machine.specs.declared.refusals.Refusal.TheVariants.{NoMemory}
-use Rattle.ados_machine.specs.Items.{Item}
+use Rattle.ados_machine.specs.Items.{TraceItem}
 use Rattle.ados_machine.specs.Limits.{IsSane, RunsFrame}
 use Rattle.ados_machine.specs.Numbers.{free_number}
 use Rattle.ados_machine.specs.Runs as memory
 use Rattle.ados_machine.specs.Course.{shared_after_event}
-use Rattle.ados_machine.specs.Runs.{IsAnswer}
-use Rattle.ados_machine.specs.Settle.{TurnResult}
+use Rattle.ados_machine.specs.Runs.{IsResponse}
+use Rattle.ados_machine.specs.Apply.{TurnResult}
 use Rattle.ados_machine.specs.Shells.{ShellState}
 use Rattle.ados_machine.specs.Stacks.{stack_of}
 use Rattle.ados_machine.specs.Step.{turning_response, begun_items, codes_of_ended, is_done, shell_after_turn, moved_at_turn, of_shell, queue_after_event, start, turn_response, course_without_flag}
@@ -22,7 +22,7 @@ use Rattle.ados_machine.specs.World.{WorldState, has_frame, input_of, numbered_s
 use Rattle.ados_machine.proofs.Shells.{shells_after, found, found-left}
 use Rattle.ados_machine.proofs.Turnings.{TurningGoes, flagged-goes}
 use Rattle.ados_machine.proofs.Turns.{Goes}
-use Rattle.ados_shell.specs.Turnings.{MayWantMemory}
+use Rattle.ados_shell.specs.Turnings.{TurnMayFailToAllocate}
 
 -- frames with the same stack
 stack-frame : (frames others : List FrameState) → stack_of frames ≡ stack_of others → has_frame others ≡ true → has_frame frames ≡ true
@@ -62,12 +62,12 @@ shell-stays w k shell t sane here goes none =
     ap is_some (found-left w.shells k shell (moved_at_turn w t) t here) ∙ left-is k (moved_at_turn w t) t (runs-on w k shell t sane here goes none)
 
 -- a turn after which the shell runs on may need memory
-may-want : (k : ℕ) (world : WorldState) (items : List (ℕ × Item)) → is_some (numbered_shell world k) ≡ true → memory.MayWantMemory (event.Turn k) world items
+may-want : (k : ℕ) (world : WorldState) (items : List (ℕ × TraceItem)) → is_some (numbered_shell world k) ≡ true → memory.MayFailToAllocate (event.Turn k) world items
 may-want k world [] e = e
 may-want k world (item ∷ items) e = tt
 
-log-wants : (k : ℕ) (world : WorldState) (all log : List Item) (more : List (ℕ × Item)) → all ≡ log → (all ≡ [] → is_some (numbered_shell world k) ≡ true)
-    → memory.MayWantMemory (event.Turn k) world (of_shell k log ++ more)
+log-wants : (k : ℕ) (world : WorldState) (all log : List TraceItem) (more : List (ℕ × TraceItem)) → all ≡ log → (all ≡ [] → is_some (numbered_shell world k) ≡ true)
+    → memory.MayFailToAllocate (event.Turn k) world (of_shell k log ++ more)
 log-wants k world all [] more e runs = may-want k world more (runs e)
 log-wants k world all (item ∷ log) more e runs = tt
 
@@ -81,16 +81,16 @@ after w k rest t = record w {
 }
 
 wants : (w : WorldState) (k : ℕ) (shell : ShellState) (turning : turning.Turning) → IsSane w → numbered_shell w k ≡ Some shell
-    → TurningGoes shell.parts shell.frames turning → MayWantMemory turning → IsAnswer (event.Turn k) (Err NoMemory) (turning_response w k shell.parts.codes turning)
+    → TurningGoes shell.parts shell.frames turning → TurnMayFailToAllocate turning → IsResponse (event.Turn k) (Err NoMemory) (turning_response w k shell.parts.codes turning)
 wants w k shell (turning.Refuses why) sane here goes m = absurd m
 wants w k shell turning.Ends sane here goes m = absurd m
-wants w k shell (turning.Takes rest t) sane here goes m =
+wants w k shell (turning.Turned rest t) sane here goes m =
     log-wants k (after w k rest t) t.log t.log (begun_items t.course.begun (free_number w.shells)) refl (shell-stays w k shell t sane here goes)
 
 -- a turn that was accepted may need memory
 pub turn-may : (w : WorldState) (k : ℕ) (shell : ShellState) → IsSane w → numbered_shell w k ≡ Some shell
-    → MayWantMemory (turning.flagged_turning shell.flagged (input_of w k) shell.frames (course_without_flag (start w shell)) shell.phase)
-    → IsAnswer (event.Turn k) (Err NoMemory) (turn_response w k (Some shell))
+    → TurnMayFailToAllocate (turning.flagged_turning shell.flagged (input_of w k) shell.frames (course_without_flag (start w shell)) shell.phase)
+    → IsResponse (event.Turn k) (Err NoMemory) (turn_response w k (Some shell))
 turn-may w k shell sane here m =
     let course = course_without_flag (start w shell) in
     wants w k shell (turning.flagged_turning shell.flagged (input_of w k) shell.frames course shell.phase) sane here

@@ -5,7 +5,7 @@ use Rattle.ados_find.specs.declared.codes.Codes.{Codes}
 use Rattle.ados_find.specs.declared.outcomes.Renamed.{Renamed}
 use Rattle.ados_machine.specs.Carrying.{carried_or_same}
 use Rattle.ados_machine.specs.Numbers.{first_free_number, free_number}
-use Rattle.ados_machine.specs.Settle.{TurnResult}
+use Rattle.ados_machine.specs.Apply.{TurnResult}
 use Rattle.ados_machine.specs.Shells.{ShellStart, begun_shell, ShellState}
 use Rattle.ados_machine.specs.Step.{codes_of_ended, is_done, shell_of_turn, with_begun}
 use Rattle.ados_machine.proofs.Shells.{IsFree, found}

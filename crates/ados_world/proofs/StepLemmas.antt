@@ -11,10 +11,10 @@ use Rattle.ados_machine.specs.declared.events.Event.TheVariants as event
 use Rattle.ados_machine.specs.declared.outs.Out.{Out}
 use Rattle.ados_machine.specs.declared.refusals.Refusal.{Refusal}
 use Rattle.ados_machine.specs.declared.refusals.Refusal.TheVariants.{NoMemory, NotReady, Over}
-use Rattle.ados_machine.specs.Items.{Item, reports_of}
+use Rattle.ados_machine.specs.Items.{TraceItem, reports_of}
 use Rattle.ados_machine.specs.Shells.{ShellState}
 use Rattle.ados_machine.specs.Limits.{IsSane}
-use Rattle.ados_machine.specs.Runs.{IsAnswer, resulting_world}
+use Rattle.ados_machine.specs.Runs.{IsResponse, resulting_world}
 use Rattle.ados_machine.specs.Turning as turning
 use Rattle.ados_machine.specs.World.{WorldState, input_of, is_over, seen_shells, numbered_shell}
 use Rattle.ados_machine.specs.Course.{Course, new_course}
@@ -24,13 +24,13 @@ use Rattle.ados_machine.specs.Step.{Response, Refused, Accepted, turning_respons
 use Rattle.ados_machine.proofs.Sane.{sane-after}
 use Rattle.ados_shell.specs.declared.drafts.Draft.{Draft}
 use Rattle.ados_shell.specs.declared.scenes.Scene.{Scene}
-use Rattle.ados_shell.specs.declared.turnings.Turning.{Turning}
-use Rattle.ados_shell.specs.declared.turnings.Turning.TheVariants as turn
+use Rattle.ados_shell.specs.declared.turnings.TurnKind.{TurnKind}
+use Rattle.ados_shell.specs.declared.turnings.TurnKind.TheVariants as turn
 use Rattle.ados_shell.specs.Drafts.{event_start}
 use Rattle.ados_shell.specs.declared.scenes.Input.{Input}
-use Rattle.ados_shell.specs.Turnings.{GivesTurning, IsFirst, IsTurning, MayWantMemory, scene_turning}
+use Rattle.ados_shell.specs.Turnings.{GivesTurning, IsFirst, IsTurning, TurnMayFailToAllocate, scene_turning}
 use Rattle.ados_world.specs.Scenes.{Shows}
-use Rattle.ados_world.specs.Steps.{step_answer, draft_out, ended_world, world_after_turn}
+use Rattle.ados_world.specs.Steps.{step_result, draft_out, ended_world, world_after_turn}
 use Rattle.ados_world.proofs.MemoryLemmas.{turn-may}
 use Rattle.ados_world.proofs.TakenLemmas.{after_turn, gives, taken-is}
 
@@ -56,14 +56,14 @@ turning-is w k shell scene input s e =
     ∙ ap (λ x. turning.flagged_turning shell.flagged (input_of w k) shell.frames (course_without_flag (start_in w.shared x shell)) shell.phase) s.shells_are
 
 -- the turn that was given is the machine's, at the lines that wait
-pub given-turn : {found : Turning} (w : WorldState) (k : ℕ) (scene : Scene) (input : Input) (turn : Turning) (draft : Draft)
+pub given-turn : {found : TurnKind} (w : WorldState) (k : ℕ) (scene : Scene) (input : Input) (turn : TurnKind) (draft : Draft)
     → found ≡ turn → GivesTurning scene input (scene_turning scene input) found draft → IsFirst (option_copied input.line) (input_of w k).queue
     → IsTurning scene (input_of w k).queue turn draft (scene_turning scene input (input_of w k).queue)
 given-turn w k scene input turn draft is gives first = subst (λ t. GivesTurning scene input (scene_turning scene input) t draft) is gives (input_of w k).queue first
 
 -- an event is accepted, and leaves this world and gives this
 abbrev pub Accepts : Response → WorldState → Out → Type 0
-Accepts response world given = (items : List (ℕ × Item)) × response ≡ Accepted world given items
+Accepts response world given = (items : List (ℕ × TraceItem)) × response ≡ Accepted world given items
 
 -- a turn that went on without a line of its input
 pub goes : (w : WorldState) (k : ℕ) (shell : ShellState) (scene : Scene) (draft : Draft) (turning : turning.Turning)
@@ -72,7 +72,7 @@ pub goes : (w : WorldState) (k : ℕ) (shell : ShellState) (scene : Scene) (draf
     → Accepts (turning_response w k shell.parts.codes turning) (world_after_turn k draft w) (draft_out (numbered_shell w k) draft)
 goes w k shell scene draft (turning.Refuses why) s t = absurd t
 goes w k shell scene draft turning.Ends s t = absurd t
-goes w k shell scene draft (turning.Takes rest turn_response) s t =
+goes w k shell scene draft (turning.Turned rest turn_response) s t =
     let items = of_shell k turn_response.log ++ begun_items turn_response.course.begun (free_number w.shells) in
     let given = event_out turn_response.course.printed (request_of turn_response.course.parts.number turn_response.phase) (reports_of k turn_response.log) in (
       items,
@@ -89,7 +89,7 @@ takes : (w : WorldState) (k : ℕ) (shell : ShellState) (scene : Scene) (draft :
     → Accepts (turning_response w k shell.parts.codes turning) (record (world_after_turn k draft w) { queue = queue_after_event k w.queue (drop 1 w.queue) }) (draft_out (numbered_shell w k) draft)
 takes w k shell scene draft (turning.Refuses why) s t = absurd t
 takes w k shell scene draft turning.Ends s t = absurd t
-takes w k shell scene draft (turning.Takes rest turn_response) s t =
+takes w k shell scene draft (turning.Turned rest turn_response) s t =
     let items = of_shell k turn_response.log ++ begun_items turn_response.course.begun (free_number w.shells) in
     let given = event_out turn_response.course.printed (request_of turn_response.course.parts.number turn_response.phase) (reports_of k turn_response.log) in
     let queue = queue_after_event k w.queue (drop 1 w.queue) in (
@@ -106,37 +106,37 @@ ends : (w : WorldState) (k : ℕ) (shell : ShellState) (scene : Scene) (draft : 
     → Accepts (turning_response w k shell.parts.codes turning) (ended_world k shell.parts.codes w) (event_out [] None [])
 ends w k shell scene draft (turning.Refuses why) t = absurd t
 ends w k shell scene draft turning.Ends t = ([], refl)
-ends w k shell scene draft (turning.Takes rest turn_response) t = absurd t
+ends w k shell scene draft (turning.Turned rest turn_response) t = absurd t
 
 -- a turn that went on may need memory
-goes-may : (scene : Scene) (queue : List (List ℕ)) (draft : Draft) (turning : turning.Turning) → IsTurning scene queue turn.Goes draft turning → MayWantMemory turning
+goes-may : (scene : Scene) (queue : List (List ℕ)) (draft : Draft) (turning : turning.Turning) → IsTurning scene queue turn.Goes draft turning → TurnMayFailToAllocate turning
 goes-may scene queue draft (turning.Refuses why) t = absurd t
 goes-may scene queue draft turning.Ends t = absurd t
-goes-may scene queue draft (turning.Takes rest turn_response) t = tt
+goes-may scene queue draft (turning.Turned rest turn_response) t = tt
 
-takes-may : (scene : Scene) (queue : List (List ℕ)) (draft : Draft) (turning : turning.Turning) → IsTurning scene queue turn.Takes draft turning → MayWantMemory turning
+takes-may : (scene : Scene) (queue : List (List ℕ)) (draft : Draft) (turning : turning.Turning) → IsTurning scene queue turn.Takes draft turning → TurnMayFailToAllocate turning
 takes-may scene queue draft (turning.Refuses why) t = absurd t
 takes-may scene queue draft turning.Ends t = absurd t
-takes-may scene queue draft (turning.Takes rest turn_response) t = tt
+takes-may scene queue draft (turning.Turned rest turn_response) t = tt
 
 pub turn-wants : (w : WorldState) (k : ℕ) (shell : ShellState) (scene : Scene) (input : Input)
     → IsSane w → Shows w k shell scene → input.is_ended ≡ (input_of w k).is_ended
-    → MayWantMemory (scene_turning scene input (input_of w k).queue)
-    → IsAnswer (event.Turn k) (Err NoMemory) (turn_response w k (numbered_shell w k))
+    → TurnMayFailToAllocate (scene_turning scene input (input_of w k).queue)
+    → IsResponse (event.Turn k) (Err NoMemory) (turn_response w k (numbered_shell w k))
 turn-wants w k shell scene input sane s e m =
-    (let P : Response → Type 0 = λ r. IsAnswer (event.Turn k) (Err NoMemory) r in
-    subst P (sym (ap (turn_response w k) s.here)) (turn-may w k shell sane s.here (subst MayWantMemory (turning-is w k shell scene input s e) m)))
+    (let P : Response → Type 0 = λ r. IsResponse (event.Turn k) (Err NoMemory) r in
+    subst P (sym (ap (turn_response w k) s.here)) (turn-may w k shell sane s.here (subst TurnMayFailToAllocate (turning-is w k shell scene input s e) m)))
 
 pub goes-wants : (w : WorldState) (k : ℕ) (shell : ShellState) (scene : Scene) (input : Input) (draft : Draft)
     → IsSane w → Shows w k shell scene → input.is_ended ≡ (input_of w k).is_ended
     → IsTurning scene (input_of w k).queue turn.Goes draft (scene_turning scene input (input_of w k).queue)
-    → IsAnswer (event.Turn k) (Err NoMemory) (turn_response w k (numbered_shell w k))
+    → IsResponse (event.Turn k) (Err NoMemory) (turn_response w k (numbered_shell w k))
 goes-wants w k shell scene input draft sane s e t = turn-wants w k shell scene input sane s e (goes-may scene _ draft _ t)
 
 pub takes-wants : (w : WorldState) (k : ℕ) (shell : ShellState) (scene : Scene) (input : Input) (draft : Draft)
     → IsSane w → Shows w k shell scene → input.is_ended ≡ (input_of w k).is_ended
     → IsTurning scene (input_of w k).queue turn.Takes draft (scene_turning scene input (input_of w k).queue)
-    → IsAnswer (event.Turn k) (Err NoMemory) (turn_response w k (numbered_shell w k))
+    → IsResponse (event.Turn k) (Err NoMemory) (turn_response w k (numbered_shell w k))
 takes-wants w k shell scene input draft sane s e t = turn-wants w k shell scene input sane s e (takes-may scene _ draft _ t)
 
 -- no script runs on after a failure in the world that an event leaves
@@ -147,16 +147,16 @@ sane-later w world k given sane over (items, e) =
 
 -- the event was accepted, unless an allocation failed: the answer is the step's answer
 pub answered : {X : Type 0} (world : WorldState) (e : Event) (given out : Out) (result : Result X Refusal) (response : Response)
-    → Accepts response world given → IsAnswer e (Err NoMemory) response → OnOk result (out ≡ given) → IfErr result (λ why. why ≡ NoMemory)
-    → IsAnswer e (step_answer out result) response
+    → Accepts response world given → IsResponse e (Err NoMemory) response → OnOk result (out ≡ given) → IfErr result (λ why. why ≡ NoMemory)
+    → IsResponse e (step_result out result) response
 answered world e given out (Ok accepted) response (items, a) wants g n =
-    (let P : Response → Type 0 = λ r. IsAnswer e (Ok out) r in subst P (sym a) g)
+    (let P : Response → Type 0 = λ r. IsResponse e (Ok out) r in subst P (sym a) g)
 answered world e given out (Err why) response (items, a) wants g n =
-    (let Q : Refusal → Type 0 = λ y. IsAnswer e (Err y) response in subst Q (sym n) wants)
+    (let Q : Refusal → Type 0 = λ y. IsResponse e (Err y) response in subst Q (sym n) wants)
 
 -- the answer is the step's answer, and its world is the world after it
 pub answers : {X : Type 0} (w world new : WorldState) (given out : Out) (result : Result X Refusal) (response : Response) → Accepts response world given
-    → OnOk result (new ≡ world) → OnErr result (new ≡ w) → new ≡ resulting_world w (step_answer out result) response
+    → OnOk result (new ≡ world) → OnErr result (new ≡ w) → new ≡ resulting_world w (step_result out result) response
 answers w world new given out (Ok accepted) response (items, e) a b = a ∙ sym (ap (resulting_world w (Ok out)) e)
 answers w world new given out (Err why) response (items, e) a b = b ∙ sym (ap (resulting_world w (Err why)) e)
 
@@ -193,17 +193,17 @@ turn-ends w k shell scene input draft codes s e c t =
 -- a turn that was refused
 refuses : (w : WorldState) (k : ℕ) (shell : ShellState) (scene : Scene) (draft : Draft) (turning : turning.Turning)
     → IsTurning scene (input_of w k).queue turn.NotReady draft turning
-    → IsAnswer (event.Turn k) (Err NotReady) (turning_response w k shell.parts.codes turning)
+    → IsResponse (event.Turn k) (Err NotReady) (turning_response w k shell.parts.codes turning)
 refuses w k shell scene draft (turning.Refuses why) t = sym t
 refuses w k shell scene draft turning.Ends t = absurd t
-refuses w k shell scene draft (turning.Takes rest turn_response) t = absurd t
+refuses w k shell scene draft (turning.Turned rest turn_response) t = absurd t
 
 pub turn-refused : (w : WorldState) (k : ℕ) (shell : ShellState) (scene : Scene) (input : Input) (draft : Draft)
     → Shows w k shell scene → input.is_ended ≡ (input_of w k).is_ended
     → IsTurning scene (input_of w k).queue turn.NotReady draft (scene_turning scene input (input_of w k).queue)
-    → IsAnswer (event.Turn k) (Err NotReady) (turn_response w k (numbered_shell w k))
+    → IsResponse (event.Turn k) (Err NotReady) (turn_response w k (numbered_shell w k))
 turn-refused w k shell scene input draft s e t =
-    (let P : Response → Type 0 = λ r. IsAnswer (event.Turn k) (Err NotReady) r in
+    (let P : Response → Type 0 = λ r. IsResponse (event.Turn k) (Err NotReady) r in
     let Q : turning.Turning → Type 0 = λ x. IsTurning scene (input_of w k).queue turn.NotReady draft x in
     subst P (sym (ap (turn_response w k) s.here)) (refuses w k shell scene draft _ (subst Q (turning-is w k shell scene input s e) t)))
 

@@ -7,7 +7,7 @@ use Rattle.ados_find.specs.Shared.{SharedState, version}
 use Rattle.ados_machine.specs.Items.{reports_of}
 use Rattle.ados_machine.specs.Shells.{ShellState}
 use Rattle.ados_machine.specs.Carrying.{carried_or_same, carried_shell, carried_shells, moved_object}
-use Rattle.ados_machine.specs.Settle.{TurnResult}
+use Rattle.ados_machine.specs.Apply.{TurnResult}
 use Rattle.ados_machine.specs.World.{WorldState, numbered_shell}
 use Rattle.ados_machine.specs.Course.{shared_after_event}
 use Rattle.ados_machine.specs.Numbers.{free_number}

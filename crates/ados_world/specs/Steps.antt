@@ -52,6 +52,6 @@ abbrev pub with_queued_line : List ℕ → WorldState → WorldState
 with_queued_line line w = record w { queue = w.queue ++ line ∷ [] }
 
 -- the result of an event with this output, if it was accepted
-abbrev pub step_answer : {X : Type 0} → Out → Result X Refusal → Result Out Refusal
-step_answer out (Ok accepted) = Ok out
-step_answer out (Err why) = Err why
+abbrev pub step_result : {X : Type 0} → Out → Result X Refusal → Result Out Refusal
+step_result out (Ok accepted) = Ok out
+step_result out (Err why) = Err why

@@ -7,16 +7,16 @@ ghost use Rattle.ados_world.specs.Breaks.{shells_with_broken};
 
 use crate::table::ShellTable;
 use ados_find::{Breaking, Breaks};
-use ados_machine::Kind;
+use ados_machine::BreakKind;
 use ados_shell::Shell;
 
 /// What a break of a kind does: one by C marks, and one by D flags.
-pub fn kind_breaks(kind: Kind) -> Breaks
+pub fn kind_breaks(kind: BreakKind) -> Breaks
     ensures { result ≡ kind_breaks kind }
 {
     Breaks {
-        marks: kind == Kind::C,
-        flags: kind == Kind::D,
+        marks: kind == BreakKind::C,
+        flags: kind == BreakKind::D,
     }
 }
 

@@ -17,7 +17,7 @@ mod table;
 mod worlds;
 
 pub use ados_machine::{
-    Answer, ChildState, Codes, EndReport, Event, Job, Kind, Out, Refusal, Reports, Request,
+    Answer, BreakKind, ChildState, Codes, EndReport, Event, Job, Out, Refusal, Reports, Request,
 };
 pub use ados_resident::HostEntry;
 pub use ados_shell::Draft;

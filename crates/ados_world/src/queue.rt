@@ -3,10 +3,10 @@ ghost use Rattle.std.specs.Prelude.{◌≡◌, [], IfErr, OnErr, OnOk};
 ghost use Rattle.std.specs.Option.{option_copied};
 ghost use Rattle.ados_machine.specs.World.{has_input, input_of};
 ghost use Rattle.ados_machine.specs.Step.{Accepted, Refused, typing_response, end_of_input, event_out};
-ghost use Rattle.ados_machine.specs.Runs.{IsAnswer, resulting_world};
+ghost use Rattle.ados_machine.specs.Runs.{IsResponse, resulting_world};
 ghost use Rattle.ados_machine.specs.declared.refusals.Refusal.TheVariants.{NoMemory};
 ghost use Rattle.ados_shell.specs.Turnings.{IsFirst};
-ghost use Rattle.ados_world.specs.Steps.{step_answer, with_queued_line};
+ghost use Rattle.ados_world.specs.Steps.{step_result, with_queued_line};
 
 use crate::worlds::World;
 use ados_machine::{Event, Refusal};
@@ -18,8 +18,8 @@ const QUEUE_LINES: usize = 256;
 impl World {
     /// A copy of a line joins the queue.
     pub(crate) fn queue_copy(&mut self, line: &Text) -> Result<(), Refusal>
-        ensures answer { IsAnswer (Event.Typed line.now) (step_answer (event_out [] None []) result) (typing_response self.old line.now) }
-        ensures world { self.new ≡ resulting_world self.old (step_answer (event_out [] None []) result) (typing_response self.old line.now) }
+        ensures response { IsResponse (Event.Typed line.now) (step_result (event_out [] None []) result) (typing_response self.old line.now) }
+        ensures world { self.new ≡ resulting_world self.old (step_result (event_out [] None []) result) (typing_response self.old line.now) }
     {
         self.admit(line)?;
         match line.copy() {
@@ -59,8 +59,8 @@ impl World {
 
     /// No more lines will be typed.
     pub(crate) fn end_input(&mut self) -> Result<(), Refusal>
-        ensures answer { IsAnswer Event.EndOfInput (step_answer (event_out [] None []) result) (end_of_input self.old) }
-        ensures world { self.new ≡ resulting_world self.old (step_answer (event_out [] None []) result) (end_of_input self.old) }
+        ensures response { IsResponse Event.EndOfInput (step_result (event_out [] None []) result) (end_of_input self.old) }
+        ensures world { self.new ≡ resulting_world self.old (step_result (event_out [] None []) result) (end_of_input self.old) }
     {
         if self.input_ended {
             return Err(Refusal::NotReady);

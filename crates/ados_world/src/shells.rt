@@ -96,7 +96,7 @@ pub fn change_shell(
     ensures err { OnErr result (shells.new ≡ shells.old) }
 {
     match moved {
-        None => shells.move_in(number, draft),
+        None => shells.commit(number, draft),
         Some(moved) => carry_in(shells, number, draft, moved),
     }
 }
@@ -119,7 +119,7 @@ fn carry_in(
     let own = draft.carried_directory(shell, moved)?;
     let mut directories = carried_directories(shells.places(), moved)?;
     directories[number as usize - 1] = Some(own);
-    shells.move_in(number, draft)?;
+    shells.commit(number, draft)?;
     shells.carry(directories);
     Ok(())
 }

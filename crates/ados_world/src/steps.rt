@@ -1,20 +1,20 @@
 // The step: what an event makes of a world.
 ghost use Rattle.std.specs.Prelude.{◌≡◌, ℕ, [], drop, false, IfErr, IfOk, OnErr, OnOk, is_some, true};
 ghost use Rattle.ados_machine.specs.Given.{request_after_event};
-ghost use Rattle.ados_machine.specs.InUse.{has_request, entry_of, outputs_held, runs_program};
+ghost use Rattle.ados_machine.specs.InUse.{has_request, resident_name_of, outputs_held, runs_program};
 ghost use Rattle.ados_machine.specs.Laws.{finds_flag};
 ghost use Rattle.ados_machine.specs.Limits.{IsSane};
 ghost use Rattle.ados_machine.specs.World.{is_over, numbered_shell};
 ghost use Rattle.ados_machine.specs.Step.{step_of, turn_response, answer_response, break_response, event_out, queue_after_event};
-ghost use Rattle.ados_machine.specs.Runs.{IsAnswer, resulting_world};
-ghost use Rattle.ados_machine.specs.declared.refusals.Refusal.TheVariants.{NoMemory as WantOfMemory};
+ghost use Rattle.ados_machine.specs.Runs.{IsResponse, resulting_world};
+ghost use Rattle.ados_machine.specs.declared.refusals.Refusal.TheVariants.{NoMemory as OutOfMemory};
 ghost use Rattle.ados_find.specs.Shared.{version};
 ghost use Rattle.ados_shell.specs.Drafts.{out_of};
-ghost use Rattle.ados_world.specs.Binding.{BindsWhatItUsed};
+ghost use Rattle.ados_world.specs.Binding.{BindsOnlyWhatItUsed};
 ghost use Rattle.ados_machine.specs.Starts.{FailedStart};
 ghost use Rattle.ados_world.specs.Laws.{reports_break};
 ghost use Rattle.ados_world.specs.Shells.{IsShellNumber};
-ghost use Rattle.ados_world.specs.Steps.{step_answer, draft_out, ended_world, world_after_turn};
+ghost use Rattle.ados_world.specs.Steps.{step_result, draft_out, ended_world, world_after_turn};
 
 use crate::breaks::{break_other, kind_breaks};
 use crate::carrying::moved_by;
@@ -23,8 +23,8 @@ use crate::new_shells::{join, new_shell};
 use crate::shells::change_shell;
 use crate::worlds::World;
 use ados_find::{Codes, Question, Shared};
-use ados_machine::{Answer, Event, Kind, Out, Refusal};
-use ados_shell::{Answering, Draft, Turning};
+use ados_machine::{Answer, BreakKind, Event, Out, Refusal};
+use ados_shell::{Answering, Draft, TurnKind};
 use ados_text::{NoMemory, Text};
 use std::alloc::Global;
 
@@ -44,13 +44,13 @@ impl World {
     /// - A resident entry stays in use from the start of its program to the reply that ends it, and the outputs that its shell
     ///   has open stay open as long as the program runs.
     pub fn step(&mut self, event: &Event) -> Result<Out, Refusal>
-        ensures answer { IsAnswer event.now result (step_of self.old event.now) }
+        ensures response { IsResponse event.now result (step_of self.old event.now) }
         ensures world { self.new ≡ resulting_world self.old result (step_of self.old event.now) }
         ensures failed_start { OnOk result (FailedStart self.old event.now self.new) }
         ensures request { IfOk result (λ out. out.request ≡ request_after_event self.new event.now) }
-        ensures binding { OnOk result (BindsWhatItUsed self.old event.now self.new) }
+        ensures binding { OnOk result (BindsOnlyWhatItUsed self.old event.now self.new) }
         ensures breaks { IfOk result (λ out. reports_break out.reports ≡ finds_flag self.old event.now) }
-        ensures entries { OnOk result ((k : ℕ) → has_request self.old k ≡ true → has_request self.new k ≡ true → entry_of self.new k ≡ entry_of self.old k) }
+        ensures residents { OnOk result ((k : ℕ) → has_request self.old k ≡ true → has_request self.new k ≡ true → resident_name_of self.new k ≡ resident_name_of self.old k) }
         ensures outputs { OnOk result ((k : ℕ) → runs_program self.old k ≡ true → runs_program self.new k ≡ true → outputs_held self.new k ≡ outputs_held self.old k) }
     {
         let mut draft = Draft::new(self.alloc);
@@ -61,8 +61,8 @@ impl World {
     /// The same with a draft that is lent; it then holds what the event prints, requests and reports. What it held before is
     /// dropped: one draft serves for a whole run, and its buffers are reused.
     pub fn step_into(&mut self, event: &Event, draft: &mut Draft) -> Result<(), Refusal>
-        ensures answer { IsAnswer event.now (step_answer (out_of draft.new) result) (step_of self.old event.now) }
-        ensures world { self.new ≡ resulting_world self.old (step_answer (out_of draft.new) result) (step_of self.old event.now) }
+        ensures response { IsResponse event.now (step_result (out_of draft.new) result) (step_of self.old event.now) }
+        ensures world { self.new ≡ resulting_world self.old (step_result (out_of draft.new) result) (step_of self.old event.now) }
     {
         if self.is_over() {
             return Err(Refusal::Over);
@@ -87,8 +87,8 @@ impl World {
 
     /// A line was typed: the event of that name, which gives nothing, by a line that the world keeps.
     pub fn type_line(&mut self, line: Text) -> Result<(), Refusal>
-        ensures answer { IsAnswer (Event.Typed line) (step_answer (event_out [] None []) result) (step_of self.old (Event.Typed line)) }
-        ensures world { self.new ≡ resulting_world self.old (step_answer (event_out [] None []) result) (step_of self.old (Event.Typed line)) }
+        ensures response { IsResponse (Event.Typed line) (step_result (event_out [] None []) result) (step_of self.old (Event.Typed line)) }
+        ensures world { self.new ≡ resulting_world self.old (step_result (event_out [] None []) result) (step_of self.old (Event.Typed line)) }
     {
         if self.is_over() {
             return Err(Refusal::Over);
@@ -99,8 +99,8 @@ impl World {
 
     fn turn(&mut self, number: u8, draft: &mut Draft) -> Result<(), Refusal>
         requires { is_over self.old ≡ false }
-        ensures answer { IsAnswer (Event.Turn number) (step_answer (out_of draft.new) result) (turn_response self.old number (numbered_shell self.old number)) }
-        ensures world { self.new ≡ resulting_world self.old (step_answer (out_of draft.new) result) (turn_response self.old number (numbered_shell self.old number)) }
+        ensures response { IsResponse (Event.Turn number) (step_result (out_of draft.new) result) (turn_response self.old number (numbered_shell self.old number)) }
+        ensures world { self.new ≡ resulting_world self.old (step_result (out_of draft.new) result) (turn_response self.old number (numbered_shell self.old number)) }
     {
         // This lets a turn use what holds of every world: no script runs on after a failure, each background shell runs a
         // frame, and each shell has the number of its place.
@@ -111,21 +111,21 @@ impl World {
         let codes = shell.codes();
         match draft.turn(&self.scene(number, shell), &self.input(number)) {
             Err(_) => Err(Refusal::NoMemory),
-            Ok(Turning::NotReady) => Err(Refusal::NotReady),
-            Ok(Turning::Ends) => {
+            Ok(TurnKind::NotReady) => Err(Refusal::NotReady),
+            Ok(TurnKind::Ends) => {
                 draft.give_nothing();
                 self.end_shell(number, codes);
                 Ok(())
             }
-            Ok(Turning::Goes) => self.take(number, draft),
-            Ok(Turning::Takes) => self.take_typed(number, draft),
+            Ok(TurnKind::Goes) => self.take(number, draft),
+            Ok(TurnKind::Takes) => self.take_typed(number, draft),
         }
     }
 
     fn answer(&mut self, number: u8, answer: &Answer, draft: &mut Draft) -> Result<(), Refusal>
         requires { is_over self.old ≡ false }
-        ensures answer { IsAnswer (Event.Answer number answer.now) (step_answer (out_of draft.new) result) (answer_response self.old number answer.now (numbered_shell self.old number)) }
-        ensures world { self.new ≡ resulting_world self.old (step_answer (out_of draft.new) result) (answer_response self.old number answer.now (numbered_shell self.old number)) }
+        ensures response { IsResponse (Event.Answer number answer.now) (step_result (out_of draft.new) result) (answer_response self.old number answer.now (numbered_shell self.old number)) }
+        ensures world { self.new ≡ resulting_world self.old (step_result (out_of draft.new) result) (answer_response self.old number answer.now (numbered_shell self.old number)) }
     {
         // This lets an answer use what holds of every world, as a turn does.
         let _ = &self.alloc;
@@ -139,10 +139,10 @@ impl World {
         }
     }
 
-    fn break_shell(&mut self, number: u8, kind: Kind) -> Result<(), Refusal>
+    fn break_shell(&mut self, number: u8, kind: BreakKind) -> Result<(), Refusal>
         requires { is_over self.old ≡ false }
-        ensures answer { IsAnswer (Event.Break number kind) (step_answer (event_out [] None []) result) (break_response self.old number kind (numbered_shell self.old number)) }
-        ensures world { self.new ≡ resulting_world self.old (step_answer (event_out [] None []) result) (break_response self.old number kind (numbered_shell self.old number)) }
+        ensures response { IsResponse (Event.Break number kind) (step_result (event_out [] None []) result) (break_response self.old number kind (numbered_shell self.old number)) }
+        ensures world { self.new ≡ resulting_world self.old (step_result (event_out [] None []) result) (break_response self.old number kind (numbered_shell self.old number)) }
     {
         // This lets a break use what holds of every world, as a turn does.
         let _ = &self.alloc;
@@ -160,7 +160,7 @@ impl World {
         requires sane { IsSane (world_after_turn number draft.old self.old) }
         ensures out { OnOk result (out_of draft.new ≡ draft_out (numbered_shell self.old number) draft.old) }
         ensures world { OnOk result (self.new ≡ record (world_after_turn number draft.old self.old) { queue = queue_after_event number self.old.queue (drop 1 self.old.queue) }) }
-        ensures refusal { IfErr result (λ why. why ≡ WantOfMemory) }
+        ensures refusal { IfErr result (λ why. why ≡ OutOfMemory) }
         ensures unchanged { OnErr result (self.new ≡ self.old) }
     {
         self.take(number, draft)?;
@@ -178,7 +178,7 @@ impl World {
         requires sane { IsSane (world_after_turn number draft.old self.old) }
         ensures out { OnOk result (out_of draft.new ≡ draft_out (numbered_shell self.old number) draft.old) }
         ensures world { OnOk result (self.new ≡ world_after_turn number draft.old self.old) }
-        ensures refusal { IfErr result (λ why. why ≡ WantOfMemory) }
+        ensures refusal { IfErr result (λ why. why ≡ OutOfMemory) }
         ensures unchanged { OnErr result (self.new ≡ self.old) }
     {
         let Ok(()) = self.ask(number, draft) else {

@@ -89,12 +89,12 @@ impl ShellTable {
     /// Commits what a turn makes of the shell with this number; if there is no such shell, nothing is done.
     ///
     /// `NoMemory` if there is no room for its frames; the shells are then as they were.
-    pub fn move_in(&mut self, number: u8, draft: &mut ShellDraft) -> Result<(), NoMemory>
+    pub fn commit(&mut self, number: u8, draft: &mut ShellDraft) -> Result<(), NoMemory>
         requires { IsShellNumber number }
         ensures ok { OnOk result (self.new ≡ updated_shells number draft.old self.old) }
         ensures err { OnErr result (self.new ≡ self.old) }
     {
-        move_in(&mut self.places, number, draft)?;
+        commit(&mut self.places, number, draft)?;
         self.due.renew(number, &self.places);
         Ok(())
     }
@@ -118,7 +118,7 @@ impl ShellTable {
 }
 
 // Commits what a turn makes of the shell with this number, if there is one.
-fn move_in(
+fn commit(
     shells: &mut [Option<Shell>; 20],
     number: u8,
     draft: &mut ShellDraft,
@@ -129,6 +129,6 @@ fn move_in(
 {
     match &mut shells[number as usize - 1] {
         None => Ok(()),
-        Some(shell) => draft.move_in(shell),
+        Some(shell) => draft.commit(shell),
     }
 }

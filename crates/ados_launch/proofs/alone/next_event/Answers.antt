@@ -20,13 +20,13 @@ give-requires-2 g c = fitting-accepted c.args.world.now c.args.number c.in-Some.
 pub returns-in-Ok-default-clause-event : goal.returns-in-Ok-default-clause-event
 returns-in-Ok-default-clause-event g c =
     answer-takes c.args.world.now c.give-2.new.world c.args.number (g.L.Launcher.is_full c.args.launcher.now) _ _ _ c.in-Some.request.now c.ask.result (out_of c.give-2.new.draft)
-    (search rules) (search rules) c.in-Ok-default.ensures.answer c.in-Ok-default.ensures.world
+    (search rules) (search rules) c.in-Ok-default.ensures.response c.in-Ok-default.ensures.world
 
 pub returns-in-Ok-default-clause-agrees : goal.returns-in-Ok-default-clause-agrees
 returns-in-Ok-default-clause-agrees g c =
     rw c.in-Ok-default.ensures.world
     (untaken-agrees c.args.world.now c.args.number (g.L.Launcher.is_full c.args.launcher.now) (g.L.Launcher.is_full c.ask.new.launcher) (g.L.Launcher.calls c.args.launcher.now) (g.L.Launcher.calls c.ask.new.launcher) c.in-Some.request.now c.ask.result (out_of c.give-2.new.draft)
-    c.pending.ensures.sane c.requires.agrees (search rules) (search rules) c.in-Ok-default.ensures.answer)
+    c.pending.ensures.sane c.requires.agrees (search rules) (search rules) c.in-Ok-default.ensures.response)
 
 pub returns-in-Err-Answer-clause-agrees_after : goal.returns-in-Err-Answer-clause-agrees_after
 returns-in-Err-Answer-clause-agrees_after g c =
@@ -40,7 +40,7 @@ returns-in_default-clause-event g c =
     elim c.match-give.branch [
       | in-Ok w ↦ rw w.result-is
           (turn-takes c.args.world.now c.give.new.world c.args.number (g.L.Launcher.is_full c.args.launcher.now) (g.L.Launcher.calls c.args.launcher.now) (out_of c.give.new.draft)
-          (search rules) w.in-Ok.ensures.answer w.in-Ok.ensures.world)
+          (search rules) w.in-Ok.ensures.response w.in-Ok.ensures.world)
       | in-Err w ↦ rw w.result-is tt
     ]
 
@@ -49,6 +49,6 @@ returns-in_default-clause-agrees g c =
     elim c.match-give.branch [
       | in-Ok w ↦ rw w.result-is
           (given-agrees c.args.world.now c.give.new.world (Turn c.args.number) (out_of c.give.new.draft) (g.L.Launcher.calls c.args.launcher.now)
-          c.requires.agrees refl w.in-Ok.ensures.answer w.in-Ok.ensures.world)
+          c.requires.agrees refl w.in-Ok.ensures.response w.in-Ok.ensures.world)
       | in-Err w ↦ rw w.result-is tt
     ]

@@ -18,9 +18,9 @@ returns-clause-ok c =
     let here : option_flatten (at_number shells n) ≡ Some shell =
     ap (λ l. option_flatten (at_number l n)) (sym c.places.ensures) ∙ sym c.in-Some.ensures.shell in
     c.carry.ensures
-    ∙ ap (λ l. placed_shells (slice_set l (n - 1) (Some c.in_ok-own.own)) c.move_in.new.self) (c.in_ok-directories.ensures ∙ ap (carried_directories moved) c.places-2.ensures)
-    ∙ ap (λ d. placed_shells (slice_set (carried_directories moved shells) (n - 1) (Some d)) c.move_in.new.self) c.in_ok-own.ensures
+    ∙ ap (λ l. placed_shells (slice_set l (n - 1) (Some c.in_ok-own.own)) c.commit.new.self) (c.in_ok-directories.ensures ∙ ap (carried_directories moved) c.places-2.ensures)
+    ∙ ap (λ d. placed_shells (slice_set (carried_directories moved shells) (n - 1) (Some d)) c.commit.new.self) c.in_ok-own.ensures
     ∙ ap (placed_shells (slice_set (carried_directories moved shells) (n - 1) (Some (carried_directory moved new))))
-    (c.in_ok-move_in.ensures.ok ∙ ap (λ o. slice_set shells (n - 1) (option_map (drafted_shell draft) o)) here)
+    (c.in_ok-commit.ensures.ok ∙ ap (λ o. slice_set shells (n - 1) (option_map (drafted_shell draft) o)) here)
     ∙ placed-set moved new shells (n - 1)
     ∙ ap (λ o. slice_set (carried_shells (Some moved) shells) (n - 1) (option_map (λ s. carried_shell moved (drafted_shell draft s)) o)) (sym here)

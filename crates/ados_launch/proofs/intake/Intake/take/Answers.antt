@@ -18,12 +18,12 @@ pub returns-in_ok-give-in-Break-clause-took : goal.returns-in_ok-give-in-Break-c
 returns-in_ok-give-in-Break-clause-took g c =
     rw c.in-Break.is
     (took-at-break c.args.world.now _ _ (g.L.Launcher.is_full c.args.launcher.now) (g.L.Launcher.calls c.args.launcher.now) c.in-Break.at.shell c.in-Break.at.kind (out_of c.give.new.draft)
-    c.in_ok-give-in-Break.ensures.answer c.in_ok-give-in-Break.ensures.world)
+    c.in_ok-give-in-Break.ensures.response c.in_ok-give-in-Break.ensures.world)
 
 pub returns-in_ok-give-in-Break-clause-agrees : goal.returns-in_ok-give-in-Break-clause-agrees
 returns-in_ok-give-in-Break-clause-agrees g c =
     given-agrees c.args.world.now _ (Break c.in-Break.at.shell c.in-Break.at.kind) (out_of c.give.new.draft) (g.L.Launcher.calls c.args.launcher.now) c.requires.agrees refl
-    c.in_ok-give-in-Break.ensures.answer c.in_ok-give-in-Break.ensures.world
+    c.in_ok-give-in-Break.ensures.response c.in_ok-give-in-Break.ensures.world
 
 pub returns-in-Due-clause-took : goal.returns-in-Due-clause-took
 returns-in-Due-clause-took g c =
@@ -50,12 +50,12 @@ returns-in_ok-give-in-Due-2-clause-took g c =
     let same = same-place c.args.next c.in-Due.found c.in-Due-2.found c.in-Due.is c.in-Due-2.is in
     rw c.in-Due-2.is
     (took-at-turn c.args.world.now _ _ (g.L.Launcher.is_full c.args.launcher.now) (g.L.Launcher.calls c.args.launcher.now) c.in-Due-2.found.place (out_of c.give-in-Due-2.new.draft) (omega (arith, same)) (omega arith)
-    c.in_ok-give-in-Due-2.ensures.answer c.in_ok-give-in-Due-2.ensures.world)
+    c.in_ok-give-in-Due-2.ensures.response c.in_ok-give-in-Due-2.ensures.world)
 
 pub returns-in_ok-give-in-Due-2-clause-agrees : goal.returns-in_ok-give-in-Due-2-clause-agrees
 returns-in_ok-give-in-Due-2-clause-agrees g c =
     given-agrees c.args.world.now _ (Turn c.in-Due-2.found.place) (out_of c.give-in-Due-2.new.draft) (g.L.Launcher.calls c.args.launcher.now) c.requires.agrees refl
-    c.in_ok-give-in-Due-2.ensures.answer c.in_ok-give-in-Due-2.ensures.world
+    c.in_ok-give-in-Due-2.ensures.response c.in_ok-give-in-Due-2.ensures.world
 
 pub returns-in_err-answer-in-Due-3-clause-memory : goal.returns-in_err-answer-in-Due-3-clause-memory
 returns-in_err-answer-in-Due-3-clause-memory g c failed =

@@ -21,14 +21,14 @@ give_line-requires g c = line-accepted c.args.world.now c.in_ok-text-in-Short.te
     (omega (arith, ap length c.in_ok-text-in-Short.ensures, length-map c.as_slice.result.now to_ascii, c.as_slice.ensures.len, c.next_line.ensures.short))
 
 pub returns-in_ok-give-in-End-clause-took : goal.returns-in_ok-give-in-End-clause-took
-returns-in_ok-give-in-End-clause-took g c = took-line c.args.world.now _ _ _ EndOfInput (out_of c.give.new.draft) c.in_ok-give-in-End.ensures.answer c.in_ok-give-in-End.ensures.world tt
+returns-in_ok-give-in-End-clause-took g c = took-line c.args.world.now _ _ _ EndOfInput (out_of c.give.new.draft) c.in_ok-give-in-End.ensures.response c.in_ok-give-in-End.ensures.world tt
     (λ bytes e. next-end bytes _ _ _ (c.in_ok-next_line.ensures.taken bytes (rw c.heed.ensures.left e)) c.in-End.is)
 
 pub returns-in_ok-give_line-in-Short-clause-took : goal.returns-in_ok-give_line-in-Short-clause-took
 returns-in_ok-give_line-in-Short-clause-took g c =
     let P : List ℕ → Type 0 = λ b. TakesLineOrEnd c.args.world.now (bytes_ahead c.args.self.now.held (g.S.Source.left c.args.reader.now)) c.give_line.new.world (bytes_ahead c.next_line.new.held (g.S.Source.left c.next_line.new.source)) b in
     subst P (sym (ap (λ o. o.bytes) c.give_nothing.ensures))
-    (took-line c.args.world.now _ _ _ (Typed c.in_ok-text-in-Short.text) (event_out [] None []) c.in_ok-give_line-in-Short.ensures.answer c.in_ok-give_line-in-Short.ensures.world tt
+    (took-line c.args.world.now _ _ _ (Typed c.in_ok-text-in-Short.text) (event_out [] None []) c.in_ok-give_line-in-Short.ensures.response c.in_ok-give_line-in-Short.ensures.world tt
     (λ bytes e. next-short bytes _ _ _ _ _ (c.in_ok-next_line.ensures.taken bytes (rw c.heed.ensures.left e)) c.in-Short.is c.in_ok-text-in-Short.ensures c.as_slice.ensures.value))
 
 pub returns-in-Overlong-clause-read : goal.returns-in-Overlong-clause-read

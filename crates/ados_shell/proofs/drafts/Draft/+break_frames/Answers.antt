@@ -4,8 +4,8 @@ use Rattle.std.specs.Prelude.{Option}
 use Rattle.ados_find.specs.declared.codes.Codes.{Codes}
 use Rattle.ados_flow.specs.Frames.{FrameState, limit_above_frames, caller_word}
 use Rattle.ados_machine.specs.Breaks.{has_script}
-use Rattle.ados_machine.specs.Settled.{finish}
-use Rattle.ados_machine.specs.Settle.{said_of}
+use Rattle.ados_machine.specs.CodeRule.{finish}
+use Rattle.ados_machine.specs.Apply.{rule_state_of}
 use Rattle.ados_shell.specs.declared.drafts.Draft.{Draft}
 use Rattle.ados_shell.specs.Drafts.{IsRuled, course_of, frames_of}
 use Rattle.ados_shell.specs.Stacks.{IsPopped, drafted_frames}
@@ -43,7 +43,7 @@ returns t c =
     let reported = c.report_break.new.self in
     let frame = c.in-Some.frame in
     let ended : Draft = record reported { shell = record reported.shell { limit = c.limit_after-self.result } } in
-    let Q : List ℕ → Codes → Type 0 = λ w k. IsRuled scene ended c.finish.new.self (finish w k false (frames_of scene ended) (said_of (course_of scene ended))) in
+    let Q : List ℕ → Codes → Type 0 = λ w k. IsRuled scene ended c.finish.new.self (finish w k false (frames_of scene ended) (rule_state_of (course_of scene ended))) in
     on_ok_weaker c.finish.result
     (λ g. break-ends scene before mid reported c.finish.new.self c.limit_after-self.result frame (drafted_frames scene.shell.now c.pop.new.self)
     (subst P c.in-Some.is c.in_ok-frame.ensures) (record { held = refl; limit = refl; codes = refl; printed = refl; reports = refl }) refl

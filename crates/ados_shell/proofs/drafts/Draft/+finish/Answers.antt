@@ -3,8 +3,8 @@ use Rattle.std.proofs.lemmas.Result.{on_ok_weaker}
 use Rattle.std.specs.Prelude.{Option}
 use Rattle.ados_flow.specs.Frames.{FrameState, is_ended}
 use Rattle.ados_shell.specs.Drafts.{IsRuled, course_of, frames_of}
-use Rattle.ados_machine.specs.Settled.{finish}
-use Rattle.ados_machine.specs.Settle.{said_of}
+use Rattle.ados_machine.specs.CodeRule.{finish}
+use Rattle.ados_machine.specs.Apply.{rule_state_of}
 use Rattle.ados_shell.specs.Stacks.{IsPopped, drafted_frames}
 use Rattle.ados_shell.proofs.TurnLemmas.{answered_draft, finish-popped, finish-stays, lines-lead, script-leads, tick-leads}
 use Rattle.ados_shell.proofs.drafts.Draft.+finish.Goals as goal
@@ -28,7 +28,7 @@ returns-in-Script t c =
     let scene = c.args.scene.now in
     let ended = c.report.new.self in
     let last = c.answer.new.self in
-    let Q : List ℕ → Type 0 = λ w. IsRuled scene ended c.finish.new.self (finish w c.args.codes false (frames_of scene ended) (said_of (course_of scene ended))) in
+    let Q : List ℕ → Type 0 = λ w. IsRuled scene ended c.finish.new.self (finish w c.args.codes false (frames_of scene ended) (rule_state_of (course_of scene ended))) in
     on_ok_weaker c.finish.result
     (λ g. finish-popped scene c.args.self.now c.finish.new.self c.pop.new.self c.push_failed.new.out c.args.word.now c.args.codes c.args.quits c.in-Some.frame last c.in_ok-frame.ensures c.in-Some.is
     (c.answer.ensures (drafted_frames scene.shell.now c.pop.new.self)) (sym c.is_ended.ensures ∙ c.if-not-is_ended.false) c.in_ok-push_failed.ensures

@@ -1,7 +1,7 @@
 use Rattle.std.proofs.Common.{Ok, false, subst}
 use Rattle.ados_find.specs.Effects.{effect_of}
 use Rattle.ados_machine.specs.Lines.{arrival, arrived_completion}
-use Rattle.ados_shell.specs.Drafts.{course_of, next_line_place}
+use Rattle.ados_shell.specs.Drafts.{course_of, here_in}
 use Rattle.ados_shell.specs.declared.completions.Completion.TheVariants.{Answered}
 use Rattle.ados_shell.proofs.EndLemmas.{output-ends, put-ends}
 use Rattle.ados_shell.specs.Outputs.{IsPut, effect_put}
@@ -13,7 +13,7 @@ returns c =
     let opened = c.open_own.new.self in
     let line = c.args.line.now in
     let codes = c.in_ok-codes.codes in
-    let here = next_line_place scene opened in
+    let here = here_in scene opened in
     let course = course_of scene opened in
     output-ends scene c.args.self.now opened c.apply.new.self line.command (λ here target course. arrived_completion c.args.place line target here course) c.in_ok-target.target line.output
     (Ok (Answered codes false)) c.as_ref.ensures.value c.in_ok-target.ensures

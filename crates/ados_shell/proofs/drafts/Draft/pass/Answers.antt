@@ -2,8 +2,8 @@ use Rattle.std.proofs.Common.{◌∙◌, List, ℕ, refl, sym, subst, false}
 use Rattle.std.proofs.lemmas.Result.{on_ok_weaker}
 use Rattle.ados_find.specs.declared.codes.Codes.{Codes}
 use Rattle.ados_flow.specs.Frames.{last_codes}
-use Rattle.ados_machine.specs.Settled.{finish}
-use Rattle.ados_machine.specs.Settle.{said_of}
+use Rattle.ados_machine.specs.CodeRule.{finish}
+use Rattle.ados_machine.specs.Apply.{rule_state_of}
 use Rattle.ados_shell.specs.Drafts.{IsRuled, course_of, frames_of}
 use Rattle.ados_shell.proofs.TurnLemmas.{lines-lead, pass-popped, popped_draft, script-leads, tick-leads}
 use Rattle.ados_shell.proofs.drafts.Draft.pass.Goals as goal
@@ -13,7 +13,7 @@ returns-in-Script c =
     let scene = c.args.scene.now in
     let frame = c.in-Some.frame in
     let after = c.report.new.self in
-    let Q : List ℕ → Codes → Type 0 = λ w k. IsRuled scene after c.finish.new.self (finish w k false (frames_of scene after) (said_of (course_of scene after))) in
+    let Q : List ℕ → Codes → Type 0 = λ w k. IsRuled scene after c.finish.new.self (finish w k false (frames_of scene after) (rule_state_of (course_of scene after))) in
     on_ok_weaker c.finish.result
     (λ g. pass-popped scene c.args.self.now c.finish.new.self c.pop.new.self frame c.in_ok-frame.ensures c.in-Some.is (sym c.is_over.ensures ∙ c.if-not-is_over.false)
     (script-leads scene (popped_draft c.args.self.now c.pop.new.self) after c.finish.new.self c.in-Script.name c.in-Script.command (last_codes frame.last) frame

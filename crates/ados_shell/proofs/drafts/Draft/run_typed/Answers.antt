@@ -5,7 +5,7 @@ use Rattle.ados_flow.specs.Gathering.{before_plus}
 use Rattle.ados_machine.specs.declared.phases.Wait.TheVariants.{ForLines}
 use Rattle.ados_machine.specs.Completions as machine
 use Rattle.ados_machine.specs.NewShells.{console_run}
-use Rattle.ados_shell.specs.Drafts.{course_of, next_line_place}
+use Rattle.ados_shell.specs.Drafts.{course_of, here_in}
 use Rattle.ados_shell.proofs.RunLemmas.{front-is}
 use Rattle.ados_shell.proofs.drafts.Draft.run_typed.Goals as goal
 
@@ -21,8 +21,8 @@ returns-in_ok-waiting-in-Some c =
     record {
       frames = refl;
       reports = refl;
-      completion_is = c.in_ok-waiting-in-Some.ensures line.command (next_line_place scene before).frame_lines course
+      completion_is = c.in_ok-waiting-in-Some.ensures line.command (here_in scene before).frame_lines course
           ∙ ap (λ w. waits w c.in_ok-with_command-in-Some.field-0) c.in_ok-copy-in-Some.ensures
           ∙ ap (waits line.command) (c.in_ok-with_command-in-Some.ensures ∙ ap (λ x. x ∷ []) (front-is line.args c.in-Some.front.now c.in_ok-command-in-Some.command c.as_bytes.ensures.ascii front c.in_ok-command-in-Some.ensures))
-          ∙ ap (λ o. console_run line.command c.args.output line.args (next_line_place scene before).sink course o) (sym front);
+          ∙ ap (λ o. console_run line.command c.args.output line.args (here_in scene before).sink course o) (sym front);
     }

@@ -9,7 +9,7 @@ use Rattle.ados_shell.proofs.stacks.Stack.sink.Goals as goal
 pub returns-in-Below : goal.returns-in-Below
 returns-in-Below c =
     let own = reverse c.args.self.now.own.items in
-    let kept = oldest_frames c.args.self.now.kept c.args.shell.now.frames in
+    let kept = oldest_frames c.args.self.now.kept_count c.args.shell.now.frames in
     let below : newest_sink (own ++ kept) ≡ sink_by_way c.way_of-in-Below.result Console =
     sink-append own kept ∙ ap (λ xs. sink_above (reverse xs) (newest_sink kept)) (sym c.as_slice.ensures.value)
     ∙ c.way_of.ensures (newest_sink kept) ∙ ap (λ way. sink_by_way way (newest_sink kept)) c.in-Below.is
@@ -19,14 +19,14 @@ returns-in-Below c =
 pub returns-in-Kept : goal.returns-in-Kept
 returns-in-Kept c =
     let own = reverse c.args.self.now.own.items in
-    let kept = oldest_frames c.args.self.now.kept c.args.shell.now.frames in
+    let kept = oldest_frames c.args.self.now.kept_count c.args.shell.now.frames in
     sym (sink-append own kept ∙ ap (λ xs. sink_above (reverse xs) (newest_sink kept)) (sym c.as_slice.ensures.value)
     ∙ c.way_of.ensures (newest_sink kept) ∙ ap (λ way. sink_by_way way (newest_sink kept)) c.in-Kept.is)
 
 pub returns-in_ok-copy-in-To : goal.returns-in_ok-copy-in-To
 returns-in_ok-copy-in-To c =
     let own = reverse c.args.self.now.own.items in
-    let kept = oldest_frames c.args.self.now.kept c.args.shell.now.frames in
+    let kept = oldest_frames c.args.self.now.kept_count c.args.shell.now.frames in
     ap (λ t. sink_of (sinks.To t)) c.in_ok-copy-in-To.ensures
     ∙ sym (sink-append own kept ∙ ap (λ xs. sink_above (reverse xs) (newest_sink kept)) (sym c.as_slice.ensures.value)
     ∙ c.way_of.ensures (newest_sink kept) ∙ ap (λ way. sink_by_way way (newest_sink kept)) c.in-To.is)

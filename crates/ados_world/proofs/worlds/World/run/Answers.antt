@@ -22,7 +22,7 @@ loop-event-preserved c =
     record {
       run =
           rw (more, c.in-Ok-push.ensures.items, c.step-out.ensures.world)
-          (Runs-more _ _ _ _ _ _ c.loop-event.invariant.run c.step-out.ensures.answer);
+          (Runs-more _ _ _ _ _ _ c.loop-event.invariant.run c.step-out.ensures.response);
       room = grind (arith, common_steps);
       len = grind (arith, common_steps);
     }
