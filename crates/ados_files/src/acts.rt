@@ -10,7 +10,7 @@ ghost use Rattle.ados_files.specs.Acts.{at_path, at_names, in_files, in_files_sa
 
 use crate::lines::say_path;
 use crate::names::named;
-use ados_find::{Act, Codes, Outcome, Shared, ShellView, Work, current, each, place_of};
+use ados_find::{Act, Codes, CommandResult, Shared, ShellView, Work, current, each, place_of};
 use ados_ram::{Place, Ram};
 use ados_text::{NoMemory, Stop, Text};
 use std::alloc::Global;
@@ -22,7 +22,7 @@ pub fn done_with<X, A: Act<X>>(
     view: &ShellView,
     act: &A,
     items: &[X],
-) -> Result<Outcome, NoMemory>
+) -> CommandResult
     ensures { IfOk result (λ outcome. effect_of shared.now outcome ≡ end_effect (act_on_each (A.act act.now) (fresh_work shared.now) items.now)) }
 {
     let mut work = Work::new(alloc);
@@ -37,7 +37,7 @@ pub fn done_with_named<A: Act<Place>>(
     view: &ShellView,
     act: &A,
     texts: &[Text],
-) -> Result<Outcome, NoMemory>
+) -> CommandResult
     ensures { IfOk result (λ outcome. effect_of shared.now outcome ≡ end_effect (act_on_each (at_names (A.act act.now) view.now) (fresh_work shared.now) texts.now)) }
 {
     done_with(alloc, shared, view, &Names { act, view }, texts)

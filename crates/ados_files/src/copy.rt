@@ -13,7 +13,9 @@ use crate::copy_one::{Copying, MakingMissing};
 use crate::jobs::{all_jobs, jobs_onto, sources_of};
 use crate::names::Found;
 use crate::rename::is_directory;
-use ados_find::{Act, Codes, Outcome, Shared, ShellView, Work, current, each, place_of};
+use ados_find::{
+    Act, Codes, CommandResult, Outcome, Shared, ShellView, Work, current, each, place_of,
+};
 use ados_ram::{Entry, Place, Ram};
 use ados_readargs::Args;
 use ados_text::{NoMemory, Result2, Text};
@@ -21,12 +23,7 @@ use std::alloc::Global;
 use std::slice;
 
 /// Copy copies files.
-pub fn copy_files(
-    alloc: Global,
-    shared: &Shared,
-    view: &ShellView,
-    args: &Args,
-) -> Result<Outcome, NoMemory>
+pub fn copy_files(alloc: Global, shared: &Shared, view: &ShellView, args: &Args) -> CommandResult
     ensures { IfOk result (λ outcome. effect_of shared.now outcome ≡ copy_row shared.now view.now args.now) }
 {
     let Some(to) = args.made_text(alloc, 1)? else {
@@ -78,7 +75,7 @@ impl<'a> Act<Place> for Copy<'a> {
     }
 }
 
-fn copied_to(alloc: Global, shared: &Shared, copy: &Copy, to: &Text) -> Result<Outcome, NoMemory>
+fn copied_to(alloc: Global, shared: &Shared, copy: &Copy, to: &Text) -> CommandResult
     ensures { IfOk result (λ outcome. effect_of shared.now outcome ≡
         copy_into_target shared.now copy.now.view.now copy.now.all copy.now.quiet to.now copy.now.found) }
 {

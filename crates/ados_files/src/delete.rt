@@ -4,19 +4,14 @@ ghost use Rattle.ados_files.specs.Delete.{delete_one, targets, delete_place, del
 
 use crate::acts::{done_with_named, go_on_saying};
 use crate::names::only;
-use ados_find::{Act, Outcome, Shared, ShellView, Work, current, each};
+use ados_find::{Act, CommandResult, Shared, ShellView, Work, current, each};
 use ados_ram::{Place, Ram};
 use ados_readargs::Args;
 use ados_text::NoMemory;
 use std::alloc::Global;
 
 /// Delete deletes objects.
-pub fn delete(
-    alloc: Global,
-    shared: &Shared,
-    view: &ShellView,
-    args: &Args,
-) -> Result<Outcome, NoMemory>
+pub fn delete(alloc: Global, shared: &Shared, view: &ShellView, args: &Args) -> CommandResult
     ensures { IfOk result (λ outcome. effect_of shared.now outcome ≡ delete_row shared.now view.now args.now) }
 {
     let act = Deleting {

@@ -8,7 +8,7 @@ ghost use Rattle.ados_files.specs.Dir.{directory_line, file_line, directories_te
 use crate::bases::{all_children, entry_at};
 use crate::lines::{Line, keeps, push_lines, put_between};
 use ados_assign::Places;
-use ados_find::{Codes, Outcome, Refusal, Shared, ShellView, bases_of};
+use ados_find::{Codes, CommandResult, Outcome, Refusal, Shared, ShellView, bases_of};
 use ados_ram::{Entry, Place, Ram, list_refusal};
 use ados_readargs::Args;
 use ados_text::{NoMemory, Text};
@@ -20,7 +20,7 @@ pub fn show_directory(
     shared: &Shared,
     view: &ShellView,
     args: &Args,
-) -> Result<Outcome, NoMemory>
+) -> CommandResult
     ensures { IfOk result (λ outcome. effect_of shared.now outcome ≡ dir_row shared.now view.now args.now) }
 {
     let directory = args.made_text(alloc, 0)?;
@@ -57,7 +57,7 @@ fn dir_effect(
     dirs: bool,
     files: bool,
     bases: &[Place],
-) -> Result<Outcome, NoMemory>
+) -> CommandResult
     ensures { IfOk result (λ outcome. effect_of shared.now outcome ≡ dir_effect shared.now dirs files bases.now) }
 {
     match list_refusal(entry_at(&shared.ram, bases)) {

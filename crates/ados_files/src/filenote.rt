@@ -3,19 +3,14 @@ ghost use Rattle.ados_find.specs.Effects.{effect_of};
 ghost use Rattle.ados_files.specs.Filenote.{note_one, note_all, filenote_row};
 
 use crate::acts::{done_with_named, go_on};
-use ados_find::{Act, Outcome, Shared, ShellView, Work, current};
+use ados_find::{Act, CommandResult, Shared, ShellView, Work, current};
 use ados_ram::Place;
 use ados_readargs::Args;
 use ados_text::{NoMemory, Text};
 use std::alloc::Global;
 
 /// Filenote sets the comment of objects, or clears it.
-pub fn filenote(
-    alloc: Global,
-    shared: &Shared,
-    view: &ShellView,
-    args: &Args,
-) -> Result<Outcome, NoMemory>
+pub fn filenote(alloc: Global, shared: &Shared, view: &ShellView, args: &Args) -> CommandResult
     ensures { IfOk result (λ outcome. effect_of shared.now outcome ≡ filenote_row shared.now view.now args.now) }
 {
     let texts = args.made_texts(alloc, 0)?;
@@ -31,7 +26,7 @@ fn noted(
     view: &ShellView,
     comment: &Text,
     texts: &[Text],
-) -> Result<Outcome, NoMemory>
+) -> CommandResult
     ensures { IfOk result (λ outcome. effect_of shared.now outcome ≡ note_all shared.now view.now comment.now texts.now) }
 {
     done_with_named(alloc, shared, view, &Noting { comment }, texts)

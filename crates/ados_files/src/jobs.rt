@@ -6,7 +6,7 @@ ghost use Rattle.ados_ram.specs.Written.{written_place};
 ghost use Rattle.ados_find.specs.Paths.{Gives};
 
 use crate::names::{Found, named};
-use ados_find::{Refusal, Shared};
+use ados_find::{Lookup, Shared};
 use ados_ram::{Entry, Place, Ram, push_places};
 use ados_text::{NoMemory, Text};
 use std::alloc::Global;
@@ -38,7 +38,7 @@ pub fn sources_of(
     shared: &Shared,
     directory: &Place,
     texts: &[Text],
-) -> Result<Found, Refusal>
+) -> Lookup<Found>
     ensures { Gives result (sources_of shared.now directory.now texts.now) }
 {
     match texts {
@@ -47,12 +47,7 @@ pub fn sources_of(
     }
 }
 
-fn gathered(
-    alloc: Global,
-    shared: &Shared,
-    directory: &Place,
-    texts: &[Text],
-) -> Result<Found, Refusal>
+fn gathered(alloc: Global, shared: &Shared, directory: &Place, texts: &[Text]) -> Lookup<Found>
     ensures { Gives result (gathered_places shared.now directory.now texts.now) }
 {
     let mut places = Vec::new(alloc);

@@ -5,7 +5,7 @@ ghost use Rattle.ados_files.specs.Join.{write_one, write_read, join_to_target, j
 
 use crate::acts::{Paths, at_path, done_with, go_on};
 use crate::type_files::Typing;
-use ados_find::{Act, Outcome, Shared, ShellView, Work, current, each};
+use ados_find::{Act, CommandResult, Outcome, Shared, ShellView, Work, current, each};
 use ados_ram::Place;
 use ados_readargs::Args;
 use ados_text::{NoMemory, Text};
@@ -13,12 +13,7 @@ use std::alloc::Global;
 use std::{mem, slice};
 
 /// Join writes files, one after the other, to a file.
-pub fn join_files(
-    alloc: Global,
-    shared: &Shared,
-    view: &ShellView,
-    args: &Args,
-) -> Result<Outcome, NoMemory>
+pub fn join_files(alloc: Global, shared: &Shared, view: &ShellView, args: &Args) -> CommandResult
     ensures { IfOk result (λ outcome. effect_of shared.now outcome ≡ join_row shared.now view.now args.now) }
 {
     let Some(to) = args.made_text(alloc, 1)? else {

@@ -9,7 +9,7 @@ use crate::acts::done_with;
 use crate::bases::{all_children, entry_at};
 use crate::lines::{Line, keeps, push_line, push_lines};
 use crate::names::{Found, named_bases, pattern_of};
-use ados_find::{Act, Codes, Outcome, Refusal, Shared, ShellView, Work, current};
+use ados_find::{Act, Codes, CommandResult, Outcome, Refusal, Shared, ShellView, Work, current};
 use ados_pattern::Pattern;
 use ados_ram::{Entry, Place, Ram, list_refusal, push_places};
 use ados_readargs::Args;
@@ -30,12 +30,7 @@ ghost use Rattle.ados_files.specs.Listing.{passes, is_selected, shown_line, kept
 ghost use Rattle.ados_files.specs.Listing.{list_text, list_directory, list_texts, pattern_given, list_row};
 
 /// List shows lines of objects, and of what is in directories.
-pub fn list(
-    alloc: Global,
-    shared: &Shared,
-    view: &ShellView,
-    args: &Args,
-) -> Result<Outcome, NoMemory>
+pub fn list(alloc: Global, shared: &Shared, view: &ShellView, args: &Args) -> CommandResult
     ensures { IfOk result (λ outcome. effect_of shared.now outcome ≡ list_row shared.now view.now args.now) }
 {
     let pattern = args.made_text(alloc, 1)?;
@@ -71,7 +66,7 @@ fn list_texts(
     view: &ShellView,
     shape: &Shape,
     texts: &[Text],
-) -> Result<Outcome, NoMemory>
+) -> CommandResult
     ensures { IfOk result (λ outcome. effect_of shared.now outcome ≡
         end_effect (list_texts shape.now view.now (fresh_work shared.now) texts.now)) }
 {

@@ -3,19 +3,14 @@ ghost use Rattle.ados_find.specs.Effects.{effect_of};
 ghost use Rattle.ados_files.specs.MakeDir.{make_one, make_dir_row};
 
 use crate::acts::{Paths, done_with, go_on};
-use ados_find::{Act, Outcome, Shared, ShellView, Work, current};
+use ados_find::{Act, CommandResult, Outcome, Shared, ShellView, Work, current};
 use ados_ram::Place;
 use ados_readargs::Args;
 use ados_text::NoMemory;
 use std::alloc::Global;
 
 /// MakeDir creates directories.
-pub fn make_dir(
-    alloc: Global,
-    shared: &Shared,
-    view: &ShellView,
-    args: &Args,
-) -> Result<Outcome, NoMemory>
+pub fn make_dir(alloc: Global, shared: &Shared, view: &ShellView, args: &Args) -> CommandResult
     ensures { IfOk result (λ outcome. effect_of shared.now outcome ≡ make_dir_row shared.now view.now args.now) }
 {
     let texts = args.made_texts(alloc, 0)?;

@@ -6,7 +6,7 @@ ghost use Rattle.ados_find.specs.Effects.{if_found};
 ghost use Rattle.ados_find.specs.Paths.{bases_of, place_of, Gives};
 
 use crate::bases::{all_children, entry_at};
-use ados_find::{Codes, Refusal, Shared, bases_of, place_of};
+use ados_find::{Codes, Lookup, Refusal, Shared, bases_of, place_of};
 use ados_names::last_piece;
 use ados_pattern::{Pattern, PatternFault};
 use ados_ram::{Entry, Place, Ram};
@@ -63,12 +63,7 @@ impl Found {
 /// 210 and 120 for a last piece that is not a pattern, and 210 for a text that is not a path. A literal path has the
 /// refusals of resolving, and 205 if there is nothing; a pattern has those of resolving its directory, then 204 and 212
 /// if there is no such directory, and 205 as a warning if nothing matches.
-pub fn named(
-    alloc: Global,
-    shared: &Shared,
-    directory: &Place,
-    text: &Text,
-) -> Result<Found, Refusal>
+pub fn named(alloc: Global, shared: &Shared, directory: &Place, text: &Text) -> Lookup<Found>
     ensures { Gives result (named_places shared.now directory.now text.now) }
 {
     let head = directory_part(text)?;
@@ -77,12 +72,7 @@ pub fn named(
 }
 
 /// The same, with all directories of a literal path that stands for several, as a device alone does.
-pub fn named_bases(
-    alloc: Global,
-    shared: &Shared,
-    directory: &Place,
-    text: &Text,
-) -> Result<Found, Refusal>
+pub fn named_bases(alloc: Global, shared: &Shared, directory: &Place, text: &Text) -> Lookup<Found>
     ensures { Gives result (named_bases shared.now directory.now text.now) }
 {
     let head = directory_part(text)?;
@@ -128,7 +118,7 @@ fn named_by(
     directory: &Place,
     head: &Text,
     pattern: &Pattern,
-) -> Result<Found, Refusal>
+) -> Lookup<Found>
     ensures { Gives result (places_by_form shared.now directory.now head.now pattern.now.form pattern.now.name) }
 {
     match pattern.literal() {
@@ -144,7 +134,7 @@ fn matches_at(
     directory: &Place,
     head: &Text,
     pattern: &Pattern,
-) -> Result<Found, Refusal>
+) -> Lookup<Found>
     ensures { Gives result (if_found Err (bases_of shared.now directory.now head.now) (matches_at pattern.now.form shared.now.files)) }
 {
     let bases = bases_of(alloc, shared, directory, head)?;
@@ -152,12 +142,7 @@ fn matches_at(
 }
 
 // The directories for which a path stands, or the one place to which it leads.
-fn bases_at(
-    alloc: Global,
-    shared: &Shared,
-    directory: &Place,
-    path: &Text,
-) -> Result<Found, Refusal>
+fn bases_at(alloc: Global, shared: &Shared, directory: &Place, path: &Text) -> Lookup<Found>
     ensures { Gives result (if_found Err (bases_of shared.now directory.now path.now) (bases_at shared.now.files)) }
 {
     let bases = bases_of(alloc, shared, directory, path)?;
@@ -171,12 +156,7 @@ fn bases_at(
 }
 
 // The one object to which a path leads.
-fn single_match(
-    alloc: Global,
-    shared: &Shared,
-    directory: &Place,
-    path: &Text,
-) -> Result<Found, Refusal>
+fn single_match(alloc: Global, shared: &Shared, directory: &Place, path: &Text) -> Lookup<Found>
     ensures { Gives result (if_found Err (place_of shared.now directory.now path.now) (single_match shared.now.files)) }
 {
     let place = place_of(alloc, shared, directory, path)?;

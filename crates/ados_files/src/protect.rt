@@ -3,7 +3,7 @@ ghost use Rattle.std.specs.Option.{option_copied, option_map};
 ghost use Rattle.ados_find.specs.Effects.{effect_of};
 
 use crate::acts::{done_with_named, go_on};
-use ados_find::{Act, Codes, Outcome, Shared, ShellView, Work, current};
+use ados_find::{Act, Codes, CommandResult, Outcome, Shared, ShellView, Work, current};
 use ados_ram::{Bits, Entry, Place};
 use ados_readargs::Args;
 use ados_text::{NoMemory, Result2, Text, fold};
@@ -29,12 +29,7 @@ ghost use Rattle.ados_files.specs.Protect.{changed_bit, changed_bits, object_bit
 ghost use Rattle.ados_files.specs.Texts.{text_or_empty};
 
 /// Protect changes the bits of objects.
-pub fn protect(
-    alloc: Global,
-    shared: &Shared,
-    view: &ShellView,
-    args: &Args,
-) -> Result<Outcome, NoMemory>
+pub fn protect(alloc: Global, shared: &Shared, view: &ShellView, args: &Args) -> CommandResult
     ensures { IfOk result (λ outcome. effect_of shared.now outcome ≡ protect_row shared.now view.now args.now) }
 {
     let change = change_of(
@@ -52,7 +47,7 @@ fn protected_by(
     view: &ShellView,
     change: Result<Change, Result2>,
     texts: &[Text],
-) -> Result<Outcome, NoMemory>
+) -> CommandResult
     ensures { IfOk result (λ outcome. effect_of shared.now outcome ≡ protect_all shared.now view.now change texts.now) }
 {
     match change {

@@ -6,7 +6,7 @@ ghost use Rattle.ados_ram.specs.Files.{is_some_directory};
 ghost use Rattle.ados_find.specs.Effects.{effect_of};
 ghost use Rattle.ados_files.specs.Rename.{destination, rename_to_place, rename_entry, rename_from_place, rename_row};
 
-use ados_find::{Codes, Outcome, Renamed, Shared, ShellView, place_of};
+use ados_find::{Codes, CommandResult, Outcome, Renamed, Shared, ShellView, place_of};
 use ados_ram::{Entry, Place, Ram};
 use ados_readargs::Args;
 use ados_text::{NoMemory, Result2, Stop, Text};
@@ -14,12 +14,7 @@ use std::alloc::Global;
 use std::slice;
 
 /// Rename moves an object, and all that is below it.
-pub fn rename_object(
-    alloc: Global,
-    shared: &Shared,
-    view: &ShellView,
-    args: &Args,
-) -> Result<Outcome, NoMemory>
+pub fn rename_object(alloc: Global, shared: &Shared, view: &ShellView, args: &Args) -> CommandResult
     ensures { IfOk result (λ outcome. effect_of shared.now outcome ≡ rename_row shared.now view.now args.now) }
 {
     let Some(from) = args.made_text(alloc, 0)? else {
@@ -40,7 +35,7 @@ fn renamed_at(
     view: &ShellView,
     from: &Place,
     to: &Text,
-) -> Result<Outcome, NoMemory>
+) -> CommandResult
     ensures { IfOk result (λ outcome. effect_of shared.now outcome ≡ rename_from_place shared.now view.now to.now from.now) }
 {
     match place_of(alloc, shared, view.directory, to) {
@@ -55,7 +50,7 @@ fn renamed_from(
     view: &ShellView,
     from: &Place,
     to: &Place,
-) -> Result<Outcome, NoMemory>
+) -> CommandResult
     ensures { IfOk result (λ outcome. effect_of shared.now outcome ≡ rename_entry shared.now view.now from.now (map.get shared.now.files (key_of from.now)) to.now) }
 {
     match shared.ram.look(from) {
@@ -88,12 +83,7 @@ pub fn is_directory(there: Option<&Entry>) -> bool
     }
 }
 
-fn renamed_to(
-    alloc: Global,
-    shared: &Shared,
-    view: &ShellView,
-    renamed: Renamed,
-) -> Result<Outcome, NoMemory>
+fn renamed_to(alloc: Global, shared: &Shared, view: &ShellView, renamed: Renamed) -> CommandResult
     ensures { IfOk result (λ outcome. effect_of shared.now outcome ≡ rename_to_place shared.now view.now renamed.from renamed.to) }
 {
     match shared.renamed(&view.busy, &renamed.from, &renamed.to) {

@@ -13,10 +13,9 @@ use crate::make_dir::make_dir;
 use crate::protect::protect;
 use crate::rename::rename_object;
 use crate::type_files::type_files;
-use ados_find::{Outcome, Shared, ShellView};
+use ados_find::{CommandResult, Shared, ShellView};
 use ados_readargs::Args;
 use ados_resident::{Builtin, FilesCommand};
-use ados_text::NoMemory;
 use std::alloc::Global;
 
 /// The commands of this crate, in the order in which they are declared.
@@ -58,7 +57,7 @@ pub fn run(
     shared: &Shared,
     view: &ShellView,
     args: &Args,
-) -> Result<Outcome, NoMemory>
+) -> CommandResult
     ensures { IfOk result (λ outcome. effect_of shared.now outcome ≡ row_of command shared.now view.now args.now) }
 {
     match command {

@@ -3,19 +3,14 @@ ghost use Rattle.ados_find.specs.Effects.{effect_of};
 ghost use Rattle.ados_files.specs.TypeFiles.{type_one, type_row};
 
 use crate::acts::done_with_named;
-use ados_find::{Act, Codes, Outcome, Shared, ShellView, Work, current};
+use ados_find::{Act, Codes, CommandResult, Shared, ShellView, Work, current};
 use ados_ram::Place;
 use ados_readargs::Args;
 use ados_text::NoMemory;
 use std::alloc::Global;
 
 /// Type writes the bytes of files to the output.
-pub fn type_files(
-    alloc: Global,
-    shared: &Shared,
-    view: &ShellView,
-    args: &Args,
-) -> Result<Outcome, NoMemory>
+pub fn type_files(alloc: Global, shared: &Shared, view: &ShellView, args: &Args) -> CommandResult
     ensures { IfOk result (λ outcome. effect_of shared.now outcome ≡ type_row shared.now view.now args.now) }
 {
     let texts = args.made_texts(alloc, 0)?;

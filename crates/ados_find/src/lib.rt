@@ -23,10 +23,10 @@ mod work;
 
 pub use changes::Change;
 pub use codes::Codes;
-pub use outcomes::{Breaking, Breaks, Outcome, Renamed};
+pub use outcomes::{Breaking, Breaks, CommandResult, Outcome, Renamed};
 pub use paths::{bases_of, place_of};
 pub use questions::Question;
-pub use refusals::Refusal;
+pub use refusals::{Lookup, Refusal};
 pub use routes::{Route, Search};
 pub use search::{Found, ProgramFile, find, find_file, is_path};
 pub use search_path::SearchPath;

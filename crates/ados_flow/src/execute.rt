@@ -10,7 +10,7 @@ ghost use Rattle.ados_flow.specs.Execute.{call_of_lines, execute_file, execute_r
 
 use crate::actions::Action;
 use crate::called::Called;
-use ados_find::{Codes, Refusal, Shared, ShellView, is_path, place_of};
+use ados_find::{Codes, Lookup, Refusal, Shared, ShellView, is_path, place_of};
 use ados_ram::Place;
 use ados_readargs::Args;
 use ados_script::Script;
@@ -77,7 +77,7 @@ fn script_place(
     directory: &Place,
     word: &Text,
     place: Place,
-) -> Result<Place, Refusal>
+) -> Lookup<Place>
     ensures { Gives result (script_place shared.now directory.now word.now place) }
 {
     if !is_path(word) && shared.ram.look(&place).is_none() {
@@ -88,12 +88,7 @@ fn script_place(
 }
 
 /// The place of a word in S:.
-fn in_scripts(
-    alloc: Global,
-    shared: &Shared,
-    directory: &Place,
-    word: &Text,
-) -> Result<Place, Refusal>
+fn in_scripts(alloc: Global, shared: &Shared, directory: &Place, word: &Text) -> Lookup<Place>
     ensures { Gives result (place_of shared.now directory.now (codes "S:" ++ word.now)) }
 {
     let mut path = Text::from_bytes(alloc, b"S:")?;

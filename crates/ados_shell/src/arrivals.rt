@@ -7,11 +7,11 @@ use crate::completions::Completion;
 use crate::drafts::Draft;
 use crate::inputs::is_end;
 use crate::scenes::Scene;
-use ados_find::{Change, Codes, Outcome};
+use ados_find::{Change, Codes, CommandResult, Outcome};
 use ados_items::next_item;
 use ados_line::Line;
 use ados_ram::Place;
-use ados_text::{NoMemory, Result2, Stop, Text};
+use ados_text::{Result2, Stop, Text};
 use std::alloc::Global;
 
 impl Draft {
@@ -50,7 +50,7 @@ impl Draft {
 }
 
 /// What the change to a directory does: it takes no arguments.
-fn arrival(alloc: Global, place: Place, args: &Text) -> Result<Outcome, NoMemory>
+fn arrival(alloc: Global, place: Place, args: &Text) -> CommandResult
     ensures { IfOk result (λ outcome. DoesTo outcome (λ shared. arrival shared place args.now)) }
 {
     if is_end(next_item(args.as_bytes(), 0)) {
