@@ -1,5 +1,5 @@
--- Where a script continues after an If that fails, and after an Else. Depth is counted from the line that jumps, so that
--- it is right even for a script whose If and EndIf lines do not match.
+-- Where a script continues after an If that fails, and after an Else. Depth is counted from the line that jumps: the
+-- lines above it do not matter, even if their If and EndIf lines do not match.
 use Rattle.std.specs.Prelude.{ℕ, List, map, Bool, true, false, ◌==◌, ◌&&◌}
 use Rattle.std.specs.List.{count_by, find}
 use Rattle.ados_text.specs.Text.{Text}
@@ -28,7 +28,8 @@ is_end at_else _ = false
 abbrev pub is_level : List Head → Bool
 is_level lines = count_by is_if lines == count_by is_end_if lines
 
--- line j ends the block of line i: it is such a line, at depth 0
+-- line j can end the block of line i, which i begins (an If, an Else) or stands in: j is an EndIf, or with `at_else` an Else, and between
+-- the two are as many If lines as EndIf lines
 abbrev pub ends_block : Bool → List Head → ℕ → ℕ → Bool
 ends_block at_else lines i j = is_some_and (is_end at_else) (line_of lines j) && is_level (lines_between lines i j)
 

@@ -21,7 +21,7 @@ abbrev pub head_of_item : Text → Item → Head
 head_of_item line (Word from to) = head_of_word (bytes_between line from to)
 head_of_item line _ = Other
 
--- the kind of a line
+-- the kind of a line, by its first item (`true`: a word ends at `=`)
 abbrev pub head_of : Text → Head
 head_of line = head_of_item line (item_at true line 0)
 

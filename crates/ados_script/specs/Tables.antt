@@ -1,4 +1,5 @@
--- The tables that a script keeps, each as the jumps define it.
+-- The tables in which a script looks up where its jumps lead: what each holds, so that a lookup finds what the definitions of the jumps
+-- (Blocks, Skips) say.
 use Rattle.std.specs.Prelude.{◌≡◌, ℕ, ◌+◌, ◌-◌, ◌<◌, ◌^◌, length, List, [], ◌∷◌, ◌++◌, map, reverse, slice_get, Bool, true, false, ◌&&◌, nat_lt, Option, Some, None, is_none, if◌then◌else◌}
 use Rattle.std.specs.List.{filter, find}
 use Rattle.std.specs.List.Sorted.{IsSortedByKey}
@@ -16,7 +17,8 @@ use Rattle.ados_script.specs.Lines.{line_of, is_some_and, numbers_below}
 use Rattle.ados_script.specs.Blocks.{ends_block}
 use Rattle.ados_script.specs.Skips.{is_end_skip_at}
 
--- where the block of a line ends, by its lines: at its EndIf, and at its Else or EndIf
+-- where the block that line i begins or stands in ends, by the kinds of the script's lines: at the first EndIf below it at depth 0, and
+-- at the first Else or EndIf there
 abbrev pub first_ends : List Head → ℕ → Ends
 first_ends heads i = record { end_if = find (ends_block false heads i) (numbers_below heads i); branch = find (ends_block true heads i) (numbers_below heads i) }
 
@@ -31,16 +33,18 @@ abbrev pub entry_or_none : Option Ends → Ends
 entry_or_none None = no_ends
 entry_or_none (Some entry) = entry
 
--- the entry of the line `down` lines below the topmost, whose entry comes last; if no entry is kept, no block ends
+-- Entries are made from the script's last line up, each put at the end of the list, so the last is that of the topmost line so far. This
+-- is the entry of the line `down` lines below that one; at a line that has none no block ends.
 abbrev pub kept_ends : List Ends → ℕ → Ends
 kept_ends entries down = entry_or_none (slice_get (reverse entries) down)
 
--- the entry of the line where a block ends, by the entries from a line on
+-- the entry of the line `end`, at which a block ends, if the topmost entry is that of the line `line`
 abbrev pub entry_at_end : List Ends → ℕ → Option ℕ → Ends
 entry_at_end entries line None = no_ends
 entry_at_end entries line (Some end) = kept_ends entries (end - line)
 
--- the entry of the line above one, by the entries from that one on: below an If a block ends where it does below the If's own EndIf
+-- the entry of the line above the line `line`, by that line's kind and the entries from it down. An If is passed over with all lines to
+-- its EndIf: what counts is the entry of that EndIf.
 abbrev pub ends_above : List Ends → ℕ → Head → Ends
 ends_above entries line EndIf = record { end_if = Some line; branch = Some line }
 ends_above entries line Else = record { end_if = (kept_ends entries 0).end_if; branch = Some line }

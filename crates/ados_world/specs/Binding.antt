@@ -1,4 +1,4 @@
--- Binding at the calls: what the end of an event does to assigns.
+-- Binding, as the contracts of `World` cite it: what the end of an event does to assigns.
 use Rattle.std.specs.Prelude.{◌≡◌, IfSome}
 use Rattle.ados_find.specs.Shared.{SharedState}
 use Rattle.ados_machine.specs.declared.events.Event.{Event}
