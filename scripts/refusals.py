@@ -30,10 +30,11 @@ def was_marked(mark):
 
 
 class Refusals:
-    """The library that makes allocations fail, in a folder of its own. After the first `each` of a program it is one in `step`."""
+    """The library that makes allocations fail, in a folder of its own: one in `near` of the first `many` of a program, and after
+    them one in `far`."""
 
-    def __init__(self, room, each, step):
-        self.room, self.each, self.step = room, each, step
+    def __init__(self, room, many, near, far):
+        self.room, self.many, self.near, self.far = room, many, near, far
         self.library = library(room, "refuse")
 
     def start_of(self, name, words, given):
@@ -60,4 +61,4 @@ class Refusals:
             if not was_marked(refused):
                 return
             yield number, came, was_marked(missed)
-            number += 1 if number < self.each else self.step
+            number += self.near if number < self.many else self.far
