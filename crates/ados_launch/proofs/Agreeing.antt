@@ -153,7 +153,7 @@ table-asked w k was_full is_full b request reply calls calls_now table sane agre
   sequences-asked w k was_full is_full b request reply calls calls_now table sane agrees opened few asked asks is,
 )
 
-further-open : (request : Option Request) (state : ChildState) → is_asked request state ≡ true → asks_read_or_wait request ≡ is_open (lifecycle_for_state state)
+pub further-open : (request : Option Request) (state : ChildState) → is_asked request state ≡ true → asks_read_or_wait request ≡ is_open (lifecycle_for_state state)
 further-open None state asked = grind (arith, common_steps)
 further-open (Some (Start job)) state asked = grind (arith, common_steps)
 further-open (Some (Read n)) state asked = grind (arith, common_steps)

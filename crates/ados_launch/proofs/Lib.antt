@@ -23,3 +23,6 @@ pub mod NewPair
 pub mod Leading
 pub mod LeadingAlone
 pub mod Requests
+pub mod ActsLaws
+pub mod Stepping
+pub mod LinesOver

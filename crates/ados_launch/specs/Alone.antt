@@ -1,14 +1,16 @@
 -- Lines that run alone: what a shell that was opened for a line took, and what a launcher was asked for it.
-use Rattle.std.specs.Prelude.{◌≡◌, ◌⊎◌, ℕ, ◌+◌, ◌<◌, ◌≤◌, List, [], ◌∷◌, ◌++◌, length, Bool, true, Option, Some, None, is_some, IfNone, Result, Ok, Err}
+use Rattle.std.specs.Prelude.{◌≡◌, ◌⊎◌, ℕ, ◌+◌, ◌<◌, ◌≤◌, List, [], ◌∷◌, ◌++◌, length, Bool, true, false, Option, Some, None, is_some, IfNone, Result, Ok, Err, ◌==◌, if◌then◌else◌}
 use Rattle.ados_text.specs.Text.{Bytes, Text}
 use Rattle.ados_find.specs.declared.codes.Codes.{Codes}
 use Rattle.ados_machine.specs.declared.answers.Answer.{Answer as Reply}
+use Rattle.ados_machine.specs.declared.answers.Answer.TheVariants.{Started, Bytes as Piece, End as EndOfReads, PipeFault}
 use Rattle.ados_machine.specs.declared.events.Event.{Event}
 use Rattle.ados_machine.specs.declared.events.Event.TheVariants.{Turn, Answer}
 use Rattle.ados_machine.specs.declared.outs.Out.{Out}
 use Rattle.ados_machine.specs.declared.refusals.Refusal.{Refusal}
 use Rattle.ados_machine.specs.declared.refusals.Refusal.TheVariants.{NoMemory}
 use Rattle.ados_machine.specs.declared.requests.Request.{Request}
+use Rattle.ados_machine.specs.Children.{fits}
 use Rattle.ados_machine.specs.Alone.{AreOf, IsEnd, IsLate, bytes_of_outs}
 use Rattle.ados_machine.specs.Numbers.{free_number}
 use Rattle.ados_machine.specs.Runs.{IsResponse, Runs, resulting_world}
@@ -22,6 +24,7 @@ use Rattle.ados_launch.specs.declared.alone.SystemEnd.TheVariants.{Ended, NoShel
 use Rattle.ados_launch.specs.declared.alone.SystemFault.{SystemFault}
 use Rattle.ados_launch.specs.Agreement.{Agrees}
 use Rattle.ados_launch.specs.Asked.{AreAsked, AreNoStarts, IsAsked, ListsOf}
+use Rattle.ados_launch.specs.Rounds.{asks_read_or_wait}
 use Rattle.ados_launch.specs.Taken.{TakenItem, Given, taken_events, taken_outs}
 
 -- the next event of a shell: an answer if it waits for one, otherwise a turn
@@ -140,3 +143,37 @@ IsUnopened fault = (fault.events ≡ 0) × (fault.answer ≡ None) × (fault.unw
 abbrev pub UnopenedReason : Result SystemEnd SystemFault → Option Refusal → Option ℕ → Type 0
 UnopenedReason (Ok done) fault free = (fault ≡ None) × (free ≡ None)
 UnopenedReason (Err why) fault free = Refuses (Err why.refusal) fault free × IsUnopened why
+
+-- the answer is of the kind that is asked for
+abbrev pub FitsPending : Option Request → Reply → Type 0
+FitsPending None reply = ⊥
+FitsPending (Some request) reply = fits request reply ≡ true
+
+-- how a line that ran alone leaves a world and a launcher's list: they agree, once an answer that was not taken is given, which is one
+-- to what its shell waits for
+abbrev pub AgreesAfterFault : WorldState → Option ℕ → Option Reply → List Call → Type 0
+AgreesAfterFault w (Some k) (Some reply) calls = FitsPending (pending_of w k) reply × AgreesOnceTaken w k (Some reply) calls
+AgreesAfterFault w (Some k) None calls = Agrees w calls
+AgreesAfterFault w None answer calls = Agrees w calls
+
+abbrev pub AgreesAfterLine : WorldState → Result SystemEnd SystemFault → List Call → Type 0
+AgreesAfterLine w (Ok end) calls = Agrees w calls
+AgreesAfterLine w (Err fault) calls = AgreesAfterFault w fault.shell fault.answer calls
+
+-- after this answer its child is open: it has started, or its output was read
+abbrev pub keeps_open : Reply → Bool
+keeps_open Started = true
+keeps_open (Piece bytes) = true
+keeps_open EndOfReads = true
+keeps_open PipeFault = true
+keeps_open reply = false
+
+-- whether the child of shell k is open, according to what it asks for and to an answer that was not taken
+abbrev pub is_open_after_fault : WorldState → Option ℕ → Option Reply → ℕ → Bool
+is_open_after_fault w (Some shell) (Some reply) k = if shell == k then keeps_open reply else asks_read_or_wait (pending_of w k)
+is_open_after_fault w (Some shell) None k = asks_read_or_wait (pending_of w k)
+is_open_after_fault w None reply k = asks_read_or_wait (pending_of w k)
+
+abbrev pub is_open_after_line : WorldState → Result SystemEnd SystemFault → ℕ → Bool
+is_open_after_line w (Ok end) k = asks_read_or_wait (pending_of w k)
+is_open_after_line w (Err fault) k = is_open_after_fault w fault.shell fault.answer k

@@ -8,6 +8,7 @@ use Rattle.ados_machine.specs.Stacks.{FramesHold}
 use Rattle.ados_launcher.specs.declared.calls.Call.{Call}
 use Rattle.ados_launch.specs.Agreement.{Agrees}
 use Rattle.ados_launch.specs.Asked.{AreNoStarts}
+use Rattle.ados_launch.specs.Leads.{Act, ActsLead, IsReachable, ActsObeyLimits, ActsReportEnds, ActsEndFramesOnce, LeadsByRule}
 use Rattle.ados_launch.specs.Taken.{TakenItem, taken_events, taken_outs}
 use Rattle.ados_launch.specs.Session.{Session}
 
@@ -40,3 +41,12 @@ abbrev pub SessionsAreUnique : Type 0
 SessionsAreUnique = (w : WorldState) (bytes : List ℕ) (breaks : List BreakAt) (before before' : List Call) (is_full is_full' : Bool) (listed more : List Call) (taken taken' : List TakenItem) (last last' : WorldState) →
     Session w (Some bytes) breaks before is_full listed taken last → Session w (Some bytes) breaks before' is_full' (listed ++ more) taken' last' → (is_full ≡ true → AreNoStarts more) →
     IsPrefixOfTaken taken taken' ⊎ IsPrefixOfTaken taken' taken
+
+-- all that leads from a sane world to another does so where the rule says, shells that are opened for lines included
+abbrev pub ActsObeyTheRule : Type 0
+ActsObeyTheRule = (w : WorldState) (acts : List Act) (last : WorldState) → ActsLead w acts last → IsSane w →
+    ActsObeyLimits w acts × ActsReportEnds w acts × ActsEndFramesOnce w acts last
+
+-- a world that is sane leads by the rule to each that is reachable from it, and that one is sane
+abbrev pub ReachableWorldsAreLedToByRule : Type 0
+ReachableWorldsAreLedToByRule = (w last : WorldState) → IsReachable w last → IsSane w → LeadsByRule w last × IsSane last

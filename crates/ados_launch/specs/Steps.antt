@@ -1,10 +1,14 @@
--- Steps of a session that is driven event by event.
-use Rattle.std.specs.Prelude.{◌≡◌, ℕ, List, Bool, Option, Some, None}
+-- Steps of a session that is driven event by event: what one leaves, by its result.
+use Rattle.std.specs.Prelude.{◌≡◌, ◌⊎◌, ◌+◌, ◌<◌, ℕ, List, Bool, true, false, Option, Some, None, Result, Ok, Err, length, take}
 use Rattle.std.specs.Io.KnownBytes.{Appends}
 use Rattle.ados_machine.specs.declared.requests.Request.{Request}
 use Rattle.ados_machine.specs.World.{WorldState, pending_of}
+use Rattle.ados_launch.specs.declared.faults.DriveFault.{DriveFault}
+use Rattle.ados_launch.specs.declared.faults.DriveFault.TheVariants.{Read, Write, Turns, Memory}
+use Rattle.ados_launch.specs.Agreement.{Agrees}
 use Rattle.ados_launch.specs.Drives.{ReadsWell, WritesWell}
-use Rattle.ados_launch.specs.Intake.{TakesNextItem}
+use Rattle.ados_launch.specs.Faults.{one_more}
+use Rattle.ados_launch.specs.Intake.{TakesNextItem, FailsToRead, LacksMemory}
 use Rattle.ados_launch.specs.Lines.{bytes_ahead}
 use Rattle.ados_launch.specs.Schedule.{Next, AtBreak, AtLine, AtTurn, AtStart, AtFurther, ScheduleState, scheduled_next, following_schedule_state}
 use Rattle.ados_launch.specs.Session.{Moment}
@@ -34,3 +38,55 @@ pub record TakesOne (was now : SessionState) (before after : Moment) : Type 0 wh
   pub written : Appends before.contents after.contents bytes
   pub reads_well : ReadsWell before after
   pub writes_well : WritesWell before after
+
+-- Nothing comes, and nothing happened.
+pub record TakesNothing (was now : SessionState) (before after : Moment) : Type 0 where
+  pub none : scheduled_next was.schedule before.world ≡ None
+  pub stays : after ≡ before
+  pub round_is : now.schedule.round ≡ was.schedule.round
+  pub taken_is : now.schedule.taken ≡ was.schedule.taken
+  pub held_is : now.held ≡ was.held
+
+-- What comes next was not taken, and so nothing was written.
+pub record TakesNotNext (before after : Moment) : Type 0 where
+  pub world_is : after.world ≡ before.world
+  pub contents_are : after.contents ≡ before.contents
+  pub writes_well : WritesWell before after
+
+-- What comes next is a line, and it could not be read.
+pub record StopsUnread (was now : SessionState) (before after : Moment) : Type 0 where
+  pub next : Next
+  pub next_is : scheduled_next was.schedule before.world ≡ Some next
+  pub fails : FailsToRead next before.read_faults after.read_faults (bytes_ahead was.held before.left) (bytes_ahead now.held after.left) before.calls after.calls
+  pub not_taken : TakesNotNext before after
+
+-- There was no memory for what comes next.
+pub record StopsWithoutMemory (was now : SessionState) (before after : Moment) : Type 0 where
+  pub next : Next
+  pub next_is : scheduled_next was.schedule before.world ≡ Some next
+  pub lacks : LacksMemory before.world next before.read_faults after.read_faults (bytes_ahead was.held before.left) (bytes_ahead now.held after.left) before.calls after.calls
+  pub not_taken : TakesNotNext before after
+
+-- What came next was taken, and only some of its bytes were written.
+pub record StopsUnwritten (was now : SessionState) (before after : Moment) : Type 0 where
+  pub next : Next
+  pub next_is : scheduled_next was.schedule before.world ≡ Some next
+  pub bytes : List ℕ
+  pub takes : TakesNextItem before.world (bytes_ahead was.held before.left) after.is_full before.calls next after.world (bytes_ahead now.held after.left) after.calls bytes
+  pub agrees : Agrees after.world after.calls
+  pub length_written : ℕ
+  pub cut : length_written < length bytes
+  pub written : Appends before.contents after.contents (take length_written bytes)
+  -- it alone failed, or wrote nothing
+  pub cause : ((after.write_faults ≡ before.write_faults + 1) × (after.stalls ≡ before.stalls))
+      ⊎ ((after.write_faults ≡ before.write_faults) × (after.stalls ≡ one_more before.stalls))
+  pub reads_well : ReadsWell before after
+
+-- the result of a step
+abbrev pub HasTakeResult : SessionState → SessionState → Moment → Moment → Result Bool DriveFault → Type 0
+HasTakeResult was now before after (Ok true) = TakesOne was now before after
+HasTakeResult was now before after (Ok false) = TakesNothing was now before after
+HasTakeResult was now before after (Err Read) = StopsUnread was now before after
+HasTakeResult was now before after (Err Memory) = StopsWithoutMemory was now before after
+HasTakeResult was now before after (Err Write) = StopsUnwritten was now before after
+HasTakeResult was now before after (Err Turns) = ⊥

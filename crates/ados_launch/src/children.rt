@@ -1,26 +1,72 @@
 // The open children of a launcher.
-ghost use Rattle.std.specs.Prelude.{◌≡◌, ◌≢◌, ◌<◌, ℕ, true, false, get_or, MatchBool};
+ghost use Rattle.std.specs.Prelude.{◌≡◌, ◌≢◌, ◌<◌, ℕ, List, true, false, get_or, MatchBool};
+ghost use Rattle.ados_machine.specs.Limits.{IsSane};
 ghost use Rattle.ados_machine.specs.World.{pending_of};
 ghost use Rattle.ados_machine.specs.declared.children.ChildState.TheVariants.{Closed};
+ghost use Rattle.ados_launcher.specs.declared.calls.Call.{Call};
 ghost use Rattle.ados_launcher.specs.Lifecycles.{state_of};
 ghost use Rattle.ados_launch.specs.Agreement.{AddsWait, AreOver, IsOpenTable, WaitsForOpen};
+ghost use Rattle.ados_launch.specs.Alone.{AgreesAfterLine, is_open_after_line, keeps_open};
 ghost use Rattle.ados_launch.specs.Rounds.{asks_read_or_wait};
 
+use crate::alone::{SystemEnd, SystemFault};
 use crate::rounds::asks_further;
 use ados_launcher::Launcher;
-use ados_world::World;
+use ados_world::{Answer, World};
 
 // Which children are open, according to what the shells of a world ask for.
 pub fn open_children(world: &World) -> [bool; 21]
-    ensures { (k : ℕ) → get_or result k false ≡ asks_read_or_wait (pending_of world.now k) }
+    ensures asked { (k : ℕ) → get_or result k false ≡ asks_read_or_wait (pending_of world.now k) }
+    ensures sane { IsSane world.now }
 {
     let mut children = [false; 21];
-    // This shows that no shell has a number above 20.
+    // This shows that no shell has a number above 20, and that the world is sane.
     let _running = world.shells();
+    let _asked = world.pending(1);
     for number in 0..21u8 {
         children[usize::from(number)] = asks_further(world, number);
     }
     children
+}
+
+// Which children are open after a line ran alone in a world, however that ended.
+pub fn children_after_line(world: &World, ran: &Result<SystemEnd, SystemFault>) -> [bool; 21]
+    ensures { (calls : List Call) → AgreesAfterLine world.now ran.now calls → IsOpenTable result calls }
+{
+    let mut children = [false; 21];
+    // This shows that no shell has a number above 20, and that the world is sane.
+    let _running = world.shells();
+    let _asked = world.pending(1);
+    for number in 0..21u8 {
+        children[usize::from(number)] = is_open_after_line(world, ran, number);
+    }
+    children
+}
+
+// The child of this number is open after a line ran alone: an answer that was not taken tells it of the line's own.
+fn is_open_after_line(world: &World, ran: &Result<SystemEnd, SystemFault>, number: u8) -> bool
+    ensures { result ≡ is_open_after_line world.now ran.now number }
+{
+    match ran {
+        Err(
+            SystemFault {
+                shell: Some(shell),
+                answer: Some(answer),
+                ..
+            },
+        ) if *shell == number => keeps_open(answer),
+        _ => asks_further(world, number),
+    }
+}
+
+// After this answer its child is open.
+fn keeps_open(answer: &Answer) -> bool
+    ensures { result ≡ keeps_open answer.now }
+{
+    matches!(
+        answer,
+        Answer::Started | Answer::Bytes(_) | Answer::End | Answer::PipeFault
+    )
 }
 
 // Waits once for each open child, in ascending order of number.

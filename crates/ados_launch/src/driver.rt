@@ -3,13 +3,11 @@ ghost use Rattle.std.specs.Prelude.{◌≡◌, ◌<◌, ◌^◌, ◌-◌, [], le
 ghost use Rattle.ados_machine.specs.World.{codes_at};
 ghost use Rattle.ados_launch.specs.Agreement.{Agrees, IsOpenTable};
 ghost use Rattle.ados_launch.specs.Drives.{HasDriveResult, Drives};
+ghost use Rattle.ados_launch.specs.Schedule.{first_schedule_state};
 ghost use Rattle.ados_launch.specs.Session.{moment_of};
 
-use crate::children::wait_for_open;
 use crate::faults::DriveFault;
-use crate::intake::Intake;
-use crate::schedule::Schedule;
-use crate::written::write_whole;
+use crate::session::Session;
 use crate::{Sink, Source};
 use ados_launcher::Launcher;
 use ados_machine::BreakAt;
@@ -109,32 +107,33 @@ impl Drive<'_> {
         // If no event is allowed the reader and the writer are unchanged.
         ensures untouched { self.now.turns ≡ 0 → (reader.new ≡ reader.old) × (writer.new ≡ writer.old) }
     {
-        let mut intake = Intake::new(self.alloc, world);
-        match self.run_schedule(world, launcher, &mut intake, reader, writer) {
+        let mut session = Session::new(self.alloc, world, self.breaks);
+        match self.run_session(&mut session, world, launcher, reader, writer) {
             Ok(end) => Ok(end),
             Err(fault) => {
-                wait_for_open(launcher, &intake.children);
+                session.abandon(launcher);
                 Err(fault)
             }
         }
     }
 
-    // Runs the schedule.
-    fn run_schedule<L: Launcher, S: Source, K: Sink>(
+    // Takes events until nothing comes, or no more are allowed. Whoever calls this abandons the session at a fault.
+    fn run_session<L: Launcher, S: Source, K: Sink>(
         &self,
+        session: &mut Session<'_>,
         world: &mut World,
         launcher: &mut L,
-        intake: &mut Intake,
         reader: &mut S,
         writer: &mut K,
     ) -> Result<End, DriveFault>
         requires reader { S.faults reader.old < 2 ^ 64 - 1 }
         requires writer { K.faults writer.old < 2 ^ 64 - 1 }
         requires agrees { Agrees world.old (L.calls launcher.old) }
-        requires held { intake.old.held ≡ [] }
-        requires children { IsOpenTable intake.old.children (L.calls launcher.old) }
+        requires begins { session.old.schedule ≡ first_schedule_state self.now.breaks.now }
+        requires held { session.old.held ≡ [] }
+        requires children { IsOpenTable session.old.children (L.calls launcher.old) }
         // The open children are those of the calls, none of which is out of place.
-        ensures children { IsOpenTable intake.new.children (L.calls launcher.new) }
+        ensures children { IsOpenTable session.new.children (L.calls launcher.new) }
         ensures agrees { OnOk result (Agrees world.new (L.calls launcher.new)) }
         ensures comes_to { HasDriveResult self.now.turns self.now.breaks.now
             (moment_of S.left S.faults K.contents K.faults K.stalls L.calls L.is_full world.old reader.old writer.old launcher.old)
@@ -142,19 +141,11 @@ impl Drive<'_> {
             result }
         ensures untouched { self.now.turns ≡ 0 → (reader.new ≡ reader.old) × (writer.new ≡ writer.old) }
     {
-        let mut schedule = Schedule::new(self.breaks);
-        for events in 0..self.turns {
-            let Some(next) = schedule.next(world) else {
-                return Ok(End::of(world, events));
-            };
-            intake.take(world, launcher, reader, next)?;
-            write_whole(writer, intake.draft.printed.as_slice())?;
-            schedule.pass(next);
+        for _ in 0..self.turns {
+            if !session.take(world, launcher, reader, writer)? {
+                return Ok(session.end(world));
+            }
         }
-        if schedule.is_over(world) {
-            Ok(End::of(world, self.turns))
-        } else {
-            Err(DriveFault::Turns)
-        }
+        session.finish(world)
     }
 }

@@ -1,5 +1,6 @@
 // What the events of a run share, and how each is taken.
 ghost use Rattle.std.specs.Prelude.{◌≡◌, ◌<◌, ◌^◌, ◌-◌, ℕ, [], true, false, get_or, length, OnOk, OnErr, IsErrOf};
+ghost use Rattle.ados_machine.specs.Limits.{IsSane};
 ghost use Rattle.ados_machine.specs.World.{pending_of, wants_line};
 ghost use Rattle.ados_launch.specs.Agreement.{Agrees, IsOpenTable};
 ghost use Rattle.ados_launch.specs.Intake.{FailsToRead, LacksMemory, TakesLineOrEnd, TakesNextItem};
@@ -40,6 +41,7 @@ impl Intake {
     pub fn new(alloc: Global, world: &World) -> Intake
         ensures held { result.held ≡ [] }
         ensures children { (k : ℕ) → get_or result.children k false ≡ asks_read_or_wait (pending_of world.now k) }
+        ensures sane { IsSane world.now }
     {
         Intake {
             alloc,

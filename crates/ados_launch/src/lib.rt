@@ -27,5 +27,5 @@ pub use alone::{SystemEnd, SystemFault, system};
 pub use counted::{Counted, Sink, Source};
 pub use driver::{Drive, End};
 pub use faults::DriveFault;
-pub use laws::{new_pairs_agree, sessions_are_unique, sessions_obey_the_laws};
+pub use laws::{acts_obey_the_rule, new_pairs_agree, sessions_are_unique, sessions_obey_the_laws};
 pub use session::Session;

@@ -1,14 +1,19 @@
 // A world that is driven event by event.
-ghost use Rattle.std.specs.Prelude.{◌≡◌, ◌⊎◌, ◌<◌, ◌^◌, ◌-◌, ◌+◌, ◌≤◌, ℕ, [], true, false, None, get_or, is_none, IfOk, OnOk, IsErrOf, length};
+ghost use Rattle.std.specs.Prelude.{◌≡◌, ◌<◌, ◌^◌, ◌-◌, ◌+◌, ◌≤◌, ℕ, List, [], true, false, get_or, is_none, IfOk, OnOk, OnErr, IsErrOf, length};
 ghost use Rattle.std.specs.Option.{option_copied};
+ghost use Rattle.ados_machine.specs.Limits.{IsSane};
 ghost use Rattle.ados_machine.specs.World.{codes_at, pending_of};
 ghost use Rattle.ados_launch.specs.Agreement.{Agrees, AreOver, IsOpenTable, WaitsForOpen};
+ghost use Rattle.ados_launcher.specs.declared.calls.Call.{Call};
+ghost use Rattle.ados_launch.specs.Alone.{AgreesAfterLine};
 ghost use Rattle.ados_launch.specs.Leads.{IsReachable};
 ghost use Rattle.ados_launch.specs.Rounds.{asks_read_or_wait, due_place};
 ghost use Rattle.ados_launch.specs.Schedule.{first_schedule_state, scheduled_next};
-ghost use Rattle.ados_launch.specs.Steps.{TakesOne, next_request};
+ghost use Rattle.ados_launch.specs.Session.{moment_of};
+ghost use Rattle.ados_launch.specs.Steps.{HasTakeResult, next_request};
 
-use crate::children::{open_children, wait_for_open};
+use crate::alone::{SystemEnd, SystemFault};
+use crate::children::{children_after_line, wait_for_open};
 use crate::driver::End;
 use crate::events::shell_answered;
 use crate::faults::DriveFault;
@@ -49,6 +54,7 @@ impl<'a> Session<'a> {
         ensures schedule { result.schedule ≡ first_schedule_state breaks.now }
         ensures held { result.held ≡ [] }
         ensures children { (k : ℕ) → get_or result.children k false ≡ asks_read_or_wait (pending_of world.now k) }
+        ensures sane { IsSane world.now }
     {
         Session {
             schedule: Schedule::new(breaks),
@@ -72,7 +78,8 @@ impl<'a> Session<'a> {
 
     /// Takes the event that comes next, or a long line, and writes what it prints; `false` if nothing comes.
     ///
-    /// Each error of [`Drive::run`](crate::Drive::run) except `Turns`. No more events are taken after one.
+    /// Each error of [`Drive::run`](crate::Drive::run) except `Turns`. No more events are taken after one; then the open
+    /// children are still to be waited for ([`abandon`](Session::abandon)).
     pub fn take<L: Launcher, S: Source, K: Sink>(
         &mut self,
         world: &mut World,
@@ -85,21 +92,22 @@ impl<'a> Session<'a> {
         requires count { self.old.schedule.taken < 2 ^ 64 - 1 }
         requires agrees { Agrees world.old (L.calls launcher.old) }
         requires children { IsOpenTable self.old.children (L.calls launcher.old) }
-        // What came next was taken, and its bytes were written.
-        ensures takes { IfOk result (λ is_taken. is_taken ≡ true → TakesOne self.old self.new
-            (record { world = world.old; left = S.left reader.old; read_faults = S.faults reader.old; contents = K.contents writer.old; write_faults = K.faults writer.old; stalls = K.stalls writer.old; calls = L.calls launcher.old; is_full = L.is_full launcher.old })
-            (record { world = world.new; left = S.left reader.new; read_faults = S.faults reader.new; contents = K.contents writer.new; write_faults = K.faults writer.new; stalls = K.stalls writer.new; calls = L.calls launcher.new; is_full = L.is_full launcher.new })) }
+        // What was taken and written, or why not.
+        ensures takes { HasTakeResult self.old self.new
+            (moment_of S.left S.faults K.contents K.faults K.stalls L.calls L.is_full world.old reader.old writer.old launcher.old)
+            (moment_of S.left S.faults K.contents K.faults K.stalls L.calls L.is_full world.new reader.new writer.new launcher.new)
+            result }
         // Nothing comes.
-        ensures over { IfOk result (λ is_taken. is_taken ≡ false → (scheduled_next self.old.schedule world.old ≡ None) × (world.new ≡ world.old)) }
+        ensures over { IfOk result (λ is_taken. is_taken ≡ false → (reader.new ≡ reader.old) × (writer.new ≡ writer.old)) }
         // However it ends, what happened is that the machine accepted an event, or nothing.
         ensures leads { IsReachable world.old world.new }
-        ensures unmoved { (IsErrOf result DriveFault.Read ⊎ IsErrOf result DriveFault.Memory) → world.new ≡ world.old }
-        ensures no_turns { IsErrOf result DriveFault.Turns → ⊥ }
         ensures stays { L.is_full launcher.old ≡ true → L.is_full launcher.new ≡ true }
         ensures agrees { OnOk result (Agrees world.new (L.calls launcher.new)) }
         ensures children { IsOpenTable self.new.children (L.calls launcher.new) }
         // What the next step needs.
         ensures count { self.new.schedule.taken ≤ self.old.schedule.taken + 1 }
+        ensures in_round { self.new.schedule.round.place ≤ 61 }
+        ensures few { length self.new.held < 4096 }
         ensures reads { OnOk result (S.faults reader.new ≡ S.faults reader.old) }
         ensures writes { OnOk result (K.faults writer.new ≡ K.faults writer.old) }
     {
@@ -112,20 +120,28 @@ impl<'a> Session<'a> {
         Ok(true)
     }
 
-    /// Looks up which children are open, after lines ran alone in the world.
-    pub fn look(&mut self, world: &World)
-        ensures children { (k : ℕ) → get_or self.new.children k false ≡ asks_read_or_wait (pending_of world.now k) }
+    /// Looks up which children are open after a line ran alone in the world ([`system`](crate::system)), however that ended.
+    pub fn look(&mut self, world: &World, ran: &Result<SystemEnd, SystemFault>)
+        ensures children { (calls : List Call) → AgreesAfterLine world.now ran.now calls → IsOpenTable self.new.children calls }
         ensures schedule { self.new.schedule ≡ self.old.schedule }
         ensures held { self.new.held ≡ self.old.held }
     {
-        self.intake.children = open_children(world);
+        self.intake.children = children_after_line(world, ran);
     }
 
-    /// Nothing comes any longer.
-    pub fn is_over(&self, world: &World) -> bool
-        ensures { result ≡ is_none (due_place self.now.schedule.round world.now) }
+    /// The end, if nothing comes any longer; otherwise `Turns`, for a caller that takes no more events.
+    pub fn finish(&self, world: &World) -> Result<End, DriveFault>
+        ensures end { IfOk result (λ end. (end.code ≡ (codes_at world.now 1).code) × (end.result2 ≡ (codes_at world.now 1).result2)
+            × (end.events ≡ self.now.schedule.taken) × (length world.now.shells ≡ 20)) }
+        ensures over { OnOk result (is_none (due_place self.now.schedule.round world.now) ≡ true) }
+        ensures turns { IsErrOf result DriveFault.Turns → is_none (due_place self.now.schedule.round world.now) ≡ false }
+        ensures only { OnErr result (IsErrOf result DriveFault.Turns) }
     {
-        self.schedule.is_over(world)
+        if self.schedule.is_over(world) {
+            Ok(self.end(world))
+        } else {
+            Err(DriveFault::Turns)
+        }
     }
 
     /// How the run that leaves this world ended.

@@ -2,6 +2,11 @@
 
 ghost use Rattle.ados_machine.specs.Alone.{AloneIsARun, AloneMeansWhole};
 ghost use Rattle.ados_machine.specs.Binding.{EventsBindOnlyWhatTheyUsed};
+ghost use Rattle.ados_machine.specs.Bound.{UsedDefersAreBound};
+ghost use Rattle.ados_machine.specs.Broken.{BreaksByCMark, BreaksByDFlag, BreaksUseUpTheFlag, CommandsUseUpTheFlag};
+ghost use Rattle.ados_machine.specs.Called.{ScriptsBeginWithTheirLines, CalledScriptsBeginWithTheirLines, FramesGoOn, JumpsLeadToTheirLine, FramesKeepTheirLines};
+ghost use Rattle.ados_machine.specs.Codes.{UnknownCommandsFail, UnknownCommandsAreTold, FaultyLinesFail, ExitStatusesAreReturned, FaultsAreReturned, FailedStartsAreReturned};
+ghost use Rattle.ados_machine.specs.Early.{ScriptsEndEarlyAtTheirFirst, FramesGiveBack, EarlyAndBackIsToObey};
 ghost use Rattle.ados_machine.specs.Given.{
   EventsGiveWhatIsPending,
   FurtherLinesWait,
@@ -10,6 +15,8 @@ ghost use Rattle.ados_machine.specs.Given.{
 };
 ghost use Rattle.ados_machine.specs.InUse.{EntriesStayInUse, IdleShellsUseNoEntry, OutputsStayOpen, StartsOpenOutputs};
 ghost use Rattle.ados_machine.specs.Kept.{EventsKeepAllCodes, FreshWorldsHaveAllCodes, LastCodesStay};
+ghost use Rattle.ados_machine.specs.Plain.{EnabledCommandsAreFound, EffectsAreRecorded, EffectsArePrinted, FailAtSetsTheLimit, SubstitutionsKeepTheirOutput, DirectoriesAreCarried};
+ghost use Rattle.ados_machine.specs.Programs.{StartsAskForTheirProgram, StartsUseTheirEntry, FirstFaultsStay};
 ghost use Rattle.ados_machine.specs.Reports.{ReportsTellLastRecords};
 ghost use Rattle.ados_machine.specs.Laws.{
   ScriptsEndWhereTheRuleSays,
@@ -30,6 +37,7 @@ ghost use Rattle.ados_machine.specs.Limits.{IsSane};
 ghost use Rattle.ados_machine.specs.Quiet.{QuietShellsAreInvisible};
 ghost use Rattle.ados_machine.specs.Starts.{FailedStartsChangeTheCodes, FailedStartsLeaveNothing};
 ghost use Rattle.ados_machine.specs.LoneReports.{AloneTellsReports};
+ghost use Rattle.ados_machine.specs.Typing.{LinesAreTakenIn, FullQueuesTakeNoLine};
 ghost use Rattle.ados_machine.specs.World.{fresh_world};
 ghost use Rattle.ados_resident.specs.declared.hosts.HostEntry.{HostEntry};
 ghost use Rattle.std.specs.Prelude.{List};
@@ -168,4 +176,76 @@ pub fn reports_tell_last_records()
 /// script the line at which its last command began, that one's codes and the limit in force.
 pub fn alone_tells_reports()
     ensures { AloneTellsReports }
+{}
+
+/// In every run of a world that is sane, of every script: the place of the first record that reaches its limit is the place at
+/// which the script ended early, or there is neither. And each frame that ends gives back its line, its codes, and the limit of
+/// the command that called it. Together this says that each frame obeys its limit, no more and no less.
+pub fn scripts_end_early_at_their_first()
+    ensures first { ScriptsEndEarlyAtTheirFirst }
+    ensures back { FramesGiveBack }
+    ensures same { EarlyAndBackIsToObey }
+{}
+
+/// What a command returns, by numbers: a command that is not known 10 and 205, as is told on the console; a line with a fault 20 and its number; a program
+/// by its exit status, unless there was a fault before, which is then returned with 20; and a start that failed 20 and the reason.
+pub fn commands_return_their_codes()
+    ensures unknown { UnknownCommandsFail }
+    ensures told { UnknownCommandsAreTold }
+    ensures faulty { FaultyLinesFail }
+    ensures exits { ExitStatusesAreReturned }
+    ensures faults { FaultsAreReturned }
+    ensures starts { FailedStartsAreReturned }
+{}
+
+/// A plain line of one of the shell's own commands does what the command's row says. An enabled internal command is found by its
+/// name; its record has the codes of its effect and the limit that it sets, so FailAt n is recorded with 0 and the limit n; what
+/// it puts out on the console comes first of what its event prints, and what it puts out in a command substitution goes into the line of that; and if it renames an object, the current directories of the
+/// other shells move along.
+pub fn commands_do_their_rows()
+    ensures found { EnabledCommandsAreFound }
+    ensures recorded { EffectsAreRecorded }
+    ensures printed { EffectsArePrinted }
+    ensures limit { FailAtSetsTheLimit }
+    ensures kept { SubstitutionsKeepTheirOutput }
+    ensures carried { DirectoriesAreCarried }
+{}
+
+/// A line whose word stands for a program asks for its start with the words of its arguments. If the program is on the resident list it puts that entry in use if it asks for the program's start; and the
+/// fault of a program that came first stays as long as the program runs.
+pub fn programs_keep_entry_and_fault()
+    ensures asked { StartsAskForTheirProgram }
+    ensures entry { StartsUseTheirEntry }
+    ensures fault { FirstFaultsStay }
+{}
+
+/// A break by D flags its shell, and one by C marks its program if that is to start or is read; neither does anything else. A turn
+/// that finds the flag in a script uses it up, and so does each plain command, unless that is itself a break of its own shell by D.
+pub fn breaks_set_and_use_up()
+    ensures c { BreaksByCMark }
+    ensures d { BreaksByDFlag }
+    ensures ends { BreaksUseUpTheFlag }
+    ensures commands { CommandsUseUpTheFlag }
+{}
+
+/// A script that is called begins with its lines, of its file's bytes by its arguments; and after each plain command below the
+/// limit the line after that is next, or the one to which it jumps. No event changes the lines of a frame.
+pub fn scripts_run_their_lines()
+    ensures begin { ScriptsBeginWithTheirLines }
+    ensures called { CalledScriptsBeginWithTheirLines }
+    ensures next { FramesGoOn }
+    ensures jumps { JumpsLeadToTheirLine }
+    ensures kept { FramesKeepTheirLines }
+{}
+
+/// The Defers that a plain command used are bound: those of its line's variables, of the search for its word and of its arguments,
+/// with those to which their texts lead.
+pub fn used_defers_are_bound()
+    ensures { UsedDefersAreBound }
+{}
+
+/// While less than 256 lines wait, a typed line that is not too long comes after them; while 256 wait none does.
+pub fn typed_lines_wait()
+    ensures taken { LinesAreTakenIn }
+    ensures full { FullQueuesTakeNoLine }
 {}

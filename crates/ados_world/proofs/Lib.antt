@@ -9,7 +9,7 @@ pub mod FirstLemmas
 mod LawLemmas
 mod MemoryLemmas
 mod NewShellLemmas
-mod OpenedLemmas
+pub mod OpenedLemmas
 mod StepLemmas
 mod AnswerLemmas
 mod TakenLemmas

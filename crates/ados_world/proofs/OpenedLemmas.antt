@@ -1,12 +1,18 @@
 -- The world in which a shell was opened: it is sane if the world before was.
-use Rattle.std.proofs.Common.{◌≡◌, ◌≢◌, ℕ, List, Some, refl, arith, inl, inr}
+use Rattle.std.proofs.Common.{◌≡◌, ◌≢◌, ℕ, List, [], ◌∷◌, Some, None, refl, arith, inl, inr}
 use Rattle.std.proofs.lemmas.Bool.{cases_eq}
 use Rattle.ados_text.specs.Text.{Text}
+use Rattle.ados_find.specs.Settings.{first_settings}
+use Rattle.ados_flow.specs.declared.kinds.FrameKind.TheVariants.{RunCommands}
+use Rattle.ados_flow.specs.Frames.{first_limit}
+use Rattle.ados_machine.specs.Items.{Began}
 use Rattle.ados_machine.specs.Numbers.{free_number}
 use Rattle.ados_machine.specs.World.{WorldState, numbered_shell}
-use Rattle.ados_machine.specs.Trace.{frames_of}
+use Rattle.ados_machine.specs.Trace.{frames_of, own}
 use Rattle.ados_machine.specs.Limits.{AllRunOn, RunsFrame, IsNumbered, IsSane}
 use Rattle.ados_machine.specs.LoneShell.{world_with_opened, opened_shell}
+use Rattle.ados_machine.proofs.Moves.{Moves, begun-moves}
+use Rattle.ados_machine.proofs.Sane.{sane-shells}
 use Rattle.ados_machine.proofs.Shells.{IsFree, found-set_other, free-number}
 use Rattle.ados_machine.proofs.Systems.{opened-stands}
 
@@ -46,3 +52,10 @@ opened-sane w k commands sane free = record {
   background = opened-background w k commands sane free;
   numbered = opened-numbered w k commands sane free;
 }
+
+-- a shell that is opened begins as one does that a command of another shell makes, and the others stay
+pub opened-moves : (w : WorldState) (k : ℕ) (commands : List Text) → IsSane w → free_number w.shells ≡ Some k → (j : ℕ) →
+    Moves j w.shells (own j ((k, Began 1 RunCommands first_limit) ∷ [])) (world_with_opened w k commands).shells
+opened-moves w k commands sane free j =
+    begun-moves j w.shells (Some (record { directory = []; settings = first_settings k; commands = commands; output = None })) (Some k)
+    (sane-shells w sane) (rw free at (free-number w.shells))

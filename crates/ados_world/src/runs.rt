@@ -1,5 +1,6 @@
 // Runs: a list of events, one after another.
 ghost use Rattle.std.specs.Prelude.{◌≡◌, ℕ, ◌++◌, IfOk, IfErr};
+ghost use Rattle.ados_machine.specs.Early.{EndsEarlyAtFirst, GivesBack, OfEachFrameIn};
 ghost use Rattle.ados_machine.specs.Given.{all_lines_taken, all_lines_typed};
 ghost use Rattle.ados_machine.specs.Kept.{codes_after_trace};
 ghost use Rattle.ados_machine.specs.Runs.{Runs};
@@ -80,6 +81,8 @@ impl World {
     /// its shell has ended, are those of its last command.
     pub fn run(mut self, events: &[Event]) -> Result<Run, World>
         ensures run { IfOk result (λ run. Runs self events.now run.outs run.world) }
+        ensures early { IfOk result (λ run. OfEachFrameIn EndsEarlyAtFirst self events.now run.outs) }
+        ensures back { IfOk result (λ run. OfEachFrameIn GivesBack self events.now run.outs) }
         ensures limits { IfOk result (λ run. LimitsHold self events.now run.outs) }
         ensures reports { IfOk result (λ run. ReportsHold self events.now run.outs) }
         ensures frames { IfOk result (λ run. FramesHold self events.now run.outs run.world) }

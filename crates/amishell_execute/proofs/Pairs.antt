@@ -1,9 +1,17 @@
 -- A launcher and a world that agree.
-use Rattle.std.proofs.Common.{◌≡◌, ℕ, List, [], Bool, false, get_or}
+use Rattle.std.proofs.Common.{◌≡◌, None, length, refl, ap, sym, subst, ℕ, List, [], Bool, false, get_or}
+use Rattle.ados_machine.specs.Limits.{IsSane}
 use Rattle.ados_machine.specs.World.{WorldState, pending_of}
 use Rattle.ados_launcher.specs.declared.calls.Call.{Call}
-use Rattle.ados_launch.specs.Agreement.{Agrees, IsOpenTable}
+use Rattle.ados_launch.specs.Agreement.{Agrees, AreOver, IsOpenTable}
+use Rattle.ados_launch.specs.Leads.{LeadsByRule}
 use Rattle.ados_launch.specs.Rounds.{asks_read_or_wait}
+use Rattle.ados_launch.specs.Schedule.{scheduled_next}
+use Rattle.ados_launch.specs.Session.{Moment}
+use Rattle.ados_launch.specs.Steps.{SessionState, TakesNothing}
+use Rattle.ados_launch.proofs.ActsLaws.{leads-by-rule}
+use Rattle.ados_launch.proofs.Stepping.{session-over}
+use Rattle.ados_launch.proofs.Leading.{leads_none}
 use Rattle.ados_launch.proofs.Agreeing.{table-begins}
 
 -- a launcher without a call agrees with a world as any other does
@@ -16,3 +24,12 @@ bare_pair w calls none agrees = rw none at agrees
 -- the children that a world asks for are those that are open
 pub table_looked : (w : WorldState) (calls : List Call) (table : List Bool) → Agrees w calls → ((k : ℕ) → get_or table k false ≡ asks_read_or_wait (pending_of w k)) → IsOpenTable table calls
 table_looked w calls table agrees looked = table-begins w calls table agrees looked
+
+-- nothing happened
+pub rule_stays : (w : WorldState) → IsSane w → LeadsByRule w w
+rule_stays w sane = leads-by-rule w w (leads_none w w refl) sane
+
+-- nothing comes: no child is open
+pub nothing_over : (was now : SessionState) (before after : Moment) (calls : List Call) → TakesNothing was now before after → Agrees after.world calls → length after.world.shells ≡ 20 → AreOver calls
+nothing_over was now before after calls t agrees size =
+    session-over was after.world calls agrees size (subst (λ w. scheduled_next was.schedule w ≡ None) (sym (ap (λ m. m.world) t.stays)) t.none)

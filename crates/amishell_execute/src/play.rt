@@ -1,14 +1,14 @@
 //! The run of a script.
 
-ghost use Rattle.std.specs.Prelude.{◌<◌, ◌^◌, ◌-◌, []};
-ghost use Rattle.ados_launch.specs.Agreement.{Agrees};
-ghost use Rattle.ados_launch.specs.Leads.{IsReachable};
+ghost use Rattle.std.specs.Prelude.{◌≡◌, ◌<◌, ◌^◌, ◌-◌, [], OnOk};
+ghost use Rattle.ados_launch.specs.Agreement.{Agrees, AreOver, IsOpenTable};
+ghost use Rattle.ados_launch.specs.Leads.{IsReachable, LeadsByRule};
 
 use crate::faults::Fault;
 use crate::launcher::Bringer;
 use crate::reader::Prompter;
 use crate::share::Share;
-use ados_launch::{Counted, Drive, DriveFault, End, Session, Sink};
+use ados_launch::{Counted, End, Session, Sink};
 use ados_transfer::{Lines, Planned};
 use ados_world::World;
 use std::io;
@@ -31,8 +31,9 @@ pub struct Script<'a> {
 /// Runs a script in a new world, with standard input for what asks.
 ///
 /// However it ends, the world is one that events which the machine accepts and shells opened for lines lead to: nothing else
-/// brings a file in, and nothing else changes one.
-#[tactic(auto, using(crate::proofs::Pairs::kept_pair))]
+/// brings a file in, and nothing else changes one. In all of these, in every shell, each script ends early exactly at its first
+/// command whose code reaches the limit in force after it, the reports are the ends of scripts, and each frame ends once.
+#[tactic(auto, using(crate::proofs::Pairs::kept_pair, crate::proofs::Pairs::rule_stays))]
 pub fn play<R: AllocGlobal + Files + Input + Print + Eprint + Processes + Clone + Drop + Clock>(
     rt: &R,
     world: &mut World,
@@ -40,8 +41,10 @@ pub fn play<R: AllocGlobal + Files + Input + Print + Eprint + Processes + Clone 
     share: Option<&mut Share>,
 ) -> Result<End, Fault>
     requires { Agrees world.old [] }
-    ensures leads { IsReachable world.old world.new }
+    ensures rule { LeadsByRule world.old world.new }
 {
+    // This shows that the world is sane: no script in it runs on after a failure.
+    let _asked = world.pending(1);
     let mut run = Run {
         rt,
         turns: script.turns.saturating_add(script.lines.events),
@@ -77,49 +80,77 @@ impl<R: AllocGlobal + Files + Eprint + Processes + Clone + Drop + Clock, I: Read
     I,
     K,
 > {
-    // Drives the world to its end. A shared folder is attended to before each event.
+    // Drives the world to its end. However it ends, each program that was started was waited for.
     #[tactic(auto, using(crate::proofs::Pairs::table_looked))]
     fn drive(&mut self, world: &mut World, share: Option<&mut Share>) -> Result<End, Fault>
         requires reader { self.old.reader.faults < 2 ^ 64 - 1 }
         requires writer { K.faults self.old.writer < 2 ^ 64 - 1 }
         requires agrees { Agrees world.old self.old.launcher.calls }
+        ensures rule { LeadsByRule world.old world.new }
+        ensures over { AreOver self.new.launcher.calls }
+    {
+        let mut session = Session::new(self.rt.alloc(), world, &[]);
+        match self.drive_session(world, &mut session, share) {
+            Ok(end) => Ok(end),
+            Err(fault) => {
+                session.abandon(&mut self.launcher);
+                Err(fault)
+            }
+        }
+    }
+
+    // Takes events until nothing comes; a shared folder is attended to before each. At a fault, of whatever kind, the session knows
+    // which programs are open, and the caller has to abandon it.
+    fn drive_session(
+        &mut self,
+        world: &mut World,
+        session: &mut Session<'_>,
+        mut share: Option<&mut Share>,
+    ) -> Result<End, Fault>
+        requires reader { self.old.reader.faults < 2 ^ 64 - 1 }
+        requires writer { K.faults self.old.writer < 2 ^ 64 - 1 }
+        requires agrees { Agrees world.old self.old.launcher.calls }
+        requires children { IsOpenTable session.old.children self.old.launcher.calls }
+        requires begins { session.old.schedule.taken ≡ 0 }
+        ensures leads { IsReachable world.old world.new }
+        ensures children { IsOpenTable session.new.children self.new.launcher.calls }
+        ensures over { OnOk result (AreOver self.new.launcher.calls) }
+    {
+        for _ in 0..self.turns {
+            self.attend(world, session, &mut share)?;
+            if !session.take(
+                world,
+                &mut self.launcher,
+                &mut self.reader,
+                &mut self.writer,
+            )? {
+                return Ok(session.end(world));
+            }
+        }
+        Ok(session.finish(world)?)
+    }
+
+    // Attends to the shared folder before an event, if there is one.
+    fn attend(
+        &mut self,
+        world: &mut World,
+        session: &mut Session<'_>,
+        share: &mut Option<&mut Share>,
+    ) -> Result<(), Fault>
+        requires count { session.old.schedule.taken < 2 ^ 64 - 1 }
+        requires agrees { Agrees world.old self.old.launcher.calls }
+        requires children { IsOpenTable session.old.children self.old.launcher.calls }
+        ensures agrees { OnOk result (Agrees world.new self.new.launcher.calls) }
+        ensures children { IsOpenTable session.new.children self.new.launcher.calls }
+        ensures schedule { session.new.schedule ≡ session.old.schedule }
+        ensures reader { self.new.reader ≡ self.old.reader }
+        ensures writer { self.new.writer ≡ self.old.writer }
         ensures leads { IsReachable world.old world.new }
     {
         let Some(share) = share else {
-            let drive = Drive {
-                alloc: self.rt.alloc(),
-                turns: self.turns,
-                breaks: &[],
-            };
-            return Ok(drive.run(
-                world,
-                &mut self.launcher,
-                &mut self.reader,
-                &mut self.writer,
-            )?);
+            return Ok(());
         };
-        let mut session = Session::new(self.rt.alloc(), world, &[]);
-        for _ in 0..self.turns {
-            let is_ready = self.reader.has_brought();
-            share.attend(self.rt, world, &mut self.launcher, &mut session, is_ready)?;
-            match session.take(
-                world,
-                &mut self.launcher,
-                &mut self.reader,
-                &mut self.writer,
-            ) {
-                Ok(true) => {}
-                Ok(false) => return Ok(session.end(world)),
-                Err(fault) => {
-                    session.abandon(&mut self.launcher);
-                    return Err(Fault::from(fault));
-                }
-            }
-        }
-        if session.is_over(world) {
-            return Ok(session.end(world));
-        }
-        session.abandon(&mut self.launcher);
-        Err(Fault::from(DriveFault::Turns))
+        let is_ready = self.reader.has_brought();
+        share.attend(self.rt, world, &mut self.launcher, session, is_ready)
     }
 }

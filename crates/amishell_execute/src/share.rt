@@ -56,6 +56,7 @@ impl Due {
 
 impl Share {
     /// Makes in a new world the directory that the words name, and the commands by which files are brought in.
+    #[tactic(auto, using(crate::proofs::Pairs::kept_pair))]
     pub fn open<R: Env + AllocGlobal + Files + Clone + Drop + Clock>(
         rt: &R,
         words: &str,
@@ -74,8 +75,9 @@ impl Share {
         let mirror = Mirror::new(rt, words, options, world.files())?;
         // These lines start no program.
         let mut launcher = Listed::new(Vec::new(alloc));
+        let mut session = Session::new(alloc, world, &[]);
         let lines = mirror.first_lines(alloc, world.files())?;
-        run_lines(alloc, world, lines.as_slice(), &mut launcher)?;
+        run_lines(alloc, world, lines.as_slice(), &mut launcher, &mut session)?;
         if !launcher.is_unused() {
             return Err(Fault::NotBrought);
         }
@@ -95,6 +97,8 @@ impl Share {
 
     /// Before an event: at a program's start, what changed is written to the folder; before its end is reported to the world,
     /// what changed in the folder is brought in. `is_ready`: the lines that bring files in were given.
+    ///
+    /// At an error too the session knows which programs are open.
     pub fn attend<R: AllocGlobal + Files + Eprint + Processes + Clone + Drop + Clock>(
         &mut self,
         rt: &R,
@@ -107,15 +111,15 @@ impl Share {
         requires agrees { Agrees world.old launcher.old.calls }
         requires children { IsOpenTable session.old.children launcher.old.calls }
         ensures agrees { OnOk result (Agrees world.new launcher.new.calls) }
-        ensures children { OnOk result (IsOpenTable session.new.children launcher.new.calls) }
+        ensures children { IsOpenTable session.new.children launcher.new.calls }
         ensures schedule { session.new.schedule ≡ session.old.schedule }
+        ensures held { session.new.held ≡ session.old.held }
         ensures leads { IsReachable world.old world.new }
     {
         self.mirror.watch(world.files());
         if !self.is_filled {
             if is_ready && world.wants_line() {
-                self.bring_in(rt, world, launcher)?;
-                session.look(world);
+                self.bring_in(rt, world, launcher, session)?;
                 self.is_filled = true;
             }
             return Ok(());
@@ -127,8 +131,7 @@ impl Share {
             }
             Due::Wait(number) => {
                 launcher.await_end(number);
-                self.bring_in(rt, world, launcher)?;
-                session.look(world);
+                self.bring_in(rt, world, launcher, session)?;
             }
             Due::Other => {}
         }
@@ -153,13 +156,18 @@ impl Share {
         rt: &R,
         world: &mut World,
         launcher: &mut Bringer<'_, R>,
+        session: &mut Session<'_>,
     ) -> Result<(), Fault>
         requires agrees { Agrees world.old launcher.old.calls }
+        requires children { IsOpenTable session.old.children launcher.old.calls }
         ensures agrees { OnOk result (Agrees world.new launcher.new.calls) }
+        ensures children { IsOpenTable session.new.children launcher.new.calls }
+        ensures schedule { session.new.schedule ≡ session.old.schedule }
+        ensures held { session.new.held ≡ session.old.held }
         ensures leads { IsReachable world.old world.new }
     {
         for arrival in self.mirror.arrivals(rt, world.files())? {
-            let arrival = take_in(rt.alloc(), world, launcher, arrival)?;
+            let arrival = take_in(rt.alloc(), world, launcher, session, arrival)?;
             self.mirror.settle(arrival, world.files())?;
         }
         self.report_lines(rt);
@@ -213,14 +221,19 @@ fn take_in<R: Processes>(
     alloc: Global,
     world: &mut World,
     launcher: &mut Bringer<'_, R>,
+    session: &mut Session<'_>,
     mut arrival: Arrival,
 ) -> Result<Arrival, Fault>
     requires agrees { Agrees world.old launcher.old.calls }
+    requires children { IsOpenTable session.old.children launcher.old.calls }
     ensures agrees { OnOk result (Agrees world.new launcher.new.calls) }
+    ensures children { IsOpenTable session.new.children launcher.new.calls }
+    ensures schedule { session.new.schedule ≡ session.old.schedule }
+    ensures held { session.new.held ≡ session.old.held }
     ensures leads { IsReachable world.old world.new }
 {
     launcher.offer(arrival.bytes.take());
-    run_lines(alloc, world, arrival.lines.as_slice(), launcher)?;
+    run_lines(alloc, world, arrival.lines.as_slice(), launcher, session)?;
     launcher.offer(None);
     Ok(arrival)
 }
@@ -231,30 +244,41 @@ fn run_lines<L: Launcher>(
     world: &mut World,
     lines: &[Text],
     launcher: &mut L,
+    session: &mut Session<'_>,
 ) -> Result<(), Fault>
     requires agrees { Agrees world.old (L.calls launcher.old) }
+    requires children { IsOpenTable session.old.children (L.calls launcher.old) }
     ensures agrees { OnOk result (Agrees world.new (L.calls launcher.new)) }
+    ensures children { IsOpenTable session.new.children (L.calls launcher.new) }
+    ensures schedule { session.new.schedule ≡ session.old.schedule }
+    ensures held { session.new.held ≡ session.old.held }
     ensures leads { IsReachable world.old world.new }
 {
     for line in lines {
-        run_alone(alloc, world, line, launcher)?;
+        run_alone(alloc, world, line, launcher, session)?;
     }
     Ok(())
 }
 
-// Runs a line alone, whose output is ignored. If no shell is free it is not run.
+// Runs a line alone, whose output is ignored. If no shell is free it is not run. However it ends, the session then knows which
+// programs are open.
 fn run_alone<L: Launcher>(
     alloc: Global,
     world: &mut World,
     line: &Text,
     launcher: &mut L,
+    session: &mut Session<'_>,
 ) -> Result<(), Fault>
     requires agrees { Agrees world.old (L.calls launcher.old) }
     ensures agrees { OnOk result (Agrees world.new (L.calls launcher.new)) }
+    ensures children { IsOpenTable session.new.children (L.calls launcher.new) }
+    ensures schedule { session.new.schedule ≡ session.old.schedule }
+    ensures held { session.new.held ≡ session.old.held }
     ensures leads { IsReachable world.old world.new }
 {
     let mut printed = Vec::new(alloc);
     let ran = system(alloc, world, line, launcher, EVENTS, &mut printed);
+    session.look(world, &ran);
     outcome(&ran)
 }
 

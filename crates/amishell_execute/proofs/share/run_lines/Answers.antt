@@ -1,3 +1,4 @@
+use Rattle.std.proofs.Common.{◌∙◌}
 use Rattle.ados_launch.proofs.Leading.{leads_on}
 use Rattle.amishell_execute.proofs.share.run_lines.Goals as goal
 
@@ -8,5 +9,8 @@ returns-in_err-run_alone-clause-leads g c =
 pub loop-line-preserved : goal.loop-line-preserved
 loop-line-preserved g c = record {
   agrees = c.in_ok-run_alone.ensures.agrees;
+  children = c.run_alone.ensures.children;
+  schedule = c.run_alone.ensures.schedule ∙ c.loop-line.invariant.schedule;
+  held = c.run_alone.ensures.held ∙ c.loop-line.invariant.held;
   leads = leads_on c.args.world.now c.loop-line.world c.run_alone.new.world c.loop-line.invariant.leads c.run_alone.ensures.leads;
 }

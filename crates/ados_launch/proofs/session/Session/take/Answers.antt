@@ -1,10 +1,62 @@
-use Rattle.std.proofs.Common.{refl, sym, ◌∙◌}
+use Rattle.std.proofs.Common.{refl, sym, ◌∙◌, IsErrOf, rules}
 use Rattle.ados_launch.proofs.Leading.{leads_at}
+use Rattle.ados_launch.proofs.Outcomes.{never-turns, never-write}
+use Rattle.ados_launch.proofs.Stepping.{takes-by}
 use Rattle.ados_launch.specs.Schedule.{found_next}
+use Rattle.ados_launch.specs.declared.faults.IntakeFault.TheVariants.{NoMemory, Read as Unread}
 use Rattle.ados_launch.proofs.session.Session.take.Goals as goal
 
-pub returns-in_default-clause-over : goal.returns-in_default-clause-over
-returns-in_default-clause-over g c = λ e. rw (← c.self.view_is) (sym c.in_default.ensures.next, refl)
+pub returns-in_default-clause-takes : goal.returns-in_default-clause-takes
+returns-in_default-clause-takes g c = rw (← c.self.view_is) (record {
+  none = sym c.in_default.ensures.next;
+  stays = refl;
+  round_is = c.next.ensures.round;
+  taken_is = c.next.ensures.taken;
+  held_is = refl;
+})
+
+pub returns-in_err-take-clause-takes : goal.returns-in_err-take-clause-takes
+returns-in_err-take-clause-takes g c = rw (← c.self.view_is)
+    (takes-by _ _ _ _ c.from_residual.result _ c.from_residual.ensures.1
+    (λ is.
+    let failed : IsErrOf c.take.result Unread = search rules in
+    record {
+      next = found_next c.in-Some.next;
+      next_is = sym c.in-Some.ensures.next;
+      fails = c.take.ensures.read failed;
+      not_taken = record { world_is = c.in_err-take.ensures.err; contents_are = refl; writes_well = (refl, refl) };
+    })
+    (λ is.
+    let failed : IsErrOf c.take.result NoMemory = search rules in
+    record {
+      next = found_next c.in-Some.next;
+      next_is = sym c.in-Some.ensures.next;
+      lacks = c.take.ensures.memory failed;
+      not_taken = record { world_is = c.in_err-take.ensures.err; contents_are = refl; writes_well = (refl, refl) };
+    })
+    (λ is. absurd (never-write _ is))
+    (λ is. absurd (never-turns _ is)))
+
+pub returns-in_err-write_whole-clause-takes : goal.returns-in_err-write_whole-clause-takes
+returns-in_err-write_whole-clause-takes g c =
+    let front = c.in_err-write_whole.ensures.front in
+    rw (← c.self.view_is)
+    (takes-by _ _ _ _ c.from_residual-in_err-write_whole.result _ c.from_residual-in_err-write_whole.ensures.1
+    (λ is. cc)
+    (λ is. cc)
+    (λ is. record {
+      next = found_next c.in-Some.next;
+      next_is = sym c.in-Some.ensures.next;
+      bytes = c.take.new.self.draft.printed.items;
+      takes = c.in_ok-take.ensures.took;
+      agrees = c.in_ok-take.ensures.agrees;
+      length_written = front.0;
+      cut = rw c.as_slice.ensures.value at front.1;
+      written = rw c.as_slice.ensures.value at front.2;
+      cause = c.in_err-write_whole.ensures.cause;
+      reads_well = c.in_ok-take.ensures.honest;
+    })
+    (λ is. cc))
 
 pub returns-in_err-write_whole-clause-leads : goal.returns-in_err-write_whole-clause-leads
 returns-in_err-write_whole-clause-leads g c = leads_at c.args.world.now _ _ _ _ c.take.new.world _ _ _ c.in_ok-take.ensures.took
@@ -13,7 +65,7 @@ pub returns-clause-leads : goal.returns-clause-leads
 returns-clause-leads g c = leads_at c.args.world.now _ _ _ _ c.take.new.world _ _ _ c.in_ok-take.ensures.took
 
 pub returns-clause-takes : goal.returns-clause-takes
-returns-clause-takes g c = λ e. rw (← c.self.view_is) (record {
+returns-clause-takes g c = rw (← c.self.view_is) (record {
   next = found_next c.in-Some.next;
   next_is = sym c.in-Some.ensures.next;
   bytes = c.take.new.self.draft.printed.items;

@@ -2,6 +2,7 @@ use Rattle.std.proofs.Common.{◌≡◌, ◌∙◌, ◌+◌, ◌++◌, ◌∷◌
 use Rattle.std.proofs.lemmas.Grind.{common_steps}
 use Rattle.std.proofs.lemmas.List.{take_more}
 use Rattle.ados_machine.specs.Kept.{HasAllCodes}
+use Rattle.ados_machine.proofs.EarlyLemmas.{scripts-end-early, frames-give-back}
 use Rattle.ados_machine.proofs.QueueLemmas.{lines-in-order}
 use Rattle.ados_machine.proofs.KeptLemmas.{last-codes-stay}
 use Rattle.ados_machine.proofs.ReportLemmas.{reports-by}
@@ -26,6 +27,16 @@ loop-event-preserved c =
       room = grind (arith, common_steps);
       len = grind (arith, common_steps);
     }
+
+pub returns-clause-early : goal.returns-clause-early
+returns-clause-early c =
+    let run = whole-run c.args.self c.args.events.now c.loop-event.outs.items c.loop-event.self c.loop-event.event-index (grind (arith, common_steps)) c.loop-event.invariant.run in
+    rw c.from_vec.ensures (scripts-end-early c.args.self c.args.events.now c.loop-event.outs.items c.loop-event.self run (rw c.self.view_is at c.self.invariant))
+
+pub returns-clause-back : goal.returns-clause-back
+returns-clause-back c =
+    let run = whole-run c.args.self c.args.events.now c.loop-event.outs.items c.loop-event.self c.loop-event.event-index (grind (arith, common_steps)) c.loop-event.invariant.run in
+    rw c.from_vec.ensures (frames-give-back c.args.self c.args.events.now c.loop-event.outs.items c.loop-event.self run (rw c.self.view_is at c.self.invariant))
 
 pub returns-clause-limits : goal.returns-clause-limits
 returns-clause-limits c =

@@ -3,22 +3,22 @@ use Rattle.ados_launch.specs.Agreement.{Agrees, IsOpenTable}
 use Rattle.ados_launch.specs.Lines.{bytes_ahead}
 use Rattle.ados_launch.specs.Session.{moment_of}
 use Rattle.ados_launch.proofs.Sessions.{Driven}
-use Rattle.ados_launch.proofs.driver.Drive.run_schedule.Given as goal
+use Rattle.ados_launch.proofs.driver.Drive.run_session.Given as goal
 
-abbrev pub invariant-loop-events : goal.invariant-loop-events
-invariant-loop-events g l = record {
+abbrev pub invariant-loop : goal.invariant-loop
+invariant-loop g l = record {
   reader : g.S.Source.faults l.reader ≡ g.S.Source.faults l.fn.reader;
   writer : g.K.Sink.faults l.writer ≡ g.K.Sink.faults l.fn.writer;
   stalls : g.K.Sink.stalls l.writer ≡ g.K.Sink.stalls l.fn.writer;
-  in_round : l.schedule.round.place ≤ 61;
-  count : l.schedule.taken ≡ l.events;
-  few : length l.intake.held < 4096;
-  fresh_reader : l.events ≡ 0 → l.reader ≡ l.fn.reader;
-  fresh_writer : l.events ≡ 0 → l.writer ≡ l.fn.writer;
+  in_round : l.session.schedule.round.place ≤ 61;
+  count : l.session.schedule.taken ≡ l.counter;
+  few : length l.session.held < 4096;
+  fresh_reader : l.counter ≡ 0 → l.reader ≡ l.fn.reader;
+  fresh_writer : l.counter ≡ 0 → l.writer ≡ l.fn.writer;
   agrees : Agrees l.world (g.L.Launcher.calls l.launcher);
-  children : IsOpenTable l.intake.children (g.L.Launcher.calls l.launcher);
+  children : IsOpenTable l.session.children (g.L.Launcher.calls l.launcher);
   driven : Driven
       (moment_of g.S.Source.left g.S.Source.faults g.K.Sink.contents g.K.Sink.faults g.K.Sink.stalls g.L.Launcher.calls g.L.Launcher.is_full l.fn.world l.fn.reader l.fn.writer l.fn.launcher)
       (moment_of g.S.Source.left g.S.Source.faults g.K.Sink.contents g.K.Sink.faults g.K.Sink.stalls g.L.Launcher.calls g.L.Launcher.is_full l.world l.reader l.writer l.launcher)
-      l.self.breaks.now l.events l.schedule (bytes_ahead l.intake.held (g.S.Source.left l.reader));
+      l.self.breaks.now l.counter l.session.schedule (bytes_ahead l.session.held (g.S.Source.left l.reader));
 }

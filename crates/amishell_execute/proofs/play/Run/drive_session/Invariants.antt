@@ -1,7 +1,7 @@
 use Rattle.std.proofs.Common.{◌≡◌, ◌≤◌}
 use Rattle.ados_launch.specs.Agreement.{Agrees, IsOpenTable}
 use Rattle.ados_launch.specs.Leads.{IsReachable}
-use Rattle.amishell_execute.proofs.play.Run.drive.Given as goal
+use Rattle.amishell_execute.proofs.play.Run.drive_session.Given as goal
 
 abbrev pub invariant-loop : goal.invariant-loop
 invariant-loop g l = record {
