@@ -25,6 +25,11 @@ bytes_of_body (File bytes) = bytes
 abbrev pub bytes_of : Entry → Bytes
 bytes_of e = bytes_of_body e.body
 
+-- the bytes of a file, if there is one
+abbrev pub bytes_or_none : Option Bytes → Bytes
+bytes_or_none None = []
+bytes_or_none (Some bytes) = bytes
+
 abbrev pub size_of : Entry → ℕ
 size_of e = length (bytes_of e)
 

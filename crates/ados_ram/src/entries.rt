@@ -96,7 +96,7 @@ pub struct Entry {
 }
 
 impl Entry {
-    ghost use Rattle.ados_ram.specs.Entry.{is_directory, bytes_of, new_directory, file_entry_with_bits, with_bits, with_comment, renamed_entry};
+    ghost use Rattle.ados_ram.specs.Entry.{is_directory, bytes_of, bytes_or_none, new_directory, file_entry_with_bits, with_bits, with_comment, renamed_entry};
 
     /// Whether it is a directory.
     pub fn is_directory(&self) -> bool
@@ -115,6 +115,16 @@ impl Entry {
         match &self.body {
             Body::Directory => &[],
             Body::File(bytes) => bytes.as_bytes(),
+        }
+    }
+
+    /// The shared bytes of a file; none of a directory.
+    pub fn file(&self) -> Option<&FileBytes>
+        ensures { bytes_or_none (option_copied result) ≡ bytes_of self.now }
+    {
+        match &self.body {
+            Body::Directory => None,
+            Body::File(bytes) => Some(bytes),
         }
     }
 

@@ -21,7 +21,7 @@ use crate::refusals::{
     changeable, delete_refusal, list_refusal, make_dir_refusal, put_refusal, read_refusal,
     rename_refusal,
 };
-use crate::table::{Table, entry_bytes};
+use crate::table::{Table, entry_bytes, entry_file};
 use ados_text::{Name, NoMemory, Result2, Stop, Text};
 use std::alloc::Global;
 use std::marker::Model;
@@ -115,7 +115,7 @@ impl Ram {
         ensures ok { IfOk result (λ new. new ≡ write_of self.now (key_of place.now) (last_name place.now) bytes.now) }
         ensures fault { Answers result (write_fault (is_output busy.now (key_of place.now)) self.now (key_of place.now) (last_name place.now) bytes.now) }
     {
-        self.put(busy, place, &[], bytes, Bits::FRESH)
+        self.put(busy, place, None, bytes, Bits::FRESH)
     }
 
     /// Writes a file as `write` does, but a new one takes these bits.
@@ -132,7 +132,7 @@ impl Ram {
         ensures ok { IfOk result (λ new. new ≡ write_as_of self.now (key_of place.now) (last_name place.now) bytes.now bits) }
         ensures fault { Answers result (write_fault (is_output busy.now (key_of place.now)) self.now (key_of place.now) (last_name place.now) bytes.now) }
     {
-        self.put(busy, place, &[], bytes, bits)
+        self.put(busy, place, None, bytes, bits)
     }
 
     /// Appends bytes to a file; a file that does not exist is created.
@@ -146,7 +146,7 @@ impl Ram {
         self.put(
             busy,
             place,
-            entry_bytes(self.table.find(place.names())),
+            entry_file(self.table.find(place.names())),
             bytes,
             Bits::FRESH,
         )

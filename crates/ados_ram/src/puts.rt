@@ -1,7 +1,8 @@
 // Writing a file: the files with its bytes, kept and new.
-ghost use Rattle.std.specs.Prelude.{◌≡◌, ◌++◌, false, IfOk};
+ghost use Rattle.std.specs.Prelude.{◌≡◌, ◌++◌, false, length, IfOk};
 ghost use Rattle.std.specs.Option.{option_copied};
 ghost use Rattle.std.specs.FinMap as map;
+ghost use Rattle.ados_ram.specs.Entry.{bytes_or_none};
 ghost use Rattle.ados_ram.specs.Place.{key_of, is_root, last_name};
 ghost use Rattle.ados_ram.specs.Files.{AreFiles};
 ghost use Rattle.ados_ram.specs.InUse.{is_output};
@@ -14,7 +15,7 @@ use crate::files::Ram;
 use crate::in_use::Busy;
 use crate::places::Place;
 use crate::refusals::{is_put, write_refusal};
-use crate::table::entry_bytes;
+use crate::table::entry_file;
 use ados_text::{NoMemory, Stop};
 
 impl Ram {
@@ -23,16 +24,16 @@ impl Ram {
         &self,
         busy: &Busy,
         place: &Place,
-        kept: &[u8],
+        kept: Option<&FileBytes>,
         more: &[u8],
         bits: Bits,
     ) -> Result<Ram, Stop>
-        ensures ok { IfOk result (λ new. new ≡ write_as_of self.now (key_of place.now) (last_name place.now) (kept.now ++ more.now) bits) }
-        ensures fault { Answers result (write_fault (is_output busy.now (key_of place.now)) self.now (key_of place.now) (last_name place.now) (kept.now ++ more.now)) }
+        ensures ok { IfOk result (λ new. new ≡ write_as_of self.now (key_of place.now) (last_name place.now) (bytes_or_none (option_copied kept.entry) ++ more.now) bits) }
+        ensures fault { Answers result (write_fault (is_output busy.now (key_of place.now)) self.now (key_of place.now) (last_name place.now) (bytes_or_none (option_copied kept.entry) ++ more.now)) }
     {
         let old = self.table.find(place.names());
         let open = busy.is_output(place.names());
-        match write_refusal(open, &self.table, place.names(), kept.len(), more.len()) {
+        match write_refusal(open, &self.table, place.names(), kept_len(kept), more.len()) {
             Some(fault) => Err(Stop::Refused(fault)),
             None => Ok(self.with_bytes(place, old, kept, more, bits)?),
         }
@@ -45,7 +46,7 @@ impl Ram {
     {
         let old = self.table.find(place.names());
         if is_put(old, bytes) {
-            self.with_bytes(place, old, entry_bytes(old), bytes, Bits::FRESH)
+            self.with_bytes(place, old, entry_file(old), bytes, Bits::FRESH)
         } else {
             self.copy()
         }
@@ -57,14 +58,14 @@ impl Ram {
         &self,
         place: &Place,
         old: Option<&Entry>,
-        kept: &[u8],
+        kept: Option<&FileBytes>,
         more: &[u8],
         bits: Bits,
     ) -> Result<Ram, NoMemory>
         requires root { is_root (key_of place.now) ≡ false }
         requires old { option_copied old ≡ map.get self.now (key_of place.now) }
-        requires files { AreFiles (write_as_of self.now (key_of place.now) (last_name place.now) (kept.now ++ more.now) bits) }
-        ensures { IfOk result (λ new. new ≡ write_as_of self.now (key_of place.now) (last_name place.now) (kept.now ++ more.now) bits) }
+        requires files { AreFiles (write_as_of self.now (key_of place.now) (last_name place.now) (bytes_or_none (option_copied kept) ++ more.now) bits) }
+        ensures { IfOk result (λ new. new ≡ write_as_of self.now (key_of place.now) (last_name place.now) (bytes_or_none (option_copied kept.entry) ++ more.now) bits) }
     {
         let bytes = FileBytes::joined(self.alloc, kept, more)?;
         let entry = Entry::written(self.alloc, old, place.last_name()?, bytes, bits)?;
@@ -81,5 +82,15 @@ impl Ram {
             table: self.table.with(place, entry)?,
             alloc: self.alloc,
         })
+    }
+}
+
+// The number of bytes that are kept.
+fn kept_len(kept: Option<&FileBytes>) -> usize
+    ensures { result ≡ length (bytes_or_none (option_copied kept.entry)) }
+{
+    match kept {
+        None => 0,
+        Some(kept) => kept.as_bytes().len(),
     }
 }

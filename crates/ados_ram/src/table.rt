@@ -4,7 +4,7 @@ ghost use Rattle.std.specs.Option.{option_copied};
 ghost use Rattle.std.specs.FinMap as map;
 ghost use Rattle.ados_ram.specs.declared.entries.Entry.{Entry};
 ghost use Rattle.ados_ram.specs.Place.{key_of, is_root, last_name};
-ghost use Rattle.ados_ram.specs.Entry.{size_of};
+ghost use Rattle.ados_ram.specs.Entry.{size_of, bytes_or_none};
 ghost use Rattle.ados_ram.specs.Files.{IsTree, entry_bytes, total_of, bytes_limit, first_files};
 ghost use Rattle.ados_ram.specs.FileOperations.{has_descendants, rename_of, way_fault};
 ghost use Rattle.ados_ram.specs.Contents.{contents};
@@ -16,6 +16,7 @@ use crate::branches::Branch;
 use crate::children::Children;
 use crate::cursors::Cursor;
 use crate::entries::Entry;
+use crate::file_bytes::FileBytes;
 use crate::places::Place;
 use crate::rows::Row;
 use ados_text::{Name, NoMemory, Result2};
@@ -213,6 +214,16 @@ pub fn entry_bytes(entry: Option<&Entry>) -> &[u8]
     match entry {
         None => &[],
         Some(entry) => entry.bytes(),
+    }
+}
+
+/// The shared bytes of an entry; none if there is no file.
+pub fn entry_file(entry: Option<&Entry>) -> Option<&FileBytes>
+    ensures { bytes_or_none (option_copied result) ≡ entry_bytes (option_copied entry.entry) }
+{
+    match entry {
+        None => None,
+        Some(entry) => entry.file(),
     }
 }
 
