@@ -31,6 +31,7 @@ pub fn give(world: &mut World, event: &Event, draft: &mut Draft) -> Result<(), N
 }
 
 // Gives the world a line that it accepts, unless an allocation fails.
+#[inline(always)]
 pub fn give_line(world: &mut World, line: Text) -> Result<(), NoMemory>
     requires { is_accepted (step_of world.old (Event.Typed line)) ≡ true }
     ensures response { OnOk result (IsResponse (Event.Typed line) (Ok (event_out [] None [])) (step_of world.old (Event.Typed line))) }

@@ -78,6 +78,7 @@ impl Round {
     }
 
     // The first place of this round at which an event is due.
+    #[inline(always)]
     fn next_here(&self, world: &World) -> Option<u8>
         requires { self.now.place ≤ 61 }
         ensures { result ≡ in_this_round self.now world.now }
@@ -104,6 +105,7 @@ impl Round {
 
     // The first shell from a number on that asks for a piece of its program's output, or for its end, and had no answer in this
     // round.
+    #[inline(always)]
     fn first_further(&self, world: &World, from: u8) -> Option<u8>
         requires { from ≤ 21 }
         ensures number { result ≡ first_number from (is_further_due world.now self.now.answered) }
@@ -164,6 +166,7 @@ fn first_due(world: &World) -> Option<Due>
 }
 
 // The first shell from a number on that asks for a program's start.
+#[inline(always)]
 fn first_start(world: &World, from: u8) -> Option<u8>
     requires { from ≤ 21 }
     ensures number { result ≡ first_number from (λ k. asks_start (pending_of world.now k)) }

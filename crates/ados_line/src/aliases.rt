@@ -9,6 +9,7 @@ use std::alloc::Global;
 
 /// A line whose first word names an alias, with the alias's text in place of the word; `None` if it names none.
 #[tactic(auto, using(ados_text::proofs::TextLemmas::parts, crate::proofs::AliasLemmas::no_aliases))]
+#[inline(always)]
 pub fn replace_alias(
     alloc: Global,
     aliases: &Aliases,

@@ -8,6 +8,7 @@ use ados_items::{Item, next_item};
 /// A quote that is not closed takes the rest of the line, so that no comment begins after it. No memory is allocated. A
 /// line without any `;`, as nearly all are, is not searched item by item.
 #[tactic(auto, using(crate::proofs::CommentLemmas::whole))]
+#[inline(always)]
 pub fn without_comment(line: &[u8]) -> &[u8]
     ensures { result.now ≡ without_comment line.now }
 {

@@ -47,6 +47,7 @@ impl Cut {
     }
 
     /// The item is the command, and the line from a place on is its arguments.
+    #[inline(always)]
     pub fn of_command(alloc: Global, line: &[u8], item: &Item, to: usize) -> Result<Cut, NoMemory>
         requires { IsText line.now }
         ensures { IfOk result (λ read. read ≡ with_arguments (value_of line.now item.now) (drop to line.now)) }

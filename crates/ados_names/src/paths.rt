@@ -39,8 +39,8 @@ impl Path {
     /// pieces. An empty piece that is not the last goes up one directory, an empty last piece is ignored, and each
     /// other piece is the name of a step.
     ///
-    /// 210 for a text of more than 255 bytes, and if a device text that is not empty, or a piece, is not a name;
-    /// `NoMemory` only if there is a path.
+    /// 210 for a text of more than 255 bytes, and if the device text or a piece is neither empty nor a name;
+    /// `NoMemory` only if the text names a path.
     pub fn parse(alloc: Global, text: &Text) -> Result<Path, Stop>
         ensures value { Gives result (path_of text.now) }
         ensures memory { result ≡ Err OutOfMemory → IsOk (path_of text.now) }

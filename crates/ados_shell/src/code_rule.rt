@@ -39,6 +39,7 @@ impl Draft {
     }
 
     /// A command returned: the text of its fault is printed, and the code rule follows.
+    #[inline(always)]
     pub(crate) fn answer(
         &mut self,
         scene: &Scene,
@@ -135,6 +136,7 @@ impl Draft {
 
     /// The code rule: the newest frame ends if it quits, at the limit, or if no line is left,
     /// and its end is the return of the command that made it, and so on down.
+    #[inline(always)]
     pub(crate) fn finish(
         &mut self,
         scene: &Scene,

@@ -63,6 +63,7 @@ impl Draft {
     ghost use Rattle.ados_shell.specs.Completions.{Concludes};
 
     /// Lays on the frames how a line ended whose command has this word: what refused it is its code 20.
+    #[inline(always)]
     pub(crate) fn conclude(
         &mut self,
         scene: &Scene,

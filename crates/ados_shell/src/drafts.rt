@@ -132,6 +132,7 @@ impl Draft {
     }
 
     /// A turn of a shell begins: nothing is changed yet, except that its flag is cleared.
+    #[inline(always)]
     pub(crate) fn begin_turn(&mut self, shell: &Shell)
         ensures { IsFresh shell.now false self.new }
     {
@@ -154,6 +155,7 @@ impl Draft {
     }
 
     /// Nothing is printed, nothing is asked for, and no script ended.
+    #[inline(always)]
     pub fn give_nothing(&mut self)
         ensures { out_of self.new ≡ event_out [] None [] }
     {

@@ -70,6 +70,7 @@ impl Draft {
     ghost use Rattle.ados_shell.specs.Drafts.{course_of, here_in};
 
     /// Opens what a redirection names, with the shell and the shared state as it is now.
+    #[inline(always)]
     pub(crate) fn open(&self, scene: &Scene, output: Option<&Redirection>) -> Result<Opened, Stop>
         ensures { IsOpened (course_of scene.now self.now).shared result (line_output (course_of scene.now self.now) (option_copied output.entry)) }
     {
@@ -93,6 +94,7 @@ impl Draft {
     ///
     /// 210 for a name that is not a path, what resolving refuses (204, 205, 212, 218), and what writing refuses (202,
     /// 212, 221, 223).
+    #[inline(always)]
     pub(crate) fn open_own(
         &mut self,
         scene: &Scene,
@@ -127,6 +129,7 @@ impl Draft {
 
     /// Puts a command's output where it goes: to its own target, if it has one, otherwise where that of the newest
     /// frame goes; gives what the command returns then.
+    #[inline(always)]
     pub(crate) fn put(
         &mut self,
         scene: &Scene,

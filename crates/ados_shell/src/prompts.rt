@@ -23,6 +23,7 @@ impl Draft {
     ghost use Rattle.ados_shell.specs.Inputs.{HasRead};
 
     /// Runs a command: its input is read, if it has one, and its arguments are asked for if they are `?`.
+    #[inline(always)]
     pub(crate) fn builtin(
         &mut self,
         scene: &Scene,
@@ -57,6 +58,7 @@ impl Draft {
     }
 
     /// Reads an input, if there is one, and uses its device. If it is refused nothing is changed.
+    #[inline(always)]
     pub(crate) fn read_own(
         &mut self,
         scene: &Scene,

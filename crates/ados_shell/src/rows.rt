@@ -26,6 +26,7 @@ impl Draft {
     ghost use Rattle.ados_shell.specs.Uses.{HasUsed};
 
     /// Runs a command whose arguments are there: its output is opened, and its row runs. Its input has these lines, if there is one.
+    #[inline(always)]
     pub(crate) fn command(
         &mut self,
         scene: &Scene,
@@ -43,6 +44,7 @@ impl Draft {
     }
 
     /// Holds what is done by a command whose output leads there, and whose input has these lines.
+    #[inline(always)]
     pub(crate) fn act(
         &mut self,
         scene: &Scene,
@@ -177,6 +179,7 @@ impl Draft {
     }
 
     /// The draft holds what a command made, and its output is put; gives what it returns then.
+    #[inline(always)]
     pub(crate) fn apply(
         &mut self,
         scene: &Scene,

@@ -18,6 +18,7 @@ impl ShellDraft {
     ghost use Rattle.ados_shell.specs.Views.{shell_view};
 
     /// A turn of a shell begins: nothing is changed yet, except that its flag is cleared.
+    #[inline(always)]
     pub(crate) fn begin_turn(&mut self, shell: &Shell)
         ensures unchanged { IsUnchanged shell.now self.new }
         ensures flag { self.new.flagged ≡ false }
@@ -33,6 +34,7 @@ impl ShellDraft {
     }
 
     /// What the shell with this number asks a launcher for after its turn.
+    #[inline(always)]
     pub(crate) fn request(&self, number: u8) -> Result<Option<Request>, NoMemory>
         ensures { IfOk result (λ request. request ≡ request_of number (drafted_phase self.now)) }
     {

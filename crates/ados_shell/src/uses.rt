@@ -119,6 +119,7 @@ impl Draft {
     }
 
     /// The event ends: each assign of Defer that it used, whose text leads to a directory, is bound to that.
+    #[inline(always)]
     pub(crate) fn bind(&mut self, scene: &Scene) -> Result<(), NoMemory>
         ensures { OnOk result (HasBound scene.now self.old self.new) }
     {

@@ -46,6 +46,7 @@ impl World {
     }
 
     /// A line joins the queue.
+    #[inline(always)]
     pub(crate) fn queue_line(&mut self, line: Text) -> Result<(), Refusal>
         ensures ok { OnOk result (self.new ≡ with_queued_line line self.old) }
         ensures err { IfErr result (λ why. why ≡ NoMemory) }

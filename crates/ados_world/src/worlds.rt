@@ -134,6 +134,7 @@ impl World {
     }
 
     /// The first number from this one on, up to 20, whose shell can take a turn, as [`ready`](World::ready) says.
+    #[inline(always)]
     pub fn first_ready(&self, from: u8) -> Option<u8>
         requires { from ≤ 21 }
         ensures number { result ≡ first_number from (is_ready self.now) }
