@@ -18,11 +18,12 @@ use crate::driver::End;
 use crate::events::shell_answered;
 use crate::faults::DriveFault;
 use crate::intake::Intake;
+use crate::next::Next;
 use crate::schedule::Schedule;
 use crate::written::write_whole;
 use crate::{Sink, Source};
 use ados_launcher::Launcher;
-use ados_machine::{BreakAt, Request};
+use ados_machine::{BreakAt, EndReport, Request};
 use ados_world::World;
 use std::alloc::Global;
 use std::marker::Model;
@@ -60,6 +61,18 @@ impl<'a> Session<'a> {
             schedule: Schedule::new(breaks),
             intake: Intake::new(alloc, world),
         }
+    }
+
+    /// What comes next; `None` if nothing does, or a break.
+    pub fn next(&self, world: &World) -> Option<Next>
+        requires count { self.now.schedule.taken < 2 ^ 64 - 1 }
+    {
+        Some(Next::at(self.schedule.place(world)?))
+    }
+
+    /// The scripts that ended at the last event, innermost first.
+    pub fn reports(&self) -> &[EndReport] {
+        self.intake.draft.reports.as_slice()
     }
 
     /// What the next event asks of the launcher; `None` if it asks nothing, or nothing comes.

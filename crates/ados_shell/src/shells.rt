@@ -164,6 +164,13 @@ impl Shell {
         &self.settings
     }
 
+    /// Its frames: the newest is the last.
+    pub fn frames(&self) -> &[Frame]
+        ensures { reverse result.now ≡ self.now.frames }
+    {
+        self.frames.as_slice()
+    }
+
     /// It runs a frame.
     pub fn has_frame(&self) -> bool
         ensures { result ≡ has_frame self.now.frames }
