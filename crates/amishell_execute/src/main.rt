@@ -16,6 +16,7 @@ mod request;
 mod share;
 mod warnings;
 
+use ados_launch::Counted;
 use ados_ram::Place;
 use ados_text::{Code, Text};
 use ados_transfer::{Lines, Plan, bring, bring_script, take};
@@ -127,6 +128,7 @@ fn run_script<R: AllocGlobal + Files + Input + Print + Eprint + Processes + Clon
         return Ok(FAILED);
     }
     let lines = lines_for(rt, options, share.as_ref(), &plan, &script)?;
+    let mut writer = Counted::new(io::writer(rt));
     let ended = play(
         rt,
         world,
@@ -136,6 +138,7 @@ fn run_script<R: AllocGlobal + Files + Input + Print + Eprint + Processes + Clon
             turns: options.turns,
         },
         share.as_mut(),
+        &mut writer,
     );
     let is_alike = close(rt, world, share.as_mut())?;
     let is_taken = take_all(rt, options, world);
