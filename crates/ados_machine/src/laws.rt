@@ -1,6 +1,7 @@
 //! The laws: what holds of every run, by the definitions alone.
 
 ghost use Rattle.ados_machine.specs.Alone.{AloneIsARun, AloneMeansWhole};
+ghost use Rattle.ados_machine.specs.Begun.{ShellsBeginByTheirMakers};
 ghost use Rattle.ados_machine.specs.Binding.{EventsBindOnlyWhatTheyUsed};
 ghost use Rattle.ados_machine.specs.Bound.{UsedDefersAreBound};
 ghost use Rattle.ados_machine.specs.Broken.{BreaksByCMark, BreaksByDFlag, BreaksUseUpTheFlag, CommandsUseUpTheFlag};
@@ -15,8 +16,10 @@ ghost use Rattle.ados_machine.specs.Given.{
 };
 ghost use Rattle.ados_machine.specs.InUse.{EntriesStayInUse, IdleShellsUseNoEntry, OutputsStayOpen, StartsOpenOutputs};
 ghost use Rattle.ados_machine.specs.Kept.{EventsKeepAllCodes, FreshWorldsHaveAllCodes, LastCodesStay};
+ghost use Rattle.ados_machine.specs.Manual.{ElsesLeadPastTheirBlock, IfsLeadPastTheirBlock, SkipsLeadPastTheirLabel, WordsAreLookedUpInOrder};
 ghost use Rattle.ados_machine.specs.Plain.{EnabledCommandsAreFound, EffectsAreRecorded, EffectsArePrinted, FailAtSetsTheLimit, SubstitutionsKeepTheirOutput, DirectoriesAreCarried};
 ghost use Rattle.ados_machine.specs.Programs.{StartsAskForTheirProgram, StartsUseTheirEntry, FirstFaultsStay};
+ghost use Rattle.ados_machine.specs.Redirected.{OpenOutputsAreInUse};
 ghost use Rattle.ados_machine.specs.Reports.{ReportsTellLastRecords};
 ghost use Rattle.ados_machine.specs.Laws.{
   ScriptsEndWhereTheRuleSays,
@@ -248,4 +251,25 @@ pub fn used_defers_are_bound()
 pub fn typed_lines_wait()
     ensures taken { LinesAreTakenIn }
     ensures full { FullQueuesTakeNoLine }
+{}
+
+/// A redirection does not open a file again that is an open output, be it of the shell itself or of another one: its command returns
+/// 20 and 202, and is not executed.
+pub fn open_outputs_are_in_use()
+    ensures { OpenOutputsAreInUse }
+{}
+
+/// A shell that Run makes begins at the lowest free number, in its maker's directory, with copies of its settings, and with the text
+/// after Run as its one command, at the limit 10.
+pub fn shells_begin_by_their_makers()
+    ensures { ShellsBeginByTheirMakers }
+{}
+
+/// Where an If that fails, an Else and a Skip lead, and what a word stands for, is what a reference manual says: the lines after it are
+/// passed over one by one, each If opens a block and each EndIf closes one; a word is looked up in one place after another.
+pub fn jumps_and_search_are_as_in_the_manual()
+    ensures ifs { IfsLeadPastTheirBlock }
+    ensures elses { ElsesLeadPastTheirBlock }
+    ensures skips { SkipsLeadPastTheirLabel }
+    ensures words { WordsAreLookedUpInOrder }
 {}
