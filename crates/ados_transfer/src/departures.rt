@@ -28,7 +28,7 @@ impl Mirror {
         if !files.look(&self.place).is_some_and(Entry::is_directory) {
             let path = self.spelled(self.place.names())?;
             let path = format!(in self.alloc; "RAM:{path}")?;
-            return self.fail(
+            return self.reports.fail(
                 "",
                 "nothing is written, since there is no directory",
                 path.as_str(),
@@ -36,7 +36,7 @@ impl Mirror {
         }
         if self.is_elsewhere(rt) {
             let folder = self.folder.clone()?;
-            return self.fail("", "cannot write", folder.as_str());
+            return self.reports.fail("", "cannot write", folder.as_str());
         }
         self.forget("");
         self.spare_moved(files)?;
@@ -147,7 +147,7 @@ impl Mirror {
     pub(crate) fn report_account(&mut self, account: &Account) -> Result<(), TransferFault> {
         self.is_holding = account.is_holding();
         match account.line()? {
-            Some(line) => self.report_line(line),
+            Some(line) => self.reports.report_line(line),
             None => Ok(()),
         }
     }

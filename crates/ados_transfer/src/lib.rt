@@ -26,6 +26,7 @@ mod planned;
 mod records;
 mod release_two;
 mod removals;
+mod reports;
 mod room;
 mod script;
 mod share_lines;
