@@ -34,7 +34,7 @@ pub struct MirrorOptions {
 #[derive(Drop)]
 pub struct Mirror {
     pub(crate) alloc: Global,
-    // The folder's whole path.
+    // The folder's whole path, for lines: what it leads to by now has no effect.
     pub(crate) folder: String,
     pub(crate) place: Place,
     pub(crate) options: MirrorOptions,
@@ -86,6 +86,11 @@ impl Mirror {
             is_holding: false,
             overruled: None,
         })
+    }
+
+    /// The folder's whole path at the beginning.
+    pub fn folder(&self) -> &str {
+        self.folder.as_str()
     }
 
     /// The directory.

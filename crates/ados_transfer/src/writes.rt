@@ -9,7 +9,6 @@ use crate::departure::{Departure, write_entry};
 use crate::faults::TransferFault;
 use crate::here::Here;
 use crate::mirror::Mirror;
-use crate::paths::step_into;
 use crate::placing::Draft;
 use crate::records::{Last, Record};
 use crate::stamps::Stamp;
@@ -40,7 +39,7 @@ impl Mirror {
         if departure.is_within_kind_change && self.options.dry {
             return self.reports.report_once("would write", path);
         }
-        let here = Here::look(rt, self.folder.as_str(), path)?;
+        let here = Here::look(rt, path)?;
         let record = self.records.get(key);
         let is_large = record.is_some_and(Record::is_stand_in);
         match here.decision(record, Some(entry)) {
@@ -77,7 +76,7 @@ impl Mirror {
             account.add_unwritten_entry(path, draft.entry)?;
             return account.hold(path);
         }
-        match write_entry(rt, self.folder.as_str(), path, draft) {
+        match write_entry(rt, path, draft) {
             Ok(Some(stamp)) => self.keep_written(rt, object, draft.entry, stamp),
             Ok(None) => {
                 account.add_unwritten_entry(path, draft.entry)?;
@@ -117,6 +116,8 @@ impl Mirror {
                 let mode = self.mode_here(rt, record)?;
                 Ok(mode.map(|mode| mode & 0o755))
             }
+            _ if account.is_private && entry.bits.script => Ok(Some(0o700)),
+            _ if account.is_private => Ok(Some(0o600)),
             _ => Ok(None),
         }
     }
@@ -127,8 +128,7 @@ impl Mirror {
         rt: &R,
         record: &Record,
     ) -> Result<Option<u32>, TransferFault> {
-        let whole = step_into(self.alloc, self.folder.as_str(), record.path.as_str())?;
-        match fs::symlink_metadata(rt, whole.as_str()) {
+        match fs::symlink_metadata(rt, record.path.as_str()) {
             Ok(found) if found.is_file() => Ok(Some(found.permissions().mode())),
             _ => Ok(None),
         }
