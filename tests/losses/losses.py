@@ -18,8 +18,8 @@ A file NAME.losses has lines of comment, which begin with `#`, and cases. `== NA
     at most N lines      on both outputs together
     answers              standard input; its lines follow, each after `| `; without it there is none
     waits N              standard input stays open for so many seconds
-    kill NAME ..         a run for each of these signals, after the seconds of `waits`
-    seconds N            it has ended by then (default: 20)
+    kill NAME ..         a run for each of these signals, after the seconds of `waits`, which begin when there is a file `started`
+    seconds N            it has ended by then (default: 60)
     blocks N             no file may have more than N blocks of 1,024 bytes; `blocks N ignored`: SIGXFSZ is ignored
     closed N             the descriptor is closed
     nobody               the user is nobody; needs root
@@ -57,7 +57,7 @@ class Case:
         self.name, self.words, self.arguments, self.script, self.answers = name, list(DEFAULT), [], b"", b""
         self.before, self.after, self.modes, self.modes_after = {"f": FOLDER}, {}, {}, {}
         self.anywhere, self.says, self.prints, self.signals = [], [], [], []
-        self.status, self.most, self.waits, self.seconds, self.blocks, self.closed = "0", None, 0.0, 20.0, None, None
+        self.status, self.most, self.waits, self.seconds, self.blocks, self.closed = "0", None, 0.0, 60.0, None, None
         self.is_silent = self.ignores_size = self.is_nobody = False
 
     def take(self, line, text):
