@@ -31,23 +31,14 @@ What is not said to be otherwise stands afterwards as before.
 import re
 import shlex
 
+from rooms import FOLDER, PIPE, Link, filled
+
 ENDING = ".losses"
-FOLDER, PIPE = "a folder", "a pipe"
 DEFAULT = ["--host", "sh", "--share", "f"]
 
 
 class BadCase(Exception):
     """A line of a case is unknown."""
-
-
-class Link(str):
-    """A link, by its target."""
-
-
-def filled(path, count):
-    """So many bytes that no other path has."""
-    line = f"{path} {count}\n".encode()
-    return (line * (count // len(line) + 1))[:count]
 
 
 class Case:
