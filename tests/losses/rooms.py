@@ -42,15 +42,15 @@ def read(whole):
         return file.read()
 
 
-def look(room):
-    """All objects in a room and beside it by their paths, and their modes."""
+def look(folder, base=None):
+    """All objects below a folder by their paths from a base (by default the folder), and their modes."""
     stands, modes = {}, {}
-    for above, folders, files in os.walk(os.path.dirname(room)):
+    for above, folders, files in os.walk(folder):
         for name in folders + files:
             whole = os.path.join(above, name)
-            path = os.path.relpath(whole, room)
+            path = os.path.relpath(whole, base or folder)
             stands[path], modes[path] = read(whole), os.lstat(whole).st_mode & 0o7777
-    del stands["."]
+    stands.pop(".", None)
     return stands, modes
 
 
