@@ -47,36 +47,54 @@ def line_is_there_and_nothing_is_left(trial):
 
 FILES = {f"f/n{number}": f"{number}\n".encode() for number in range(3)}
 A = {"f/a": b"a\n", **FILES}
+D = {"f/d/x": b"x\n"}
+LARGE = {"f/a": filled("a", 70000)}
 INTO = [f"Rename n{number} a/n{number}" for number in range(3)]
-# The file, its path, and the script.
-CHANGES = [
+# The file, its path, and the script: first those in which the file is moved aside, then those in which it is deleted.
+ASIDE = [
     ("a file that becomes a directory", "a", A, ["Rename a t", "MakeDir a", "Rename t a/t"]),
     ("a file that becomes a directory with more in it", "a", A, ["Rename a t", "MakeDir a", "Rename t a/t", *INTO]),
     ("a file that is deleted and becomes a directory", "a", A, ["Delete a", "MakeDir a", "Echo >a/x new", "Echo >a/y new"]),
+    ("a file that is moved out, and a directory in its place", "a", A, ["Rename a T:a", "MakeDir a", "Echo >a/x new"]),
+    ("a file in a directory that becomes a file", "d/x", D, ["Rename d/x t", "Delete d", "Rename t d"]),
+    ("a file that is lengthened", "a", A, ["Echo >>a more"]),
+    ("a file that is written over", "a", A, ["Echo >a new"]),
+    ("a file that changes places with another", "a", A, ["Rename a t", "Rename n1 a", "Rename t n1"]),
+    ("a large file that becomes a directory", "a", LARGE, ["Rename a t", "MakeDir a", "Rename t a/t"]),
+]
+DELETED = [
     ("a file that is deleted", "a", A, ["Delete a"]),
     ("a file that is renamed", "a", A, ["Rename a n"]),
     ("a file that is renamed into a new directory", "a", A, ["MakeDir d", "Rename a d/a"]),
-    ("a file that is lengthened", "a", A, ["Echo >>a more"]),
-    ("a file that is written over", "a", A, ["Echo >a new"]),
     ("a file that is renamed and lengthened", "a", A, ["Rename a n", "Echo >>n more"]),
-    ("a file in a directory that becomes a file", "d/x", {"f/d/x": b"x\n"}, ["Rename d/x t", "Delete d", "Rename t d"]),
-    ("a file in a directory that is deleted", "d/x", {"f/d/x": b"x\n"}, ["Delete d ALL"]),
-    ("a file in a directory that is renamed", "d/x", {"f/d/x": b"x\n"}, ["Rename d e"]),
-    ("a file that changes places with another", "a", A, ["Rename a t", "Rename n1 a", "Rename t n1"]),
+    ("a file in a directory that is deleted", "d/x", D, ["Delete d ALL"]),
+    ("a file in a directory that is renamed", "d/x", D, ["Rename d e"]),
     ("a file that is moved out", "a", A, ["Rename a T:a"]),
-    ("a file that is moved out, and a directory in its place", "a", A, ["Rename a T:a", "MakeDir a", "Echo >a/x new"]),
-    ("a large file that is renamed", "a", {"f/a": filled("a", 70000)}, ["Rename a n"]),
-    ("a large file that is deleted", "a", {"f/a": filled("a", 70000)}, ["Protect a +d", "Delete a"]),
-    ("a large file that becomes a directory", "a", {"f/a": filled("a", 70000)}, ["Rename a t", "MakeDir a", "Rename t a/t"]),
+    ("a large file that is renamed", "a", LARGE, ["Rename a n"]),
+    ("a large file that is deleted", "a", LARGE, ["Protect a +d", "Delete a"]),
 ]
-BY_NAME = [Race(f"a line is added by its name to {name}", before, seen(path, *lines), f'[ ! -d f/{path} ] && echo "{LINE}" >>f/{path}',
-                line_is_there_and_nothing_is_left) for name, path, before, lines in CHANGES]
-# Through a handle the file is reached under any name: before the call that takes its last name away nobody can see what is added.
-BY_HANDLE = [Race(f"a line is added by a handle to {name}", before, seen(path, *lines), f'echo "{LINE}" >>held', line_is_there, most=1,
-                  named="(unlink|rename) ", prepare=f"ln f/{path} held") for name, path, before, lines in CHANGES]
-REPLACED = [Race(f"another file takes the place of {name}", before, seen(path, *lines),
-                 f'[ ! -d f/{path} ] && echo "{LINE}" >new && mv new f/{path}', line_is_there_and_nothing_is_left, most=1,
-                 named="(unlink|rename) ") for name, path, before, lines in CHANGES]
+# Nobody can see what comes in the very moment in which the last name of a file is taken away, or given to another.
+MOMENT = "(unlink|rename) "
+
+
+def added(name, path, before, lines, most):
+    return Race(f"a line is added by its name to {name}", before, seen(path, *lines), f'[ ! -d f/{path} ] && echo "{LINE}" >>f/{path}',
+                line_is_there_and_nothing_is_left, most=most, named=MOMENT)
+
+
+def added_by_a_handle(name, path, before, lines):
+    """The handle is one more name of the file, outside; only while the file has one in the folder something is added."""
+    return Race(f"a line is added by a handle to {name}", before, seen(path, *lines),
+                f'[ "$(stat -c %h held)" -gt 1 ] && echo "{LINE}" >>held', line_is_there, most=1, named=MOMENT, prepare=f"ln f/{path} held")
+
+
+def replaced(name, path, before, lines):
+    return Race(f"another file takes the place of {name}", before, seen(path, *lines),
+                f'[ ! -d f/{path} ] && echo "{LINE}" >new && mv new f/{path}', line_is_there_and_nothing_is_left, most=1, named=MOMENT)
+
+
+CHANGED = [added(*change, 0) for change in ASIDE] + [added(*change, 1) for change in DELETED]
+CHANGED += [added_by_a_handle(*change) for change in ASIDE + DELETED] + [replaced(*change) for change in ASIDE + DELETED]
 
 
 def both_stand(trial):
@@ -163,4 +181,4 @@ PIPES = [
          most=1, named="open .*a$", options=["--bring", "d"], is_after_start=False),
 ]
 
-RACES = EXCHANGED + BOTH + BY_NAME + BY_HANDLE + REPLACED + PIPES
+RACES = EXCHANGED + BOTH + CHANGED + PIPES
