@@ -8,6 +8,7 @@ ghost use Rattle.ados_transfer.specs.Changes.{has_changed, has_last_stamp, has_s
 ghost use Rattle.ados_transfer.specs.Records.{OthersStay, has_key};
 
 use crate::arrival_plan::ArrivalPlan;
+use crate::below::{Below, is_gone};
 use crate::faults::TransferFault;
 use crate::folders::{Kind, Look, Seen};
 use crate::mirror::Mirror;
@@ -105,8 +106,9 @@ impl Mirror {
         rt: &R,
         files: &Ram,
     ) -> Result<Vec<Arrival>, TransferFault> {
-        self.begin_look();
-        if self.is_elsewhere(rt) {
+        self.reports.begin_look();
+        let rt = &Below::new(rt);
+        if is_gone(rt) {
             self.report_unread("", "")?;
             return Ok(Vec::new(self.alloc));
         }
@@ -115,7 +117,7 @@ impl Mirror {
             self.report_unread(unread.key.as_str(), unread.path.as_str())?;
         }
         for line in &look.lines {
-            self.report_line(line.clone()?)?;
+            self.reports.report_line(line.clone()?)?;
         }
         let changes = self.changes(&look, files)?;
         if changes.is_empty() {
@@ -146,7 +148,7 @@ impl Mirror {
             return Ok(());
         }
         let Some(last) = last_of(&arrival, entry)? else {
-            return self.fail(
+            return self.reports.fail(
                 arrival.key.as_str(),
                 "cannot bring in",
                 arrival.path.as_str(),

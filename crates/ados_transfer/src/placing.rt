@@ -123,8 +123,8 @@ fn exchange<R: AllocGlobal + Files>(
     Ok(false)
 }
 
-// A file holds these bytes.
-fn holds<R: AllocGlobal + Files>(rt: &R, path: &str, bytes: &[u8]) -> bool {
+/// A file holds these bytes.
+pub fn holds<R: AllocGlobal + Files>(rt: &R, path: &str, bytes: &[u8]) -> bool {
     if !fs::symlink_metadata(rt, path).is_ok_and(|found| found.is_file()) {
         return false;
     }

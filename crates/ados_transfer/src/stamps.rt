@@ -78,6 +78,13 @@ impl Stamp {
             && self.changed.is_same(&other.changed)
     }
 
+    /// The two have the same bytes, as far as stamps say that: a file that takes another name keeps all but the time of the system.
+    pub fn is_as_full(&self, other: &Stamp) -> bool {
+        self.size == other.size
+            && self.number == other.number
+            && self.modified.is_same(&other.modified)
+    }
+
     /// A change right after this look might leave the same stamp: the file was changed in the tick of the clock in which it was
     /// looked at. If the time has no fraction of a second, the ticks are assumed to last up to two seconds.
     pub fn is_fresh(&self, now: &SystemTime) -> bool {

@@ -1,10 +1,9 @@
 //! The program's command line, in `clap`'s words.
 
+use ados_session::VERSION;
 use clap::{Arg, ArgAction, ArgMatches, Command, Error};
 use std::alloc::{AllocError, Global};
 use std::convert::AsStr;
-
-const VERSION: &str = "1.0";
 
 const ABOUT: &str =
     "Runs an Amiga command script of this machine by the Shell of the Amiga (AmigaDOS Release 2)";

@@ -3,16 +3,15 @@ ghost use Rattle.std.specs.Prelude.{◌≡◌, ◌<◌, ◌^◌, ◌-◌, [], Is
 ghost use Rattle.ados_launch.specs.Agreement.{Agrees, IsOpenTable};
 ghost use Rattle.ados_launch.specs.Deeds.{RunsLines};
 
-use crate::faults::{Fault, cannot_read, report};
+use crate::faults::{Fault, report};
+use crate::home::{Home, enter};
 use crate::launcher::{Bringer, Start};
 use ados_launch::{Launcher, Listed, Session, SystemEnd, SystemFault, system};
-use ados_launcher::StartFolder;
 use ados_machine::Request;
 use ados_text::Text;
 use ados_transfer::{Arrival, Mirror, MirrorOptions, StartPlace, push_word};
 use ados_world::World;
 use std::alloc::Global;
-use std::env;
 use std::io::Eprint;
 use std::process::Processes;
 use std::rt::{Env, Files};
@@ -25,8 +24,7 @@ const EVENTS: u64 = 100;
 #[derive(Drop)]
 pub struct Share {
     mirror: Mirror,
-    // The current directory of this process.
-    home: String,
+    home: Home,
     // What was in the folder at the beginning was brought in.
     is_filled: bool,
 }
@@ -68,10 +66,7 @@ impl Share {
         ensures ran { RunsLines world.old world.new }
     {
         let alloc = rt.alloc();
-        let Ok(home) = env::current_dir(rt) else {
-            return Err(cannot_read(alloc, "."));
-        };
-        let home = String::from_str(alloc, home.as_path().as_str())?;
+        let home = Home::new(rt)?;
         let mirror = Mirror::new(rt, words, options, world.files())?;
         // These lines start no program.
         let mut launcher = Listed::new(Vec::new(alloc));
@@ -86,6 +81,11 @@ impl Share {
             home,
             is_filled: false,
         })
+    }
+
+    /// Makes the folder this process's current directory: from now on its files are found in it, whatever its name leads to.
+    pub fn enter<R: AllocGlobal + Env>(&self, rt: &R) -> Result<(), Fault> {
+        enter(rt, self.mirror.folder())
     }
 
     /// The line that makes the directory the current one.
@@ -138,8 +138,8 @@ impl Share {
         Ok(())
     }
 
-    /// Writes what changed to the folder at the end. `false` if something could not be written, or was not brought in.
-    pub fn close<R: AllocGlobal + Files + Eprint + Clone + Drop + Clock>(
+    /// Writes what changed to the folder at the end, and goes back to where this process was started. `false` if something could not be written, or was not brought in.
+    pub fn close<R: Env + AllocGlobal + Files + Eprint + Clone + Drop + Clock>(
         &mut self,
         rt: &R,
         world: &World,
@@ -147,6 +147,7 @@ impl Share {
         if self.is_filled {
             self.write_out(rt, world)?;
         }
+        self.home.enter(rt)?;
         Ok(!self.mirror.has_failed())
     }
 
@@ -192,15 +193,13 @@ impl Share {
         world: &World,
         number: u8,
     ) -> Result<Start, Fault> {
-        let Some(shell) = world.shell(number) else {
-            return Ok(Start::Home);
+        let place = match world.shell(number) {
+            Some(shell) => self.mirror.start_place(rt, shell.directory())?,
+            None => StartPlace::Home,
         };
-        match self.mirror.start_place(rt, shell.directory())? {
-            StartPlace::Home => Ok(Start::Home),
-            StartPlace::Folder(path) => Ok(Start::Folder(StartFolder {
-                path,
-                home: String::from_str(rt.alloc(), self.home.as_str())?,
-            })),
+        match place {
+            StartPlace::Home => self.home.start(rt.alloc(), None),
+            StartPlace::Folder(path) => self.home.start(rt.alloc(), Some(path.as_str())),
             StartPlace::Nowhere => {
                 self.report_lines(rt);
                 Ok(Start::Nowhere)
