@@ -15,7 +15,7 @@ use Rattle.ados_launch.specs.Steps.{SessionState, HasTakeResult, is_write_fault}
 use Rattle.ados_launch.proofs.Deeding.{does-none, does-one}
 
 -- what came next was taken, and all or some of its bytes were written
-taken-does : (is_cut : Bool) (w now : WorldState) (left rest contents contents_now : Option (List ℕ)) (is_full : Bool) (calls calls_now : List Call) (next : Next) (out : Out)
+pub taken-does : (is_cut : Bool) (w now : WorldState) (left rest contents contents_now : Option (List ℕ)) (is_full : Bool) (calls calls_now : List Call) (next : Next) (out : Out)
     → TakesNextItem w left is_full calls next now rest calls_now out → AreWritten is_cut contents contents_now out.bytes → Does w now is_cut contents contents_now
 taken-does is_cut w now left rest contents contents_now is_full calls calls_now next out t written =
     does-one is_cut w now contents contents_now t.item t.takes.accepted t.takes.world_is (rw t.takes.out_is at written)

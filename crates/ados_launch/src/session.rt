@@ -15,6 +15,7 @@ ghost use Rattle.ados_launch.specs.Steps.{HasTakeResult, is_write_fault, next_re
 use crate::alone::{SystemEnd, SystemFault};
 use crate::children::{children_after_line, wait_for_open};
 use crate::driver::End;
+use crate::events::shell_answered;
 use crate::faults::DriveFault;
 use crate::intake::Intake;
 use crate::next::Next;
@@ -79,13 +80,16 @@ impl<'a> Session<'a> {
     }
 
     /// What the next event asks of the launcher; `None` if it asks nothing, or nothing comes.
+    #[tactic(auto, using(crate::proofs::Requests::request_none, crate::proofs::Requests::request_low, crate::proofs::Requests::request_high))]
     pub fn request<'w>(&self, world: &'w World) -> Option<&'w Request>
         requires count { self.now.schedule.taken < 2 ^ 64 - 1 }
         ensures { option_copied result ≡ next_request world.now (scheduled_next self.now.schedule world.now) }
     {
-        match self.next(world)? {
-            Next::Start(shell) | Next::Further(shell) => world.pending(shell),
-            Next::Line | Next::Turn(_) => None,
+        let place = self.schedule.place(world)?;
+        if place < 21 {
+            None
+        } else {
+            world.pending(shell_answered(place))
         }
     }
 

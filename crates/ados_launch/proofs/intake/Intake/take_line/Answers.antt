@@ -35,7 +35,7 @@ returns-in_ok-give_line-in-Short-clause-took g c =
 pub returns-in_ok-extend_from_slice-in-Long-clause-took : goal.returns-in_ok-extend_from_slice-in-Long-clause-took
 returns-in_ok-extend_from_slice-in-Long-clause-took g c =
     took-long c.args.world.now _ _ _ (λ bytes e. next-long bytes _ _ _ (c.in_ok-next_line.ensures.taken bytes (rw c.heed.ensures.left e)) c.in-Long.is)
-    (long-out (out_of c.give_nothing.new.self) _ _ c.give_nothing.ensures (search rules))
+    (long-out (out_of c.give_nothing-in-Long.new.self) _ _ c.give_nothing-in-Long.ensures (search rules))
 
 pub returns-in-Overlong-clause-read : goal.returns-in-Overlong-clause-read
 returns-in-Overlong-clause-read g c failed =

@@ -1,6 +1,7 @@
-use Rattle.std.proofs.Common.{refl, sym, ◌∙◌, IsErrOf, rules}
+use Rattle.std.proofs.Common.{false, refl, sym, ◌∙◌, IsErrOf, rules}
 use Rattle.ados_shell.specs.Drafts.{out_of}
-use Rattle.ados_launch.proofs.DeedsTaken.{does-by}
+use Rattle.ados_launch.proofs.Deeding.{does-none}
+use Rattle.ados_launch.proofs.DeedsTaken.{does-by, taken-does}
 use Rattle.ados_launch.proofs.Outcomes.{never-turns, never-write}
 use Rattle.ados_launch.proofs.Stepping.{takes-by}
 use Rattle.ados_launch.specs.Schedule.{found_next}
@@ -75,7 +76,7 @@ returns-clause-takes g c = rw (← c.self.view_is) (record {
 })
 
 pub returns-in_default-clause-does : goal.returns-in_default-clause-does
-returns-in_default-clause-does g c = does-by _ _ _ _ _ (returns-in_default-clause-takes g c)
+returns-in_default-clause-does g c = does-none _ _ _ _ refl refl
 
 pub returns-in_err-take-clause-does : goal.returns-in_err-take-clause-does
 returns-in_err-take-clause-does g c = does-by _ _ _ _ c.from_residual.result (returns-in_err-take-clause-takes g c)
@@ -84,4 +85,6 @@ pub returns-in_err-write_whole-clause-does : goal.returns-in_err-write_whole-cla
 returns-in_err-write_whole-clause-does g c = does-by _ _ _ _ c.from_residual-in_err-write_whole.result (returns-in_err-write_whole-clause-takes g c)
 
 pub returns-clause-does : goal.returns-clause-does
-returns-clause-does g c = does-by _ _ _ _ _ (returns-clause-takes g c)
+returns-clause-does g c =
+    taken-does false c.args.world.now c.take.new.world _ _ _ _ _ _ _ _ (out_of c.take.new.self.draft) c.in_ok-take.ensures.took
+    (rw c.as_slice.ensures.value at c.in_ok-write_whole.ensures.whole)
