@@ -106,7 +106,7 @@ impl Mirror {
         rt: &R,
         files: &Ram,
     ) -> Result<Vec<Arrival>, TransferFault> {
-        self.begin_look();
+        self.reports.begin_look();
         let rt = &Below::new(rt);
         if is_gone(rt) {
             self.report_unread("", "")?;
@@ -117,7 +117,7 @@ impl Mirror {
             self.report_unread(unread.key.as_str(), unread.path.as_str())?;
         }
         for line in &look.lines {
-            self.report_line(line.clone()?)?;
+            self.reports.report_line(line.clone()?)?;
         }
         let changes = self.changes(&look, files)?;
         if changes.is_empty() {
@@ -148,7 +148,7 @@ impl Mirror {
             return Ok(());
         }
         let Some(last) = last_of(&arrival, entry)? else {
-            return self.fail(
+            return self.reports.fail(
                 arrival.key.as_str(),
                 "cannot bring in",
                 arrival.path.as_str(),

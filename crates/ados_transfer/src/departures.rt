@@ -29,7 +29,7 @@ impl Mirror {
         if !files.look(&self.place).is_some_and(Entry::is_directory) {
             let path = self.spelled(self.place.names())?;
             let path = format!(in self.alloc; "RAM:{path}")?;
-            return self.fail(
+            return self.reports.fail(
                 "",
                 "nothing is written, since there is no directory",
                 path.as_str(),
@@ -38,7 +38,7 @@ impl Mirror {
         let rt = &Below::new(rt);
         if is_gone(rt) {
             let folder = self.folder.clone()?;
-            return self.fail("", "cannot write", folder.as_str());
+            return self.reports.fail("", "cannot write", folder.as_str());
         }
         self.forget("");
         self.spare_moved(files)?;
@@ -169,9 +169,9 @@ impl Mirror {
         rt: &Below<'_, R>,
         account: &Account,
     ) -> Result<(), TransferFault> {
-        for path in &rt.temporaries() {
+        for path in &rt.temporaries()? {
             if !account.kept.contains(path) {
-                self.report("temporary file left", path.as_str())?;
+                self.reports.report("temporary file left", path.as_str())?;
             }
         }
         Ok(())
@@ -181,7 +181,7 @@ impl Mirror {
     pub(crate) fn report_account(&mut self, account: &Account) -> Result<(), TransferFault> {
         self.is_holding = account.is_holding();
         match account.line()? {
-            Some(line) => self.report_line(line),
+            Some(line) => self.reports.report_line(line),
             None => Ok(()),
         }
     }

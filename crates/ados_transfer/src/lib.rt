@@ -27,6 +27,7 @@ mod planned;
 mod records;
 mod release_two;
 mod removals;
+mod reports;
 mod room;
 mod script;
 mod second_look;

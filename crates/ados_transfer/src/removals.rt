@@ -70,7 +70,7 @@ impl Mirror {
     ) -> Result<(), TransferFault> {
         let path = departure.path.as_str();
         if self.options.dry {
-            return self.report_once("would delete", path);
+            return self.reports.report_once("would delete", path);
         }
         let is_done = if departure.is_within_kind_change {
             self.set_aside(rt, key, path, here, account)
@@ -85,10 +85,10 @@ impl Mirror {
                 self.forget(key);
                 Ok(())
             }
-            Ok(false) => self.report_kept(key, path, false),
+            Ok(false) => self.reports.report_kept(key, path, false),
             Err(error) if error.kind() == ErrorKind::DirectoryNotEmpty => {
                 self.forget(key);
-                self.report_not_empty(key, path)
+                self.reports.report_not_empty(key, path)
             }
             Err(error) => self.not_done(&error, "cannot delete", key, path),
         }
@@ -185,7 +185,7 @@ impl Mirror {
                     let whole = step_into(self.alloc, self.folder.as_str(), beside.as_str())?;
                     let text = format!(in self.alloc; "kept as {whole}")?;
                     account.kept.push(beside)?;
-                    self.report(text.as_str(), record.path.as_str())
+                    self.reports.report(text.as_str(), record.path.as_str())
                 }
                 None => Ok(()),
             },

@@ -31,7 +31,7 @@ impl Mirror {
         }
         for aside in &account.aside {
             if has_changed(rt, aside) {
-                self.fail(
+                self.reports.fail(
                     aside.key.as_str(),
                     "both changed, kept this machine's",
                     aside.record.path.as_str(),
@@ -73,7 +73,7 @@ fn has_changed<R: AllocGlobal + Files>(rt: &R, aside: &Aside) -> bool {
         Last::StandIn => !fs::symlink_metadata(rt, beside.as_str()).is_ok_and(|found| aside
             .record
             .stamp
-            .is_as_full(&Stamp::of(&found))),
+            .is_same_file(&Stamp::of(&found))),
         Last::Directory => false,
     }
 }

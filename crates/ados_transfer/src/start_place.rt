@@ -38,7 +38,7 @@ impl Mirror {
         if name.is_empty() {
             name = String::from_str(self.alloc, self.folder.as_str())?;
         }
-        self.report(
+        self.reports.report(
             "no program starts there, since it is no folder",
             name.as_str(),
         )?;

@@ -37,7 +37,7 @@ impl Mirror {
             return Ok(());
         }
         if departure.is_within_kind_change && self.options.dry {
-            return self.report_once("would write", path);
+            return self.reports.report_once("would write", path);
         }
         let here = Here::look(rt, path)?;
         let record = self.records.get(key);
@@ -52,7 +52,7 @@ impl Mirror {
                 account.add_unwritten_entry(path, entry)?;
                 self.not_touched(key, path, &here, "cannot write", is_large)
             }
-            Decision::Write if self.options.dry => self.report_once("would write", path),
+            Decision::Write if self.options.dry => self.reports.report_once("would write", path),
             Decision::Write => {
                 let mode = self.mode_of(rt, files, entry, account)?;
                 let draft = Draft::new(entry, &here, mode);
@@ -80,7 +80,7 @@ impl Mirror {
             Ok(Some(stamp)) => self.keep_written(rt, object, draft.entry, stamp),
             Ok(None) => {
                 account.add_unwritten_entry(path, draft.entry)?;
-                self.report_kept(key, path, false)
+                self.reports.report_kept(key, path, false)
             }
             Err(error) => {
                 account.add_unwritten_entry(path, draft.entry)?;
@@ -144,9 +144,9 @@ impl Mirror {
         is_large: bool,
     ) -> Result<(), TransferFault> {
         if here.is_unread() {
-            self.fail(key, text, path)
+            self.reports.fail(key, text, path)
         } else {
-            self.report_kept(key, path, is_large)
+            self.reports.report_kept(key, path, is_large)
         }
     }
 
@@ -161,7 +161,7 @@ impl Mirror {
         if error.kind() == io::ErrorKind::OutOfMemory {
             return Err(TransferFault::NoMemory);
         }
-        self.fail(key, text, path)
+        self.reports.fail(key, text, path)
     }
 
     // Keeps an object as it is on both sides.

@@ -1,10 +1,9 @@
 //! The program's command line, in `clap`'s words.
 
+use ados_session::VERSION;
 use clap::{Arg, ArgAction, ArgMatches, Command, Error};
 use std::alloc::{AllocError, Global};
 use std::convert::AsStr;
-
-const VERSION: &str = "1.0";
 
 const ABOUT: &str =
     "Runs an Amiga command script of this machine by the Shell of the Amiga (AmigaDOS Release 2)";
@@ -31,11 +30,11 @@ the nearest folder share/amishell above that of this program";
 
 const BRING: &str =
     "Brings a file or a folder of this machine into the files: into RAM: under its own name, or to NAME. A
-file that may be executed gets bit s. May be given again";
+file that may be executed gets bit s; pipes and devices in a folder are left out. May be given again";
 
 const TAKE: &str =
     "Writes a file or a directory of the files out at the end: into this folder under its own name, or to
-PATH. May be given again";
+PATH, in which no name is . or .. and no folder a link. May be given again";
 
 const TYPE: &str = "A line that is typed before the script. May be given again";
 
