@@ -159,11 +159,9 @@ impl Mirror {
 
     // Reports that an object cannot be read, unless that was so at the look before; without a path it is the folder.
     pub(crate) fn report_unread(&mut self, key: &str, path: &str) -> Result<(), TransferFault> {
-        let path = if path.is_empty() {
-            self.folder.as_str()
-        } else {
-            path
-        };
+        if path.is_empty() {
+            return self.reports.report_unread(key, self.folder.as_str());
+        }
         self.reports.report_unread(key, path)
     }
 
