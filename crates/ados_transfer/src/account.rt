@@ -26,7 +26,7 @@ pub struct Account {
     pub aside: Vec<Aside>,
     /// The paths at which some of that stays.
     pub kept: Vec<String>,
-    /// A file that is gone gave no rights to group and others: a new one may have its bytes, and gives none either.
+    /// A file that is gone gave no rights to group and others: a new one may have bytes of it, and gives none either.
     pub is_private: bool,
 }
 

@@ -44,7 +44,7 @@ impl Mirror {
         self.spare_moved(files)?;
         let mut account = Account::new(self.alloc);
         let departures = self.departures(files, &mut account)?;
-        account.is_private = departures.leave_private(rt);
+        account.is_private = self.loses_private(rt, &departures);
         for is_new in [true, false] {
             for (key, departure) in &departures.by_key {
                 if departure.is_new == is_new && !departure.is_within_kind_change {
