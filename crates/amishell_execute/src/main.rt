@@ -165,7 +165,7 @@ fn run_script<
         share.as_mut(),
     );
     let is_alike = close(rt, world, share.as_mut())?;
-    let is_taken = take_all(rt, options, world);
+    let is_taken = take_all(rt, options, world, share.as_ref());
     let end = ended?;
     Ok(if is_alike && is_taken {
         status(end.code)
@@ -175,7 +175,7 @@ fn run_script<
 }
 
 // Brings the shared folder up to date, if there is one; gives whether all was done.
-fn close<R: Env + AllocGlobal + Files + Eprint + Clone + Drop + Clock>(
+fn close<R: AllocGlobal + Files + Eprint + Clone + Drop + Clock>(
     rt: &R,
     world: &World,
     share: Option<&mut Share>,
@@ -186,8 +186,22 @@ fn close<R: Env + AllocGlobal + Files + Eprint + Clone + Drop + Clock>(
     }
 }
 
-// Takes what is asked for; gives whether all was taken.
-fn take_all<R: AllocGlobal + Files + Eprint>(rt: &R, options: &Options<'_>, world: &World) -> bool {
+// Takes what is asked for, from where this process was started; gives whether all was taken.
+fn take_all<R: Env + AllocGlobal + Files + Eprint>(
+    rt: &R,
+    options: &Options<'_>,
+    world: &World,
+    share: Option<&Share>,
+) -> bool {
+    if options.take.is_empty() {
+        return true;
+    }
+    if let Some(share) = share {
+        if let Err(fault) = share.leave(rt) {
+            report(rt, &fault);
+            return false;
+        }
+    }
     let mut is_taken = true;
     for words in &options.take {
         if let Err(fault) = take(rt, world.files(), world.assigns(), words) {

@@ -88,6 +88,11 @@ impl Share {
         enter(rt, self.mirror.folder())
     }
 
+    /// Goes back to where this process was started.
+    pub fn leave<R: AllocGlobal + Env>(&self, rt: &R) -> Result<(), Fault> {
+        self.home.enter(rt)
+    }
+
     /// The line that makes the directory the current one.
     pub fn change_line(&self, alloc: Global) -> Result<Text, Fault> {
         let mut line = Text::from_bytes(alloc, b"\"CD\"")?;
@@ -138,8 +143,8 @@ impl Share {
         Ok(())
     }
 
-    /// Writes what changed to the folder at the end, and goes back to where this process was started. `false` if something could not be written, or was not brought in.
-    pub fn close<R: Env + AllocGlobal + Files + Eprint + Clone + Drop + Clock>(
+    /// Writes what changed to the folder at the end. `false` if something could not be written, or was not brought in.
+    pub fn close<R: AllocGlobal + Files + Eprint + Clone + Drop + Clock>(
         &mut self,
         rt: &R,
         world: &World,
@@ -147,7 +152,6 @@ impl Share {
         if self.is_filled {
             self.write_out(rt, world)?;
         }
-        self.home.enter(rt)?;
         Ok(!self.mirror.has_failed())
     }
 
