@@ -1,4 +1,6 @@
 //! Why the program ends with a line on standard error.
+ghost use Rattle.std.specs.Prelude.{◌≡◌};
+ghost use Rattle.amishell_execute.specs.declared.faults.Fault.TheVariants.{Drive};
 
 use ados_launch::DriveFault;
 use ados_text::NoMemory;
@@ -43,7 +45,15 @@ pub enum Fault {
     Write,
     /// The run stopped before its end.
     #[error("{0}")]
-    Drive(#[from] DriveFault),
+    Drive(DriveFault),
+}
+
+impl From<DriveFault> for Fault {
+    ghost from_gives = { λ fault why. why ≡ Drive fault };
+
+    fn from(fault: DriveFault) -> Fault {
+        Fault::Drive(fault)
+    }
 }
 
 impl From<NoMemory> for Fault {

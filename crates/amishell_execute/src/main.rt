@@ -17,6 +17,7 @@ mod request;
 mod share;
 mod warnings;
 
+use ados_launch::Counted;
 use ados_ram::Place;
 use ados_text::{Code, Text};
 use ados_transfer::{Lines, Plan, bring, bring_script, take};
@@ -154,6 +155,7 @@ fn run_script<
     if let Some(share) = share.as_ref() {
         share.enter(rt)?;
     }
+    let mut writer = Counted::new(io::writer(rt));
     let ended = play(
         rt,
         world,
@@ -163,6 +165,7 @@ fn run_script<
             turns: options.turns,
         },
         share.as_mut(),
+        &mut writer,
     );
     let is_alike = close(rt, world, share.as_mut())?;
     let is_taken = take_all(rt, options, world);

@@ -1,7 +1,7 @@
 //! A folder of this machine that is shared with the Shell.
 ghost use Rattle.std.specs.Prelude.{◌≡◌, ◌<◌, ◌^◌, ◌-◌, [], IsOk, OnOk};
 ghost use Rattle.ados_launch.specs.Agreement.{Agrees, IsOpenTable};
-ghost use Rattle.ados_launch.specs.Leads.{IsReachable};
+ghost use Rattle.ados_launch.specs.Deeds.{RunsLines};
 
 use crate::faults::{Fault, report};
 use crate::home::{Home, enter};
@@ -63,7 +63,7 @@ impl Share {
     ) -> Result<Share, Fault>
         requires agrees { Agrees world.old [] }
         ensures agrees { OnOk result (Agrees world.new []) }
-        ensures leads { IsReachable world.old world.new }
+        ensures ran { RunsLines world.old world.new }
     {
         let alloc = rt.alloc();
         let home = Home::new(rt)?;
@@ -114,7 +114,7 @@ impl Share {
         ensures children { IsOpenTable session.new.children launcher.new.calls }
         ensures schedule { session.new.schedule ≡ session.old.schedule }
         ensures held { session.new.held ≡ session.old.held }
-        ensures leads { IsReachable world.old world.new }
+        ensures ran { RunsLines world.old world.new }
     {
         self.mirror.watch(world.files());
         if !self.is_filled {
@@ -165,7 +165,7 @@ impl Share {
         ensures children { IsOpenTable session.new.children launcher.new.calls }
         ensures schedule { session.new.schedule ≡ session.old.schedule }
         ensures held { session.new.held ≡ session.old.held }
-        ensures leads { IsReachable world.old world.new }
+        ensures ran { RunsLines world.old world.new }
     {
         for arrival in self.mirror.arrivals(rt, world.files())? {
             let arrival = take_in(rt.alloc(), world, launcher, session, arrival)?;
@@ -229,7 +229,7 @@ fn take_in<R: Processes>(
     ensures children { IsOpenTable session.new.children launcher.new.calls }
     ensures schedule { session.new.schedule ≡ session.old.schedule }
     ensures held { session.new.held ≡ session.old.held }
-    ensures leads { IsReachable world.old world.new }
+    ensures ran { RunsLines world.old world.new }
 {
     launcher.offer(arrival.bytes.take());
     run_lines(alloc, world, arrival.lines.as_slice(), launcher, session)?;
@@ -251,7 +251,7 @@ fn run_lines<L: Launcher>(
     ensures children { IsOpenTable session.new.children (L.calls launcher.new) }
     ensures schedule { session.new.schedule ≡ session.old.schedule }
     ensures held { session.new.held ≡ session.old.held }
-    ensures leads { IsReachable world.old world.new }
+    ensures ran { RunsLines world.old world.new }
 {
     for line in lines {
         run_alone(alloc, world, line, launcher, session)?;
@@ -273,7 +273,7 @@ fn run_alone<L: Launcher>(
     ensures children { IsOpenTable session.new.children (L.calls launcher.new) }
     ensures schedule { session.new.schedule ≡ session.old.schedule }
     ensures held { session.new.held ≡ session.old.held }
-    ensures leads { IsReachable world.old world.new }
+    ensures ran { RunsLines world.old world.new }
 {
     let mut printed = Vec::new(alloc);
     let ran = system(alloc, world, line, launcher, EVENTS, &mut printed);
