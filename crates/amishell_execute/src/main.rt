@@ -6,19 +6,22 @@ ghost use Rattle.ados_launch.specs.Agreement.{Agrees};
 ghost use Rattle.amishell_execute.specs.Status.{status_of};
 
 mod command;
+mod due;
 mod faults;
 mod hosts;
 mod launcher;
+mod pace;
 mod play;
 mod reader;
 mod reading;
 mod request;
 mod share;
+mod unanswered;
 mod warnings;
 
 use ados_ram::Place;
 use ados_text::{Code, Text};
-use ados_transfer::{Lines, Plan, bring, bring_script, take};
+use ados_transfer::{Lines, Plan, TransferFault, bring, bring_script, take};
 use ados_world::{NewFault, World};
 use faults::{Fault, report};
 use hosts::hosts_for;
@@ -35,12 +38,18 @@ use warnings::warn;
 // The exit status after a fault, and after a code that is not an exit status.
 const FAILED: u8 = 20;
 
+// The exit status if a question has no answer, if a folder does not fit, or if it does not have at the end what the script left.
+const LACKING: u8 = 125;
+
 fn main(rt: HostRuntime) -> ExitCode {
     match run(&rt) {
         Ok(status) => ExitCode::from(status),
         Err(fault) => {
             report(&rt, &fault);
-            ExitCode::from(FAILED)
+            ExitCode::from(match fault {
+                Fault::Unanswered(_) | Fault::Transfer(TransferFault::DoesNotFit(_)) => LACKING,
+                _ => FAILED,
+            })
         }
     }
 }
@@ -134,17 +143,27 @@ fn run_script<R: AllocGlobal + Files + Input + Print + Eprint + Processes + Clon
             planned: plan.planned(),
             lines: &lines,
             turns: options.turns,
+            at_end: options.at_end,
         },
         share.as_mut(),
     );
     let is_alike = close(rt, world, share.as_mut())?;
     let is_taken = take_all(rt, options, world);
     let end = ended?;
-    Ok(if is_alike && is_taken {
-        status(end.code)
-    } else {
-        FAILED
-    })
+    if !is_alike {
+        return report_lacking(rt, end.code);
+    }
+    Ok(if is_taken { status(end.code) } else { FAILED })
+}
+
+// Reports that the shared folder is not as the script left it, and with which code the script ended; gives the exit status.
+fn report_lacking<R: AllocGlobal + Eprint>(rt: &R, code: Code) -> Result<u8, Fault> {
+    let code = code.0;
+    let line = format!(in rt.alloc();
+        "the shared folder and the Shell's files differ; the script's code was {code}"
+    )?;
+    report(rt, &line);
+    Ok(LACKING)
 }
 
 // Brings the shared folder up to date, if there is one; gives whether all was done.
