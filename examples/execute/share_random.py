@@ -9,7 +9,7 @@ changed and this machine deleted is written again; what is not as it was at the 
 while something that the Shell has is not written, or after it gave way. share_losses.py tries what the model leaves out.
 The last line is 'N changes, M starts: ok'.
 """
-import os, random, shutil, subprocess, sys
+import os, random, shutil, subprocess, sys, time
 
 STEPS = 120
 FILES = ['a', 'b', 'c', 'd', 'p/a', 'p/b', 'q/a', 'q/b', 'r/a']
@@ -38,9 +38,10 @@ class Model:
         else:
             side[path] = value
 
-    def write_out(self):
+    def write_out(self, meanwhile=False):
         """What is new is written first, then what changed, unless it writes over what was moved to one that could not be written; then
-        what is gone is deleted, the deepest first, unless something could not be written."""
+        what is gone is deleted, the deepest first, unless something could not be written. Meanwhile, at a question, what is not deleted
+        waits."""
         paths = sorted(set(self.shell) | set(self.last))
         new, owes, unwritten = set(self.shell) - set(self.last), False, []
         for path in ([p for p in paths if p in new] + [p for p in paths if p in self.shell and p not in new]
@@ -50,12 +51,14 @@ class Model:
                 continue
             if shell == GONE and machine == last and owes:
                 # it comes in again: its bytes may be in what is not written
-                self.put(self.last, path, GONE)
+                if not meanwhile:
+                    self.put(self.last, path, GONE)
             elif shell == GONE and machine == FOLDER and below(self.machine, path):
                 self.put(self.last, path, GONE)
             elif machine == last and machine != FOLDER and machine not in shell and any(machine in text for text in unwritten):
                 # it comes in again too
-                self.put(self.last, path, GONE)
+                if not meanwhile:
+                    self.put(self.last, path, GONE)
                 unwritten.append(shell)
             elif machine in (last, shell, GONE):
                 # a folder that was deleted on this machine is made again for what is in it
@@ -158,6 +161,7 @@ def plan(random_, count):
         script += [line for line, _ in lines]
         done += len(lines)
         if random_.random() < 0.4:
+            model.write_out(meanwhile=True)
             lines = changes(random_, model.machine, 2, count)
             script.append(f'Ask {len(asks)}?')
             asks.append([line for _, line in lines])
@@ -190,6 +194,15 @@ def await_prompt(pipe, number):
         said += byte
 
 
+def await_input(pid):
+    """Waits until a process that has asked waits for the answer: what changed is written by then."""
+    idle = 0
+    while idle < 3:
+        with open(f'/proc/{pid}/stat') as file:
+            idle = idle + 1 if file.read().rsplit(')', 1)[1].split()[0] == 'S' else 0
+        time.sleep(0.002)
+
+
 def run(program, room, random_, count):
     first, script, acts, asks, wanted, told, done = plan(random_, count)
     shutil.rmtree(room, ignore_errors=True)
@@ -211,6 +224,7 @@ def run(program, room, random_, count):
                                  stdin=subprocess.PIPE, stdout=subprocess.PIPE, stderr=faults, bufsize=0)
         for number, lines in enumerate(asks):
             await_prompt(child.stdout, number)
+            await_input(child.pid)
             sh(lines, folder)
             child.stdin.write(b'n\n')
         child.stdin.close()
