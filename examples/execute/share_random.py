@@ -10,7 +10,7 @@ while something that the Shell has is not written, or after it gave way. What ch
 moves to T: stays here until it comes in again elsewhere. share_losses.py tries what the model leaves out.
 The last line is 'N changes, M starts: ok'.
 """
-import os, random, shutil, subprocess, sys
+import os, random, shutil, subprocess, sys, time
 
 STEPS = 120
 FILES = ['a', 'b', 'c', 'd', 'p/a', 'p/b', 'q/a', 'q/b', 'r/a']
@@ -66,9 +66,10 @@ class Model:
         text = self.last.get(path)
         return text in self.out.values() and self.machine.get(path) == text and list(self.machine.values()).count(text) == 1
 
-    def write_out(self):
+    def write_out(self, meanwhile=False):
         """What is new is written first, then what changed, unless it writes over what was moved to one that could not be written; then
-        what is gone is deleted, the deepest first, unless something could not be written."""
+        what is gone is deleted, the deepest first, unless something could not be written. Meanwhile, at a question, what is not deleted
+        waits."""
         paths = sorted(set(self.shell) | set(self.last))
         new, owes, unwritten = set(self.shell) - set(self.last), False, []
         for path in ([p for p in paths if p in new] + [p for p in paths if p in self.shell and p not in new]
@@ -84,12 +85,14 @@ class Model:
                 raise Unsure
             if shell == GONE and machine == last and owes:
                 # it comes in again: its bytes may be in what is not written
-                self.put(self.last, path, GONE)
+                if not meanwhile:
+                    self.put(self.last, path, GONE)
             elif shell == GONE and machine == FOLDER and below(self.machine, path):
                 self.put(self.last, path, GONE)
             elif machine == last and machine != FOLDER and machine not in shell and any(machine in text for text in unwritten):
                 # it comes in again too
-                self.put(self.last, path, GONE)
+                if not meanwhile:
+                    self.put(self.last, path, GONE)
                 unwritten.append(shell)
             elif machine in (last, shell, GONE):
                 # a folder that was deleted on this machine is made again for what is in it
@@ -202,7 +205,7 @@ def plan(random_, count):
         script += [move] if move else []
         done += len(lines)
         if random_.random() < 0.4:
-            model.write_out()
+            model.write_out(meanwhile=True)
             lines = changes(random_, model.machine, 2, count)
             script.append(f'Ask {len(asks)}?')
             asks.append([line for _, line in lines])
@@ -244,6 +247,15 @@ def sure_plan(random_, count):
             pass
 
 
+def await_input(pid):
+    """Waits until a process that has asked waits for the answer: what changed is written by then."""
+    idle = 0
+    while idle < 3:
+        with open(f'/proc/{pid}/stat') as file:
+            idle = idle + 1 if file.read().rsplit(')', 1)[1].split()[0] == 'S' else 0
+        time.sleep(0.002)
+
+
 def run(program, room, random_, count):
     first, script, acts, asks, wanted, told, done = sure_plan(random_, count)
     shutil.rmtree(room, ignore_errors=True)
@@ -265,6 +277,7 @@ def run(program, room, random_, count):
                                  stdin=subprocess.PIPE, stdout=subprocess.PIPE, stderr=faults, bufsize=0)
         for number, lines in enumerate(asks):
             await_prompt(child.stdout, number)
+            await_input(child.pid)
             try:
                 sh(lines, folder)
             except subprocess.CalledProcessError:

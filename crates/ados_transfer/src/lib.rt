@@ -14,6 +14,7 @@ mod decision;
 mod departure;
 mod departures;
 mod faults;
+mod fit;
 mod folders;
 mod here;
 mod left_out;
@@ -40,6 +41,7 @@ mod words;
 mod writes;
 mod writing;
 
+pub use account::Moment;
 pub use arrivals::Arrival;
 pub use bringing::{bring, bring_script, bytes_of};
 pub use decision::{Decision, Removal, State, decide, decide_removal};

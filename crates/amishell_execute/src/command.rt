@@ -45,6 +45,10 @@ folder comes in when it ends";
 
 const ALL: &str = "Shares also what has a name that begins with a dot";
 
+const PART: &str =
+    "Shares what fits of a folder that has more than 1024 files and folders, or more than 1048576 bytes in
+files that are not too large by themselves; without it nothing runs then";
+
 const DRY: &str =
     "Tells what would be written to the shared folder and deleted there, and writes nothing itself; programs
 and --take write as ever";
@@ -59,6 +63,12 @@ where there is none";
 const STRICT: &str =
     "Runs nothing if a line of the script gives a command an option of Release 2 that the Shell leaves out;
 without it each such line is reported on standard error, and the script runs";
+
+const ANSWERS: &[&str] = &["no"];
+
+const ANSWER: &str =
+    "At the end of standard input Ask takes this answer, for ever, and `?` an empty line; without it the run
+ends there";
 
 const TURNS: &str =
     "How many events and long lines are taken at most, 1 to 1000000000, not counted those that bring files
@@ -98,10 +108,12 @@ fn command<'a>(alloc: Global) -> Result<Command<'a>, AllocError> {
         .arg(list_option(alloc, "type", "LINE", TYPE))?
         .arg(text_option(alloc, "share", "FOLDER[=PATH]", SHARE))?
         .arg(flag(alloc, "all", ALL).requires_arg("share")?)?
+        .arg(flag(alloc, "part", PART).requires_arg("share")?)?
         .arg(flag(alloc, "dry", DRY).requires_arg("share")?)?
         .arg(flag(alloc, "quote", QUOTE))?
         .arg(flag(alloc, "strike", STRIKE))?
         .arg(flag(alloc, "strict", STRICT))?
+        .arg(text_option(alloc, "answer", "no", ANSWER).value_parser(ANSWERS))?
         .arg(text_option(alloc, "turns", "N", TURNS))?
         .arg(script)
 }

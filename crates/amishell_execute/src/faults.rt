@@ -37,6 +37,9 @@ pub enum Fault {
     /// The files are not in the Shell's world as they were brought.
     #[error("the files cannot be brought in")]
     NotBrought,
+    /// The Shell asked for a line of standard input, which was at its end.
+    #[error("no answer for {0}")]
+    Unanswered(String),
     /// There was no memory.
     #[error("out of memory")]
     Memory,

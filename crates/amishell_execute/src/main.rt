@@ -6,21 +6,24 @@ ghost use Rattle.ados_launch.specs.Agreement.{Agrees};
 ghost use Rattle.amishell_execute.specs.Status.{status_of};
 
 mod command;
+mod due;
 mod faults;
 mod home;
 mod hosts;
 mod launcher;
+mod pace;
 mod play;
 mod reader;
 mod reading;
 mod request;
 mod share;
+mod unanswered;
 mod warnings;
 
 use ados_launch::Counted;
 use ados_ram::Place;
 use ados_text::{Code, Text};
-use ados_transfer::{Lines, Plan, bring, bring_script, take};
+use ados_transfer::{Lines, Plan, TransferFault, bring, bring_script, take};
 use ados_world::{NewFault, World};
 use faults::{Fault, report};
 use hosts::hosts_for;
@@ -41,6 +44,8 @@ const FAILED: u8 = 20;
 
 // The last of the three descriptors that a program has from its beginning.
 const STANDARD_ERROR: i32 = 2;
+// The exit status if a question has no answer, if a folder does not fit, or if it does not have at the end what the script left.
+const LACKING: u8 = 125;
 
 fn main(rt: HostRuntime) -> ExitCode {
     let _held = held_descriptors(&rt);
@@ -48,7 +53,10 @@ fn main(rt: HostRuntime) -> ExitCode {
         Ok(status) => ExitCode::from(status),
         Err(fault) => {
             report(&rt, &fault);
-            ExitCode::from(FAILED)
+            ExitCode::from(match fault {
+                Fault::Unanswered(_) | Fault::Transfer(TransferFault::DoesNotFit(_)) => LACKING,
+                _ => FAILED,
+            })
         }
     }
 }
@@ -163,6 +171,7 @@ fn run_script<
             planned: plan.planned(),
             lines: &lines,
             turns: options.turns,
+            at_end: options.at_end,
         },
         share.as_mut(),
         &mut writer,
@@ -170,11 +179,20 @@ fn run_script<
     let is_alike = close(rt, world, share.as_mut())?;
     let is_taken = take_all(rt, options, world);
     let end = ended?;
-    Ok(if is_alike && is_taken {
-        status(end.code)
-    } else {
-        FAILED
-    })
+    if !is_alike {
+        return report_lacking(rt, end.code);
+    }
+    Ok(if is_taken { status(end.code) } else { FAILED })
+}
+
+// Reports that the shared folder is not as the script left it, and with which code the script ended; gives the exit status.
+fn report_lacking<R: AllocGlobal + Eprint>(rt: &R, code: Code) -> Result<u8, Fault> {
+    let code = code.0;
+    let line = format!(in rt.alloc();
+        "the shared folder and the Shell's files differ; the script's code was {code}"
+    )?;
+    report(rt, &line);
+    Ok(LACKING)
 }
 
 // Brings the shared folder up to date, if there is one; gives whether all was done.

@@ -9,8 +9,9 @@ ghost use Rattle.amishell_execute.specs.Playing.{IfDriven, PlaysAlone, drive_fau
 
 use crate::faults::Fault;
 use crate::launcher::Bringer;
-use crate::reader::Prompter;
+use crate::reader::{AtEnd, Prompter};
 use crate::share::Share;
+use crate::unanswered::question_asked;
 use ados_launch::{End, Session, Sink};
 use ados_transfer::{Lines, Planned};
 use ados_world::World;
@@ -28,6 +29,8 @@ pub struct Script<'a> {
     pub lines: &'a Lines,
     /// The most events that are taken, besides those that bring it in.
     pub turns: u64,
+    /// What is answered at the end of standard input.
+    pub at_end: AtEnd,
 }
 
 /// Runs a script in a new world, with standard input for what asks, and writes what it prints.
@@ -64,11 +67,16 @@ pub fn play<R: AllocGlobal + Files + Input + Eprint + Processes + Clone + Drop +
             script.lines.all.as_slice(),
             script.lines.bringing,
             rt.reader(),
+            script.at_end,
         ),
     };
     let ended = run.drive(world, share, writer);
     if run.reader.is_refused() {
         return Err(Fault::NotBrought);
+    }
+    if run.reader.is_unanswered() {
+        let asked = question_asked(rt.alloc(), world, run.reader.last_line())?;
+        return Err(Fault::Unanswered(asked));
     }
     ended
 }
