@@ -1,2 +1,4 @@
+pub mod Ends
+pub mod ErrorCodes
 pub mod Prompting
 pub mod Status

@@ -1,77 +1,101 @@
 //! The program: one command script of this machine, run by the Shell of AmigaDOS Release 2 in one command.
 #![tactic(auto)]
 
-ghost use Rattle.std.specs.Prelude.{◌≡◌, [], pos, OnOk};
+ghost use Rattle.std.specs.Prelude.{◌≡◌, [], OnOk};
 ghost use Rattle.ados_launch.specs.Agreement.{Agrees};
-ghost use Rattle.amishell_execute.specs.Status.{status_of};
 
 mod command;
+mod deadline;
+mod delivery;
+mod ends;
+mod error_codes;
 mod faults;
+mod gate;
+mod host_faults;
 mod hosts;
 mod launcher;
+mod losses;
+mod lost_jumps;
+mod mistakes;
+mod origins;
 mod play;
 mod reader;
 mod reading;
 mod request;
 mod share;
+mod stands;
+mod status;
+mod teller;
+mod trace;
+mod trail;
+mod unread;
 mod warnings;
 
-use ados_ram::Place;
-use ados_text::{Code, Text};
-use ados_transfer::{Lines, Plan, bring, bring_script, take};
+use ados_launch::{DriveFault, End};
+use ados_ram::{Place, Ram};
+use ados_text::Text;
+use ados_transfer::{Lines, Plan, TransferFault, bring, bring_script, take};
 use ados_world::{NewFault, World};
-use faults::{Fault, report};
+use deadline::Deadline;
+use error_codes::{ErrorCode, error_codes};
+use faults::{Fault, not_brought, report, unread_script};
 use hosts::hosts_for;
+use losses::{Kept, tell_losses};
+use origins::{Origins, Shared};
 use play::{Script, play};
 use request::{Options, Refused};
 use share::Share;
-use std::io;
+use stands::tell_stands;
+use status::Status;
 use std::io::{Eprint, Write};
 use std::process::{ExitCode, Processes};
 use std::rt::{Env, Files};
 use std::time::Clock;
+use std::{env, fs, io};
+use teller::Teller;
 use warnings::warn;
 
-// The exit status after a fault, and after a code that is not an exit status.
-const FAILED: u8 = 20;
-
 fn main(rt: HostRuntime) -> ExitCode {
-    match run(&rt) {
-        Ok(status) => ExitCode::from(status),
+    let status = match run(&rt) {
+        Ok(status) => status,
         Err(fault) => {
             report(&rt, &fault);
-            ExitCode::from(FAILED)
+            fault.status()
         }
-    }
+    };
+    ExitCode::from(status.number())
 }
 
 // Does what the words ask for, and gives the exit status.
 fn run<R: Env + AllocGlobal + Files + Input + Print + Eprint + Processes + Clone + Drop + Clock>(
     rt: &R,
-) -> Result<u8, Fault> {
+) -> Result<Status, Fault> {
     let words = given_words(rt)?;
     match reading::asked(rt.alloc(), &words) {
         Ok(options) => execute(rt, &options),
         Err(Refused::Help(text)) => show(rt, &text),
-        Err(Refused::BadLine) => Err(Fault::BadLine),
+        Err(Refused::BadLine(reason)) => Err(Fault::BadLine(reason)),
         Err(Refused::NoMemory) => Err(Fault::Memory),
     }
 }
 
 // Writes the help or the version.
-fn show<R: Print>(rt: &R, text: &Text) -> Result<u8, Fault> {
+fn show<R: Print>(rt: &R, text: &Text) -> Result<Status, Fault> {
     match io::writer(rt).write_all(text.as_bytes()) {
-        Ok(()) => Ok(0),
+        Ok(()) => Ok(Status::Done),
         Err(_) => Err(Fault::Write),
     }
 }
 
 // The words after the program's name.
 fn given_words<R: Env + AllocGlobal>(rt: &R) -> Result<Vec<String>, Fault> {
-    let all = match std::env::args(rt) {
+    let all = match env::args(rt) {
         Ok(all) => all,
         Err(error) if error.kind() == io::ErrorKind::OutOfMemory => return Err(Fault::Memory),
-        Err(_) => return Err(Fault::BadLine),
+        Err(_) => {
+            let reason = String::from_str(rt.alloc(), "a word is not UTF-8")?;
+            return Err(Fault::BadLine(reason));
+        }
     };
     match all.skip(1).collect::<Vec<String>>(rt.alloc()) {
         Ok(words) => Ok(words),
@@ -83,15 +107,16 @@ fn given_words<R: Env + AllocGlobal>(rt: &R) -> Result<Vec<String>, Fault> {
 #[tactic(auto, using(ados_launch::proofs::NewPair::new_pair))]
 fn execute<
     R: Env + AllocGlobal + Files + Input + Print + Eprint + Processes + Clone + Drop + Clock,
->(rt: &R, options: &Options<'_>) -> Result<u8, Fault> {
+>(rt: &R, options: &Options<'_>) -> Result<Status, Fault> {
     let hosts = hosts_for(rt, options)?;
     let mut world = match World::new(rt.alloc(), hosts.as_slice()) {
         Ok(world) => world,
         Err(NewFault::NoMemory) => return Err(Fault::Memory),
         Err(_) => return Err(Fault::ManyHosts),
     };
+    let errors = error_codes(rt.alloc(), options.errors.as_slice(), hosts.as_slice())?;
     let mut share = opened(rt, options, &mut world)?;
-    run_script(rt, options, &mut world, &mut share)
+    run_script(rt, options, errors.as_slice(), &mut world, &mut share)
 }
 
 // The folder that is shared, if one is.
@@ -104,7 +129,11 @@ fn opened<R: Env + AllocGlobal + Files + Clone + Drop + Clock>(
     ensures agrees { OnOk result (Agrees world.new []) }
 {
     match options.share {
-        Some(words) => Ok(Some(Share::open(rt, words, options.mirror, world)?)),
+        Some(words) => match Share::open(rt, words, options.mirror, world) {
+            Ok(share) => Ok(Some(share)),
+            Err(Fault::Transfer(TransferFault::CannotRead(path))) => Err(Fault::NoFolder(path)),
+            Err(fault) => Err(fault),
+        },
         None => Ok(None),
     }
 }
@@ -113,20 +142,20 @@ fn opened<R: Env + AllocGlobal + Files + Clone + Drop + Clock>(
 fn run_script<R: AllocGlobal + Files + Input + Print + Eprint + Processes + Clone + Drop + Clock>(
     rt: &R,
     options: &Options<'_>,
+    errors: &[ErrorCode],
     world: &mut World,
     share: &mut Option<Share>,
-) -> Result<u8, Fault>
+) -> Result<Status, Fault>
     requires agrees { Agrees world.old [] }
 {
+    let before = world.files().copy()?;
     let mut plan = Plan::new(rt.alloc(), world.files())?;
-    for words in &options.bring {
-        bring(rt, world.files(), words, &mut plan)?;
-    }
-    let script = bring_script(rt, world.files(), options.script, options.strike, &mut plan)?;
+    let script = add_files(rt, options, world, &mut plan)?;
     if warn(rt, options.script, plan.last_bytes())? && options.strict {
-        return Ok(FAILED);
+        return Ok(Status::Failed);
     }
     let lines = lines_for(rt, options, share.as_ref(), &plan, &script)?;
+    let origins = origins_of(rt, options, share.as_ref(), &plan)?;
     let ended = play(
         rt,
         world,
@@ -134,17 +163,119 @@ fn run_script<R: AllocGlobal + Files + Input + Print + Eprint + Processes + Clon
             planned: plan.planned(),
             lines: &lines,
             turns: options.turns,
+            deadline: Deadline::after(rt, options.seconds),
+            errors,
         },
+        Teller::new(&origins, options.quiet, options.trace)?,
         share.as_mut(),
     );
     let is_alike = close(rt, world, share.as_mut())?;
     let is_taken = take_all(rt, options, world);
-    let end = ended?;
+    let status = status_after(rt, options, world, &origins, ended)?;
+    if !options.quiet {
+        tell_losses(
+            rt,
+            world.files(),
+            &kept(rt, options, world, share.as_ref(), &plan, before)?,
+        )?;
+    }
     Ok(if is_alike && is_taken {
-        status(end.code)
+        status
     } else {
-        FAILED
+        Status::Failed
     })
+}
+
+// Plans what is brought in, the script last, and gives its place.
+fn add_files<R: AllocGlobal + Files + Clone + Drop>(
+    rt: &R,
+    options: &Options<'_>,
+    world: &World,
+    plan: &mut Plan,
+) -> Result<Place, Fault> {
+    for words in &options.bring {
+        if let Err(fault) = bring(rt, world.files(), words, plan) {
+            return Err(not_brought(rt, fault));
+        }
+    }
+    match bring_script(rt, world.files(), options.script, options.strike, plan) {
+        Ok(place) => Ok(place),
+        Err(fault) => Err(unread_script(rt, fault)),
+    }
+}
+
+// The names by which the user knows the files.
+fn origins_of<'a, R: AllocGlobal + Files>(
+    rt: &R,
+    options: &Options<'a>,
+    share: Option<&Share>,
+    plan: &'a Plan,
+) -> Result<Origins<'a>, Fault> {
+    let shared = match (options.share, share) {
+        (Some(words), Some(share)) => Some(Shared {
+            directory: share.place().path(rt.alloc())?,
+            folder: folder_in(rt, words),
+        }),
+        _ => None,
+    };
+    Ok(Origins {
+        alloc: rt.alloc(),
+        planned: plan.planned(),
+        share: shared,
+    })
+}
+
+// The folder that words of `--share` name. A path that exists is taken as a whole.
+fn folder_in<'a, R: Files>(rt: &R, words: &'a str) -> &'a str {
+    if fs::metadata(rt, words).is_ok() {
+        return words;
+    }
+    match words.rsplit_once('=') {
+        Some((folder, _)) => folder,
+        None => words,
+    }
+}
+
+// The exit status of a run. At a limit the lines say where the scripts stand.
+fn status_after<R: AllocGlobal + Eprint>(
+    rt: &R,
+    options: &Options<'_>,
+    world: &World,
+    origins: &Origins<'_>,
+    ended: Result<End, Fault>,
+) -> Result<Status, Fault> {
+    let fault = match ended {
+        Ok(end) => return Ok(Status::of_code(end.code, options.least)),
+        Err(Fault::Drive(DriveFault::Turns)) => Fault::Turns(options.turns),
+        Err(fault) => fault,
+    };
+    if fault.status() != Status::Limit {
+        return Err(fault);
+    }
+    if options.quiet || !tell_stands(rt, world, origins, &fault)? {
+        report(rt, &fault);
+    }
+    Ok(Status::Limit)
+}
+
+// What is not gone with the Shell's files.
+fn kept<'a, R: AllocGlobal>(
+    rt: &R,
+    options: &Options<'_>,
+    world: &World,
+    share: Option<&Share>,
+    plan: &'a Plan,
+    before: Ram,
+) -> Result<Kept<'a>, Fault> {
+    let alloc = rt.alloc();
+    let mut kept = Kept::new(alloc, before, plan.planned())?;
+    if let Some(share) = share {
+        kept.directories.push(share.place().copy()?)?;
+    }
+    for words in &options.take {
+        kept.add_taken(alloc, world, words)?;
+    }
+    Ok(kept)
 }
 
 // Brings the shared folder up to date, if there is one; gives whether all was done.
@@ -188,11 +319,4 @@ fn lines_for<R: AllocGlobal>(
     }
     lines.add_call(rt.alloc(), script, options.args.as_slice(), options.quote)?;
     Ok(lines)
-}
-
-// The exit status for a code.
-fn status(code: Code) -> u8
-    ensures { pos result ≡ status_of code.0 }
-{
-    u8::try_from(code.0).unwrap_or(FAILED)
 }

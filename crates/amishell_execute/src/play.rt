@@ -4,10 +4,14 @@ ghost use Rattle.std.specs.Prelude.{◌≡◌, ◌<◌, ◌^◌, ◌-◌, [], On
 ghost use Rattle.ados_launch.specs.Agreement.{Agrees, AreOver, IsOpenTable};
 ghost use Rattle.ados_launch.specs.Leads.{IsReachable, LeadsByRule};
 
+use crate::deadline::Deadline;
+use crate::error_codes::ErrorCode;
 use crate::faults::Fault;
+use crate::gate::Gate;
 use crate::launcher::Bringer;
 use crate::reader::Prompter;
 use crate::share::Share;
+use crate::teller::Teller;
 use ados_launch::{Counted, End, Session, Sink};
 use ados_transfer::{Lines, Planned};
 use ados_world::World;
@@ -26,6 +30,10 @@ pub struct Script<'a> {
     pub lines: &'a Lines,
     /// The most events that are taken, besides those that bring it in.
     pub turns: u64,
+    /// When no further event is taken.
+    pub deadline: Option<Deadline>,
+    /// The codes of programs that fail.
+    pub errors: &'a [ErrorCode],
 }
 
 /// Runs a script in a new world, with standard input for what asks.
@@ -38,6 +46,7 @@ pub fn play<R: AllocGlobal + Files + Input + Print + Eprint + Processes + Clone 
     rt: &R,
     world: &mut World,
     script: &Script<'_>,
+    teller: Teller<'_>,
     share: Option<&mut Share>,
 ) -> Result<End, Fault>
     requires { Agrees world.old [] }
@@ -48,14 +57,16 @@ pub fn play<R: AllocGlobal + Files + Input + Print + Eprint + Processes + Clone 
     let mut run = Run {
         rt,
         turns: script.turns.saturating_add(script.lines.events),
-        launcher: Bringer::new(rt.alloc(), rt, script.planned)?,
+        deadline: script.deadline,
+        launcher: Bringer::new(rt.alloc(), rt, script.planned, script.errors)?,
         reader: Prompter::new(
             script.planned,
             script.lines.all.as_slice(),
             script.lines.bringing,
             rt.reader(),
         ),
-        writer: Counted::new(io::writer(rt)),
+        writer: Gate::new(rt.alloc(), Counted::new(io::writer(rt)), teller.traces()),
+        teller,
     };
     let ended = run.drive(world, share);
     if run.reader.is_refused() {
@@ -69,9 +80,11 @@ pub fn play<R: AllocGlobal + Files + Input + Print + Eprint + Processes + Clone 
 struct Run<'a, R: Processes, I: Read, K: Sink> {
     rt: &'a R,
     turns: u64,
+    deadline: Option<Deadline>,
+    teller: Teller<'a>,
     launcher: Bringer<'a, R>,
     reader: Prompter<'a, I>,
-    writer: K,
+    writer: Gate<K>,
 }
 
 impl<R: AllocGlobal + Files + Eprint + Processes + Clone + Drop + Clock, I: Read, K: Sink> Run<
@@ -84,7 +97,7 @@ impl<R: AllocGlobal + Files + Eprint + Processes + Clone + Drop + Clock, I: Read
     #[tactic(auto, using(crate::proofs::Pairs::table_looked))]
     fn drive(&mut self, world: &mut World, share: Option<&mut Share>) -> Result<End, Fault>
         requires reader { self.old.reader.faults < 2 ^ 64 - 1 }
-        requires writer { K.faults self.old.writer < 2 ^ 64 - 1 }
+        requires writer { K.faults self.old.writer.inner < 2 ^ 64 - 1 }
         requires agrees { Agrees world.old self.old.launcher.calls }
         ensures rule { LeadsByRule world.old world.new }
         ensures over { AreOver self.new.launcher.calls }
@@ -108,7 +121,7 @@ impl<R: AllocGlobal + Files + Eprint + Processes + Clone + Drop + Clock, I: Read
         mut share: Option<&mut Share>,
     ) -> Result<End, Fault>
         requires reader { self.old.reader.faults < 2 ^ 64 - 1 }
-        requires writer { K.faults self.old.writer < 2 ^ 64 - 1 }
+        requires writer { K.faults self.old.writer.inner < 2 ^ 64 - 1 }
         requires agrees { Agrees world.old self.old.launcher.calls }
         requires children { IsOpenTable session.old.children self.old.launcher.calls }
         requires begins { session.old.schedule.taken ≡ 0 }
@@ -126,11 +139,24 @@ impl<R: AllocGlobal + Files + Eprint + Processes + Clone + Drop + Clock, I: Read
             )? {
                 return Ok(session.end(world));
             }
+            self.tell(world, session)?;
         }
         Ok(session.finish(world)?)
     }
 
-    // Attends to the shared folder before an event, if there is one.
+    // Tells what happened at the last event: the command that it took, then what it printed, then the scripts that it ended.
+    fn tell(&mut self, world: &World, session: &Session<'_>) -> Result<(), Fault>
+        requires writer { K.faults self.old.writer.inner < 2 ^ 64 - 1 }
+        ensures launcher { self.new.launcher ≡ self.old.launcher }
+        ensures reader { self.new.reader ≡ self.old.reader }
+        ensures writer { OnOk result (K.faults self.new.writer.inner ≡ K.faults self.old.writer.inner) }
+    {
+        self.teller.tell_command(self.rt, session);
+        self.writer.release()?;
+        self.teller.after(self.rt, world, session)
+    }
+
+    // Attends to the time, to the shell whose event comes next, and to the shared folder, if there is one.
     fn attend(
         &mut self,
         world: &mut World,
@@ -147,6 +173,10 @@ impl<R: AllocGlobal + Files + Eprint + Processes + Clone + Drop + Clock, I: Read
         ensures writer { self.new.writer ≡ self.old.writer }
         ensures leads { IsReachable world.old world.new }
     {
+        if let Some(deadline) = &self.deadline {
+            deadline.check(self.rt)?;
+        }
+        self.teller.before(self.rt, world, session)?;
         let Some(share) = share else {
             return Ok(());
         };

@@ -8,6 +8,7 @@ use crate::launcher::{Bringer, Start};
 use ados_launch::{Launcher, Listed, Session, SystemEnd, SystemFault, system};
 use ados_launcher::StartFolder;
 use ados_machine::Request;
+use ados_ram::Place;
 use ados_text::Text;
 use ados_transfer::{Arrival, Mirror, MirrorOptions, StartPlace, push_word};
 use ados_world::World;
@@ -86,6 +87,11 @@ impl Share {
             home,
             is_filled: false,
         })
+    }
+
+    /// The directory.
+    pub fn place(&self) -> &Place {
+        self.mirror.place()
     }
 
     /// The line that makes the directory the current one.

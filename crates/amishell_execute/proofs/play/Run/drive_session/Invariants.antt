@@ -6,7 +6,7 @@ use Rattle.amishell_execute.proofs.play.Run.drive_session.Given as goal
 abbrev pub invariant-loop : goal.invariant-loop
 invariant-loop g l = record {
   reader : l.self.reader.faults ≡ l.fn.self.reader.faults;
-  writer : g.K.Sink.faults l.self.writer ≡ g.K.Sink.faults l.fn.self.writer;
+  writer : g.K.Sink.faults l.self.writer.inner ≡ g.K.Sink.faults l.fn.self.writer.inner;
   count : l.session.schedule.taken ≤ l.counter;
   agrees : Agrees l.world l.self.launcher.calls;
   leads : IsReachable l.fn.world l.world;

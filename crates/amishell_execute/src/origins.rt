@@ -1,0 +1,68 @@
+//! The paths of this machine from which the Shell's files come.
+
+use crate::faults::Fault;
+use crate::host_faults::shown;
+use ados_text::{Text, same_name};
+use ados_transfer::{Planned, step_into};
+use std::alloc::Global;
+
+/// Where the Shell's files come from.
+#[derive(Drop)]
+pub struct Origins<'a> {
+    /// Where the memory for names comes from.
+    pub alloc: Global,
+    /// What was brought in.
+    pub planned: &'a [Planned],
+    /// The directory that is shared.
+    pub share: Option<Shared<'a>>,
+}
+
+/// A directory of the Shell that is shared.
+#[derive(Drop)]
+pub struct Shared<'a> {
+    /// Its full path.
+    pub directory: Text,
+    /// Its folder, as it was named.
+    pub folder: &'a str,
+}
+
+impl Origins<'_> {
+    /// The name by which a user knows the file of a full path: its path on this machine, if it has one.
+    pub fn name(&self, file: &Text) -> Result<String, Fault> {
+        for one in self.planned {
+            let path = one.place.path(self.alloc)?;
+            if same_name(path.as_bytes(), file.as_bytes()) {
+                return Ok(String::from_str(self.alloc, one.path.as_str())?);
+            }
+        }
+        match &self.share {
+            Some(share) => share.name(self.alloc, file),
+            None => Ok(String::from_str(self.alloc, shown(file))?),
+        }
+    }
+}
+
+impl Shared<'_> {
+    // The path of a file in the folder, if it is below the directory; otherwise its full path.
+    fn name(&self, alloc: Global, file: &Text) -> Result<String, Fault> {
+        let path = shown(file);
+        let length = self.directory.as_bytes().len();
+        let (Some(above), Some(below)) = (path.get(..length), path.get(length..)) else {
+            return Ok(String::from_str(alloc, path)?);
+        };
+        match below.strip_prefix('/') {
+            Some(below) if same_name(above.as_bytes(), self.directory.as_bytes()) => {
+                self.path(alloc, below)
+            }
+            _ => Ok(String::from_str(alloc, path)?),
+        }
+    }
+
+    // The path of what is below the folder; nothing is before it if that is the current one.
+    fn path(&self, alloc: Global, below: &str) -> Result<String, Fault> {
+        match self.folder {
+            "." | "./" => Ok(String::from_str(alloc, below)?),
+            folder => Ok(step_into(alloc, folder, below)?),
+        }
+    }
+}
