@@ -3,9 +3,8 @@
 use crate::faults::{Fault, report};
 use crate::host_faults::shown;
 use ados_ram::{Entry, Place, Ram};
-use ados_text::{Name, Text};
-use ados_transfer::{Content, Planned, taken_place};
-use ados_world::World;
+use ados_text::{Name, NoMemory, Text};
+use ados_transfer::{Content, Planned};
 use std::alloc::Global;
 use std::io::Eprint;
 
@@ -15,34 +14,38 @@ const NAMED: usize = 2;
 /// What is not gone with the Shell's files, or is no loss.
 #[derive(Drop)]
 pub struct Kept<'a> {
-    /// The files as they were before the script.
-    pub before: Ram,
-    /// What was brought in.
-    pub planned: &'a [Planned],
-    /// The directories whose files are written to this machine, or are not meant to stay.
-    pub directories: Vec<Place>,
+    // The files as they were before the script.
+    before: Ram,
+    // What was brought in.
+    planned: &'a [Planned],
+    // The files, and the directories with files, that are written to this machine, or are not meant to stay.
+    places: Vec<Place>,
 }
 
 impl<'a> Kept<'a> {
-    /// What was there before the script, what was brought in, and what is in T: and ENV:.
-    pub fn new(alloc: Global, before: Ram, planned: &'a [Planned]) -> Result<Kept<'a>, Fault> {
-        let mut directories = Vec::new(alloc);
+    /// The files as they are before the script, what is brought in, the script itself, T: and ENV:.
+    pub fn new(
+        alloc: Global,
+        files: &Ram,
+        planned: &'a [Planned],
+        script: &Place,
+    ) -> Result<Kept<'a>, NoMemory> {
+        let mut kept = Kept {
+            before: files.copy()?,
+            planned,
+            places: Vec::new(alloc),
+        };
+        kept.add(script)?;
         for name in ["T", "Env"] {
             let name = Name::from_bytes(alloc, name.as_bytes())?;
-            directories.push(Place::root(alloc).with(name)?)?;
+            kept.add(&Place::root(alloc).with(name)?)?;
         }
-        Ok(Kept {
-            before,
-            planned,
-            directories,
-        })
+        Ok(kept)
     }
 
-    /// What `--take` took is kept too.
-    pub fn add_taken(&mut self, alloc: Global, world: &World, words: &str) -> Result<(), Fault> {
-        if let Some(place) = taken_place(alloc, world.files(), world.assigns(), words)? {
-            self.directories.push(place)?;
-        }
+    /// A file, or what is in a directory, is kept.
+    pub fn add(&mut self, place: &Place) -> Result<(), NoMemory> {
+        self.places.push(place.copy()?)?;
         Ok(())
     }
 

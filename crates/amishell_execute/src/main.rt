@@ -31,21 +31,20 @@ mod trail;
 mod unread;
 mod warnings;
 
-use ados_launch::{DriveFault, End};
-use ados_ram::{Place, Ram};
+use ados_ram::Place;
 use ados_text::Text;
-use ados_transfer::{Lines, Plan, TransferFault, bring, bring_script, take};
+use ados_transfer::{Lines, Plan, TransferFault, bring, bring_script, take, taken_place};
 use ados_world::{NewFault, World};
 use deadline::Deadline;
 use error_codes::{ErrorCode, error_codes};
 use faults::{Fault, not_brought, report, unread_script};
 use hosts::hosts_for;
 use losses::{Kept, tell_losses};
-use origins::{Origins, Shared};
+use origins::Origins;
 use play::{Script, play};
 use request::{Options, Refused};
 use share::Share;
-use stands::tell_stands;
+use stands::status_after;
 use status::Status;
 use std::io::{Eprint, Write};
 use std::process::{ExitCode, Processes};
@@ -148,14 +147,15 @@ fn run_script<R: AllocGlobal + Files + Input + Print + Eprint + Processes + Clon
 ) -> Result<Status, Fault>
     requires agrees { Agrees world.old [] }
 {
-    let before = world.files().copy()?;
     let mut plan = Plan::new(rt.alloc(), world.files())?;
     let script = add_files(rt, options, world, &mut plan)?;
     if warn(rt, options.script, plan.last_bytes())? && options.strict {
         return Ok(Status::Failed);
     }
     let lines = lines_for(rt, options, share.as_ref(), &plan, &script)?;
-    let origins = origins_of(rt, options, share.as_ref(), &plan)?;
+    let shared = share.as_ref().map(|share| share.place());
+    let origins = Origins::new(rt, plan.planned(), options.share, shared)?;
+    let kept = Kept::new(rt.alloc(), world.files(), plan.planned(), &script)?;
     let ended = play(
         rt,
         world,
@@ -173,11 +173,7 @@ fn run_script<R: AllocGlobal + Files + Input + Print + Eprint + Processes + Clon
     let is_taken = take_all(rt, options, world);
     let status = status_after(rt, options, world, &origins, ended)?;
     if !options.quiet {
-        tell_losses(
-            rt,
-            world.files(),
-            &kept(rt, options, world, share.as_ref(), &plan, before)?,
-        )?;
+        tell_gone(rt, options, world, share.as_ref(), kept)?;
     }
     Ok(if is_alike && is_taken {
         status
@@ -204,78 +200,23 @@ fn add_files<R: AllocGlobal + Files + Clone + Drop>(
     }
 }
 
-// The names by which the user knows the files.
-fn origins_of<'a, R: AllocGlobal + Files>(
-    rt: &R,
-    options: &Options<'a>,
-    share: Option<&Share>,
-    plan: &'a Plan,
-) -> Result<Origins<'a>, Fault> {
-    let shared = match (options.share, share) {
-        (Some(words), Some(share)) => Some(Shared {
-            directory: share.place().path(rt.alloc())?,
-            folder: folder_in(rt, words),
-        }),
-        _ => None,
-    };
-    Ok(Origins {
-        alloc: rt.alloc(),
-        planned: plan.planned(),
-        share: shared,
-    })
-}
-
-// The folder that words of `--share` name. A path that exists is taken as a whole.
-fn folder_in<'a, R: Files>(rt: &R, words: &'a str) -> &'a str {
-    if fs::metadata(rt, words).is_ok() {
-        return words;
-    }
-    match words.rsplit_once('=') {
-        Some((folder, _)) => folder,
-        None => words,
-    }
-}
-
-// The exit status of a run. At a limit the lines say where the scripts stand.
-fn status_after<R: AllocGlobal + Eprint>(
-    rt: &R,
-    options: &Options<'_>,
-    world: &World,
-    origins: &Origins<'_>,
-    ended: Result<End, Fault>,
-) -> Result<Status, Fault> {
-    let fault = match ended {
-        Ok(end) => return Ok(Status::of_code(end.code, options.least)),
-        Err(Fault::Drive(DriveFault::Turns)) => Fault::Turns(options.turns),
-        Err(fault) => fault,
-    };
-    if fault.status() != Status::Limit {
-        return Err(fault);
-    }
-    if options.quiet || !tell_stands(rt, world, origins, &fault)? {
-        report(rt, &fault);
-    }
-    Ok(Status::Limit)
-}
-
-// What is not gone with the Shell's files.
-fn kept<'a, R: AllocGlobal>(
+// Tells which files are gone.
+fn tell_gone<R: AllocGlobal + Eprint>(
     rt: &R,
     options: &Options<'_>,
     world: &World,
     share: Option<&Share>,
-    plan: &'a Plan,
-    before: Ram,
-) -> Result<Kept<'a>, Fault> {
-    let alloc = rt.alloc();
-    let mut kept = Kept::new(alloc, before, plan.planned())?;
+    mut kept: Kept<'_>,
+) -> Result<(), Fault> {
     if let Some(share) = share {
-        kept.directories.push(share.place().copy()?)?;
+        kept.add(share.place())?;
     }
     for words in &options.take {
-        kept.add_taken(alloc, world, words)?;
+        if let Some(place) = taken_place(rt.alloc(), world.files(), world.assigns(), words)? {
+            kept.add(&place)?;
+        }
     }
-    Ok(kept)
+    tell_losses(rt, world.files(), &kept)
 }
 
 // Brings the shared folder up to date, if there is one; gives whether all was done.

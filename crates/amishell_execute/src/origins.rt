@@ -2,31 +2,55 @@
 
 use crate::faults::Fault;
 use crate::host_faults::shown;
-use ados_text::{Text, same_name};
+use ados_ram::Place;
+use ados_text::{NoMemory, Text, same_name};
 use ados_transfer::{Planned, step_into};
 use std::alloc::Global;
+use std::fs;
+use std::rt::Files;
 
 /// Where the Shell's files come from.
 #[derive(Drop)]
 pub struct Origins<'a> {
     /// Where the memory for names comes from.
     pub alloc: Global,
-    /// What was brought in.
-    pub planned: &'a [Planned],
-    /// The directory that is shared.
-    pub share: Option<Shared<'a>>,
+    // What was brought in.
+    planned: &'a [Planned],
+    // The directory that is shared.
+    share: Option<Shared<'a>>,
 }
 
-/// A directory of the Shell that is shared.
+// A directory of the Shell that is shared.
 #[derive(Drop)]
-pub struct Shared<'a> {
-    /// Its full path.
-    pub directory: Text,
-    /// Its folder, as it was named.
-    pub folder: &'a str,
+struct Shared<'a> {
+    // Its full path.
+    directory: Text,
+    // Its folder, as it was named.
+    folder: &'a str,
 }
 
-impl Origins<'_> {
+impl<'a> Origins<'a> {
+    /// What was brought in, and the directory that words of `--share` share.
+    pub fn new<R: AllocGlobal + Files>(
+        rt: &R,
+        planned: &'a [Planned],
+        words: Option<&'a str>,
+        directory: Option<&Place>,
+    ) -> Result<Origins<'a>, NoMemory> {
+        let share = match (words, directory) {
+            (Some(words), Some(directory)) => Some(Shared {
+                directory: directory.path(rt.alloc())?,
+                folder: folder_in(rt, words),
+            }),
+            _ => None,
+        };
+        Ok(Origins {
+            alloc: rt.alloc(),
+            planned,
+            share,
+        })
+    }
+
     /// The name by which a user knows the file of a full path: its path on this machine, if it has one.
     pub fn name(&self, file: &Text) -> Result<String, Fault> {
         for one in self.planned {
@@ -39,6 +63,17 @@ impl Origins<'_> {
             Some(share) => share.name(self.alloc, file),
             None => Ok(String::from_str(self.alloc, shown(file))?),
         }
+    }
+}
+
+// The folder that words of `--share` name. A path that exists is taken as a whole.
+fn folder_in<'a, R: Files>(rt: &R, words: &'a str) -> &'a str {
+    if fs::metadata(rt, words).is_ok() {
+        return words;
+    }
+    match words.rsplit_once('=') {
+        Some((folder, _)) => folder,
+        None => words,
     }
 }
 

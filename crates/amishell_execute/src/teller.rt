@@ -3,11 +3,12 @@ ghost use Rattle.std.specs.Prelude.{◌<◌, ◌^◌, ◌-◌};
 
 use crate::ends::{cause, end_line};
 use crate::faults::{Fault, report, tell};
-use crate::host_faults::shown;
+use crate::host_faults::shown_bytes;
 use crate::lost_jumps::lost_jump;
 use crate::origins::Origins;
 use crate::trace::trace_line;
 use crate::trail::Trail;
+use ados_items::trimmed;
 use ados_launch::{Next, Session};
 use ados_machine::EndReport;
 use ados_shell::Shell;
@@ -173,7 +174,7 @@ impl<'a> Teller<'a> {
             return self.origins.name(name);
         }
         let line = match self.trail.first_line(number) {
-            Some(line) => shown(line),
+            Some(line) => shown_bytes(trimmed(line.as_bytes())),
             None => "",
         };
         Ok(String::from_str(self.origins.alloc, line)?)
