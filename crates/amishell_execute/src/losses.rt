@@ -51,7 +51,7 @@ impl<'a> Kept<'a> {
 
     // A file is kept, or is as it was.
     fn holds(&self, place: &Place, entry: &Entry) -> bool {
-        let is_kept = self.directories.iter().any(|kept| is_within(kept, place));
+        let is_kept = self.places.iter().any(|kept| is_within(kept, place));
         is_kept || self.was_there(place, entry) || self.was_brought(place, entry)
     }
 
