@@ -46,9 +46,11 @@ acts-lead w last [] led = led
 acts-lead w last (Took (Given event out) ∷ deeds) led = (led.0, acts-lead (resulting_world w (Ok out) (step_of w event)) last deeds led.1)
 acts-lead w last (Took LongLine ∷ deeds) led = acts-lead w last deeds led.1
 acts-lead w last (RanAlone run ∷ deeds) led =
-    let r = led.1 in
-    (r.free, r.no_fault,
-    led-append (world_with_opened w run.shell (run.line ∷ [])) led.0 last (acts_of_items run.taken) (acts_of_deeds deeds) (items-lead (world_with_opened w run.shell (run.line ∷ [])) led.0 run.taken r.runs) (acts-lead led.0 last deeds led.2))
+    let r = led.1 in (
+      r.free,
+      r.no_fault,
+      led-append (world_with_opened w run.shell (run.line ∷ [])) led.0 last (acts_of_items run.taken) (acts_of_deeds deeds) (items-lead (world_with_opened w run.shell (run.line ∷ [])) led.0 run.taken r.runs) (acts-lead led.0 last deeds led.2),
+    )
 
 -- all of the bytes are a prefix of them
 pub written-any : (is_cut : Bool) (contents contents_now : Option (List ℕ)) (bytes : List ℕ) → Appends contents contents_now bytes → AreWritten is_cut contents contents_now bytes

@@ -54,5 +54,5 @@ pub use plan::Plan;
 pub use planned::{Content, Planned, are_as_planned};
 pub use stamps::{Stamp, Time};
 pub use start_place::StartPlace;
-pub use taking::take;
+pub use taking::{take, taken_place};
 pub use words::push_word;

@@ -123,7 +123,12 @@ impl Plan {
             return Err(named(self.alloc, path, TransferFault::ManyObjects));
         }
         self.room.put(size, None);
-        self.planned.push(Planned { place, content })?;
+        let path = String::from_str(self.alloc, path)?;
+        self.planned.push(Planned {
+            place,
+            content,
+            path,
+        })?;
         Ok(())
     }
 }

@@ -9,6 +9,7 @@ use crate::home::{Home, enter};
 use crate::launcher::{Bringer, Start};
 use crate::pace::Pace;
 use ados_launch::{Launcher, Listed, Session, SystemEnd, SystemFault, system};
+use ados_ram::Place;
 use ados_text::Text;
 use ados_transfer::{Arrival, Mirror, MirrorOptions, Moment, StartPlace, push_word};
 use ados_world::World;
@@ -61,6 +62,11 @@ impl Share {
             is_filled: false,
             pace: Pace::new(rt),
         })
+    }
+
+    /// The directory.
+    pub fn place(&self) -> &Place {
+        self.mirror.place()
     }
 
     /// Makes the folder this process's current directory: from now on its files are found in it, whatever its name leads to.
