@@ -3,7 +3,6 @@
 //! as it was meant; what the files then hold; and how files are written out.
 
 mod account;
-mod arguments;
 mod arrival_plan;
 mod arrivals;
 mod bringing;
@@ -15,7 +14,6 @@ mod departures;
 mod faults;
 mod folders;
 mod here;
-mod left_out;
 mod lines;
 mod mirror;
 mod paths;
@@ -24,7 +22,6 @@ mod placing;
 mod plan;
 mod planned;
 mod records;
-mod release_two;
 mod removals;
 mod room;
 mod script;
@@ -38,10 +35,9 @@ mod writes;
 mod writing;
 
 pub use arrivals::Arrival;
-pub use bringing::{bring, bring_script, bytes_of};
+pub use bringing::{bring, bring_script, bytes_of, read_script};
 pub use decision::{Decision, Removal, State, decide, decide_removal};
 pub use faults::TransferFault;
-pub use left_out::{LeftOut, options_left_out};
 pub use lines::{BRING, Lines};
 pub use mirror::{Mirror, MirrorOptions};
 pub use paths::{ascii, last_piece, step_into};

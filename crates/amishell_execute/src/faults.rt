@@ -35,6 +35,9 @@ pub enum Fault {
     /// The files are not in the Shell's world as they were brought.
     #[error("the files cannot be brought in")]
     NotBrought,
+    /// Lines of the script of this name must not be run as they are.
+    #[error("{0} is not run (--lenient runs it)")]
+    NotRun(String),
     /// There was no memory.
     #[error("out of memory")]
     Memory,

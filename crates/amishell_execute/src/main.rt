@@ -5,6 +5,7 @@ ghost use Rattle.std.specs.Prelude.{◌≡◌, [], pos, OnOk};
 ghost use Rattle.ados_launch.specs.Agreement.{Agrees};
 ghost use Rattle.amishell_execute.specs.Status.{status_of};
 
+mod checks;
 mod command;
 mod faults;
 mod hosts;
@@ -14,12 +15,12 @@ mod reader;
 mod reading;
 mod request;
 mod share;
-mod warnings;
 
 use ados_ram::Place;
 use ados_text::{Code, Text};
 use ados_transfer::{Lines, Plan, bring, bring_script, take};
 use ados_world::{NewFault, World};
+use checks::{Checks, read_checked};
 use faults::{Fault, report};
 use hosts::hosts_for;
 use play::{Script, play};
@@ -30,7 +31,6 @@ use std::io::{Eprint, Write};
 use std::process::{ExitCode, Processes};
 use std::rt::{Env, Files};
 use std::time::Clock;
-use warnings::warn;
 
 // The exit status after a fault, and after a code that is not an exit status.
 const FAILED: u8 = 20;
@@ -122,18 +122,17 @@ fn run_script<R: AllocGlobal + Files + Input + Print + Eprint + Processes + Clon
     for words in &options.bring {
         bring(rt, world.files(), words, &mut plan)?;
     }
-    let script = bring_script(rt, world.files(), options.script, options.strike, &mut plan)?;
-    if warn(rt, options.script, plan.last_bytes())? && options.strict {
-        return Ok(FAILED);
-    }
+    let bytes = read_checked(rt, options)?;
+    let script = bring_script(rt, world.files(), options.script, bytes, &mut plan)?;
     let lines = lines_for(rt, options, share.as_ref(), &plan, &script)?;
     let ended = play(
         rt,
         world,
-        &Script {
+        Script {
             planned: plan.planned(),
             lines: &lines,
             turns: options.turns,
+            checks: Checks::new(rt.alloc(), options, &script)?,
         },
         share.as_mut(),
     );

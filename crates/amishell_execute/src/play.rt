@@ -4,6 +4,7 @@ ghost use Rattle.std.specs.Prelude.{◌≡◌, ◌<◌, ◌^◌, ◌-◌, [], On
 ghost use Rattle.ados_launch.specs.Agreement.{Agrees, AreOver, IsOpenTable};
 ghost use Rattle.ados_launch.specs.Leads.{IsReachable, LeadsByRule};
 
+use crate::checks::Checks;
 use crate::faults::Fault;
 use crate::launcher::Bringer;
 use crate::reader::Prompter;
@@ -18,7 +19,7 @@ use std::rt::Files;
 use std::time::Clock;
 
 /// A script that is to run.
-#[derive(Clone, Copy)]
+#[derive(Drop)]
 pub struct Script<'a> {
     /// What is brought in for it.
     pub planned: &'a [Planned],
@@ -26,6 +27,8 @@ pub struct Script<'a> {
     pub lines: &'a Lines,
     /// The most events that are taken, besides those that bring it in.
     pub turns: u64,
+    /// How it and the scripts that it calls are checked.
+    pub checks: Checks<'a>,
 }
 
 /// Runs a script in a new world, with standard input for what asks.
@@ -37,7 +40,7 @@ pub struct Script<'a> {
 pub fn play<R: AllocGlobal + Files + Input + Print + Eprint + Processes + Clone + Drop + Clock>(
     rt: &R,
     world: &mut World,
-    script: &Script<'_>,
+    script: Script<'_>,
     share: Option<&mut Share>,
 ) -> Result<End, Fault>
     requires { Agrees world.old [] }
@@ -56,6 +59,7 @@ pub fn play<R: AllocGlobal + Files + Input + Print + Eprint + Processes + Clone 
             rt.reader(),
         ),
         writer: Counted::new(io::writer(rt)),
+        checks: script.checks,
     };
     let ended = run.drive(world, share);
     if run.reader.is_refused() {
@@ -72,6 +76,7 @@ struct Run<'a, R: Processes, I: Read, K: Sink> {
     launcher: Bringer<'a, R>,
     reader: Prompter<'a, I>,
     writer: K,
+    checks: Checks<'a>,
 }
 
 impl<R: AllocGlobal + Files + Eprint + Processes + Clone + Drop + Clock, I: Read, K: Sink> Run<
@@ -118,6 +123,7 @@ impl<R: AllocGlobal + Files + Eprint + Processes + Clone + Drop + Clock, I: Read
     {
         for _ in 0..self.turns {
             self.attend(world, session, &mut share)?;
+            self.checks.attend(self.rt, world, session)?;
             if !session.take(
                 world,
                 &mut self.launcher,
