@@ -1,7 +1,6 @@
 //! The files and folders of this machine that are brought in.
 
 use crate::faults::{TransferFault, named};
-use crate::left_out::strike;
 use crate::paths::{base_name, name_of, place_in, step_into};
 use crate::plan::{Plan, file_of};
 use crate::script::shell_script;
@@ -35,24 +34,25 @@ pub fn bring<R: AllocGlobal + Files + Clone + Drop>(
     walk(rt, files, path, place, plan)
 }
 
-/// Adds a script of this machine to what is brought in, as a file in S:, and gives its place; with `strikes`, without the options
-/// that have no effect which matters here. Where its name is none of the Shell's files, it has a similar one there.
+/// The bytes of a script of this machine as the Shell reads it.
+pub fn read_script<R: AllocGlobal + Files>(rt: &R, path: &str) -> Result<Vec<u8>, TransferFault> {
+    let bytes = read_file(rt, path)?;
+    Ok(shell_script(rt.alloc(), bytes.as_slice())?)
+}
+
+/// Adds a script of this machine with these bytes to what is brought in, as a file in S:, and gives its place. Where its name is none
+/// of the Shell's files, it has a similar one there.
 pub fn bring_script<R: AllocGlobal + Files>(
     rt: &R,
     files: &Ram,
     path: &str,
-    strikes: bool,
+    script: Vec<u8>,
     plan: &mut Plan,
 ) -> Result<Place, TransferFault> {
     let alloc = rt.alloc();
     let own = base_name(rt, path)?;
     let name = similar_name(alloc, own.as_str())?;
     let place = place_in(alloc, "S:")?.with(name_of(alloc, name.as_str(), path)?)?;
-    let bytes = read_file(rt, path)?;
-    let mut script = shell_script(alloc, bytes.as_slice())?;
-    if strikes {
-        strike(alloc, &mut script)?;
-    }
     plan.add_file(files, place.copy()?, file_of(script, false), path)?;
     Ok(place)
 }

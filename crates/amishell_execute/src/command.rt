@@ -60,9 +60,14 @@ const STRIKE: &str =
 NOREQ and BUFFER of Copy, FORCE of Delete, KEYS, DATES, NODATES, BLOCK and NOHEAD of List, and QUIET
 where there is none";
 
-const STRICT: &str =
-    "Runs nothing if a line of the script gives a command an option of Release 2 that the Shell leaves out;
-without it each such line is reported on standard error, and the script runs";
+const STRICT: &str = "As without it: a line that must not be run as it is ends the run";
+
+const LENIENT: &str =
+    "Reports the lines of the script that give a command an option of Release 2 that the Shell leaves out, or
+have bytes above 127, and runs it all the same. Without it neither it nor a script that it calls runs
+with such a line";
+
+const ASCII_MARKS: &str = "Writes _ in the place of each byte above 127 in the script";
 
 const ANSWERS: &[&str] = &["no"];
 
@@ -129,6 +134,8 @@ fn command<'a>(alloc: Global) -> Result<Command<'a>, AllocError> {
         .arg(flag(alloc, "dry", DRY))?
         .arg(flag(alloc, "quote", QUOTE))?
         .arg(flag(alloc, "strike", STRIKE))?
+        .arg(flag(alloc, "ascii-marks", ASCII_MARKS))?
+        .arg(flag(alloc, "lenient", LENIENT))?
         .arg(flag(alloc, "strict", STRICT))?
         .arg(text_option(alloc, "answer", "no", ANSWER).value_parser(ANSWERS))?
         .arg(text_option(alloc, "turns", "N", TURNS))?

@@ -59,6 +59,9 @@ pub enum Fault {
     /// The Shell asked for a line of standard input, which was at its end.
     #[error("no answer for {0}")]
     Unanswered(String),
+    /// Lines of the script of this name must not be run as they are.
+    #[error("{0} is not run (--lenient runs it)")]
+    NotRun(String),
     /// There was no memory.
     #[error("out of memory")]
     Memory,

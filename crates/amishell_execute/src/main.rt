@@ -4,6 +4,7 @@
 ghost use Rattle.std.specs.Prelude.{◌≡◌, [], OnOk};
 ghost use Rattle.ados_launch.specs.Agreement.{Agrees};
 
+mod checks;
 mod command;
 mod deadline;
 mod delivery;
@@ -34,17 +35,17 @@ mod trace;
 mod trail;
 mod unanswered;
 mod unread;
-mod warnings;
 
 use ados_launch::Counted;
 use ados_ram::Place;
 use ados_text::{Code, Text};
 use ados_transfer::{Lines, Plan, TransferFault, bring, bring_script, take, taken_place};
 use ados_world::{NewFault, World};
+use checks::{Checks, read_checked};
 use deadline::Deadline;
 use descriptors::held_descriptors;
 use error_codes::{ErrorCode, error_codes};
-use faults::{Fault, not_brought, report, unread_script};
+use faults::{Fault, not_brought, report};
 use gate::Gate;
 use hosts::hosts_for;
 use losses::{Kept, tell_losses};
@@ -60,7 +61,6 @@ use std::rt::{Env, Files};
 use std::time::Clock;
 use std::{env, fs, io};
 use teller::Teller;
-use warnings::warn;
 
 fn main(rt: HostRuntime) -> ExitCode {
     let _held = held_descriptors(&rt);
@@ -160,9 +160,6 @@ fn run_script<
 {
     let mut plan = Plan::new(rt.alloc(), world.files())?;
     let script = add_files(rt, options, world, &mut plan)?;
-    if warn(rt, options.script, plan.last_bytes())? && options.strict {
-        return Ok(Status::Failed);
-    }
     let lines = lines_for(rt, options, share.as_ref(), &plan, &script)?;
     let shared = share.as_ref().map(|share| share.place());
     let origins = Origins::new(rt, plan.planned(), options.share, shared)?;
@@ -174,13 +171,14 @@ fn run_script<
     let ended = play(
         rt,
         world,
-        &Script {
+        Script {
             planned: plan.planned(),
             lines: &lines,
             turns: options.turns,
             at_end: options.at_end,
             deadline: Deadline::after(rt, options.seconds),
             errors,
+            checks: Checks::new(rt.alloc(), options, &script)?,
         },
         Teller::new(&origins, options.quiet, options.trace)?,
         share.as_mut(),
@@ -224,10 +222,8 @@ fn add_files<R: AllocGlobal + Files + Eprint + Clone + Drop>(
     for line in plan.lines() {
         report(rt, line);
     }
-    match bring_script(rt, world.files(), options.script, options.strike, plan) {
-        Ok(place) => Ok(place),
-        Err(fault) => Err(unread_script(rt, fault)),
-    }
+    let bytes = read_checked(rt, options)?;
+    Ok(bring_script(rt, world.files(), options.script, bytes, plan)?)
 }
 
 // Tells which files are gone.

@@ -7,6 +7,7 @@ ghost use Rattle.ados_launch.specs.Drives.{Drives, HasDriveResult};
 ghost use Rattle.ados_launch.specs.Schedule.{first_schedule_state};
 ghost use Rattle.amishell_execute.specs.Playing.{IfDriven, PlaysAlone, contents_through, drive_fault_of, may_be_cut, playing_moment};
 
+use crate::checks::Checks;
 use crate::deadline::Deadline;
 use crate::error_codes::ErrorCode;
 use crate::faults::Fault;
@@ -25,7 +26,7 @@ use std::rt::Files;
 use std::time::Clock;
 
 /// A script that is to run.
-#[derive(Clone, Copy)]
+#[derive(Drop)]
 pub struct Script<'a> {
     /// What is brought in for it.
     pub planned: &'a [Planned],
@@ -39,6 +40,8 @@ pub struct Script<'a> {
     pub deadline: Option<Deadline>,
     /// The codes of programs that fail.
     pub errors: &'a [ErrorCode],
+    /// How it and the scripts that it calls are checked.
+    pub checks: Checks<'a>,
 }
 
 /// Runs a script in a new world, with standard input for what asks, and writes what it prints.
@@ -52,7 +55,7 @@ pub struct Script<'a> {
 pub fn play<R: AllocGlobal + Files + Input + Eprint + Processes + Clone + Drop + Clock, K: Sink>(
     rt: &R,
     world: &mut World,
-    script: &Script<'_>,
+    script: Script<'_>,
     teller: Teller<'_>,
     share: Option<&mut Share>,
     writer: &mut Gate<K>,
@@ -80,6 +83,7 @@ pub fn play<R: AllocGlobal + Files + Input + Eprint + Processes + Clone + Drop +
             script.at_end,
         ),
         teller,
+        checks: script.checks,
     };
     let ended = run.drive(world, share, writer);
     if run.reader.is_refused() {
@@ -105,6 +109,7 @@ struct Run<'a, R: Processes, I: Read> {
     teller: Teller<'a>,
     launcher: Bringer<'a, R>,
     reader: Prompter<'a, I>,
+    checks: Checks<'a>,
 }
 
 impl<R: AllocGlobal + Files + Eprint + Processes + Clone + Drop + Clock, I: Read> Run<'_, R, I> {
@@ -188,7 +193,7 @@ impl<R: AllocGlobal + Files + Eprint + Processes + Clone + Drop + Clock, I: Read
         Ok(self.teller.after(self.rt, world, session)?)
     }
 
-    // Attends to the time, to the shell whose event comes next, and to the shared folder, if there is one.
+    // Attends to the time, to the script that begins, to the shell whose event comes next, and to the shared folder, if there is one.
     fn attend(
         &mut self,
         world: &mut World,
@@ -210,7 +215,10 @@ impl<R: AllocGlobal + Files + Eprint + Processes + Clone + Drop + Clock, I: Read
         if let Some(deadline) = &self.deadline {
             deadline.check(self.rt)?;
         }
-        self.teller.before(self.rt, world, session)?;
+        if let Some(next) = session.next(world) {
+            self.checks.attend(self.rt, world, next)?;
+            self.teller.before(self.rt, world, next)?;
+        }
         let Some(share) = share else {
             return Ok(());
         };

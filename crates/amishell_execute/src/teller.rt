@@ -1,5 +1,4 @@
 //! What is told of the scripts while they run: those that end early or broken, and the shells that are waited for.
-ghost use Rattle.std.specs.Prelude.{◌<◌, ◌^◌, ◌-◌};
 
 use crate::ends::{cause, end_line};
 use crate::faults::{report, tell};
@@ -59,16 +58,11 @@ impl<'a> Teller<'a> {
         &mut self,
         rt: &R,
         world: &World,
-        session: &Session<'_>,
-    ) -> Result<(), NoMemory>
-        requires count { session.now.schedule.taken < 2 ^ 64 - 1 }
-    {
+        next: Next,
+    ) -> Result<(), NoMemory> {
         if self.is_quiet && !self.traces {
             return Ok(());
         }
-        let Some(next) = session.next(world) else {
-            return Ok(());
-        };
         let number = shell_of(next);
         let Some(shell) = world.shell(number) else {
             return Ok(());
