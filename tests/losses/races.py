@@ -85,7 +85,7 @@ def added(name, path, before, lines, most):
 def added_by_a_handle(name, path, before, lines):
     """The handle is one more name of the file, outside; only while the file has one in the folder something is added."""
     return Race(f"a line is added by a handle to {name}", before, seen(path, *lines),
-                f'[ "$(stat -c %h held)" -gt 1 ] && echo "{LINE}" >>held', line_is_there, most=1, named=MOMENT, prepare=f"ln f/{path} held")
+                f'[ "$(stat -c %h held)" -gt 1 ] && echo "{LINE}" >>held', line_is_there, most=2, named=MOMENT, prepare=f"ln f/{path} held")
 
 
 def replaced(name, path, before, lines):

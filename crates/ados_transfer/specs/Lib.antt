@@ -1,6 +1,5 @@
 pub mod Words
 pub mod Planned
-pub mod LeftOut
 pub mod Mirror
 pub mod Paths
 pub mod StandIns

@@ -101,6 +101,8 @@ impl Mirror {
 
     /// What changed in the folder since the last comparison, in an order in which it can come in; the first time everything. If both
     /// sides changed, this machine's version comes in, and a line reports it. If both are alike there is no arrival.
+    ///
+    /// `DoesNotFit` if the first time not all has room, unless a part is enough; `CannotRead` if there are too many folders.
     pub fn arrivals<R: AllocGlobal + Files + Clock + Clone + Drop>(
         &mut self,
         rt: &R,
@@ -119,6 +121,7 @@ impl Mirror {
         for line in &look.lines {
             self.reports.report_line(line.clone()?)?;
         }
+        let is_first = self.begins(&look, files)?;
         let changes = self.changes(&look, files)?;
         if changes.is_empty() {
             return Ok(Vec::new(self.alloc));
@@ -133,7 +136,11 @@ impl Mirror {
             }
         }
         self.hold_deletions(files)?;
-        Ok(plan.into_arrivals())
+        let arrivals = plan.into_arrivals();
+        if is_first {
+            self.report_stand_ins(&arrivals)?;
+        }
+        Ok(arrivals)
     }
 
     /// Checks whether the files have what an arrival, whose lines were run, was to bring in, and keeps that as the last state.

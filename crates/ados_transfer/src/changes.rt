@@ -38,7 +38,7 @@ impl Mirror {
         let arrival = Arrival::new(self.alloc, gone, Coming::Nothing, Stamp::NONE)?;
         if decision == Decision::Conflict {
             self.reports.report_kept(key, arrival.path.as_str(), false)?;
-            self.overrule(arrival.path.as_str(), entry.is_some() && !is_foreign)?;
+            self.overrule(key, arrival.path.as_str(), entry.is_some() && !is_foreign)?;
         }
         let is_forgotten = match (decision, entry) {
             (Decision::Conflict, _) if is_foreign => false,
@@ -97,7 +97,7 @@ impl Mirror {
             Decision::Conflict => {
                 self.reports
                     .report_kept(key, seen.path.as_str(), is_stand_in)?;
-                self.overrule(seen.path.as_str(), entry.is_some())?;
+                self.overrule(key, seen.path.as_str(), entry.is_some())?;
                 plan.add_object(self, key, seen, here, &place)
             }
             Decision::Bring => plan.add_object(self, key, seen, here, &place),

@@ -3,7 +3,6 @@
 //! as it was meant; what the files then hold; and how files are written out.
 
 mod account;
-mod arguments;
 mod arrival_plan;
 mod arrivals;
 mod below;
@@ -14,9 +13,9 @@ mod decision;
 mod departure;
 mod departures;
 mod faults;
+mod fit;
 mod folders;
 mod here;
-mod left_out;
 mod lines;
 mod mirror;
 mod paths;
@@ -25,7 +24,6 @@ mod placing;
 mod plan;
 mod planned;
 mod records;
-mod release_two;
 mod removals;
 mod reports;
 mod room;
@@ -40,11 +38,11 @@ mod words;
 mod writes;
 mod writing;
 
+pub use account::Moment;
 pub use arrivals::Arrival;
-pub use bringing::{bring, bring_script, bytes_of};
+pub use bringing::{bring, bring_script, bytes_of, read_script};
 pub use decision::{Decision, Removal, State, decide, decide_removal};
 pub use faults::TransferFault;
-pub use left_out::{LeftOut, options_left_out};
 pub use lines::{BRING, Lines};
 pub use mirror::{Mirror, MirrorOptions};
 pub use paths::{ascii, last_piece, step_into};
@@ -52,5 +50,5 @@ pub use plan::Plan;
 pub use planned::{Content, Planned, are_as_planned};
 pub use stamps::{Stamp, Time};
 pub use start_place::StartPlace;
-pub use taking::take;
+pub use taking::{take, taken_place};
 pub use words::push_word;

@@ -26,6 +26,8 @@ const DIRECTORY: &str = "RAM:Work";
 pub struct MirrorOptions {
     /// Names that begin with a dot are shared too.
     pub all: bool,
+    /// The folder may have more than the Shell's files can hold.
+    pub part: bool,
     /// Nothing of this machine is changed; changes are only reported.
     pub dry: bool,
 }
@@ -42,8 +44,12 @@ pub struct Mirror {
     // A file has a stand-in, or had one.
     pub(crate) has_stand_ins: bool,
     pub(crate) reports: Reports,
+    // The folder was looked at.
+    pub(crate) has_begun: bool,
     // At the last comparison something was not deleted, since not everything was written.
     pub(crate) is_holding: bool,
+    // At the last comparison the Shell had something that was not written.
+    pub(crate) is_lacking: bool,
     // The first object of the Shell that gave way to this machine's at this look.
     pub(crate) overruled: Option<String>,
 }
@@ -83,7 +89,9 @@ impl Mirror {
             records: BTreeMap::new(alloc),
             has_stand_ins: false,
             reports: Reports::new(alloc),
+            has_begun: false,
             is_holding: false,
+            is_lacking: false,
             overruled: None,
         })
     }
@@ -103,10 +111,10 @@ impl Mirror {
         self.reports.take_lines()
     }
 
-    /// Something could not be read, written or brought in, and has not been since, or something is not deleted because of that: the
-    /// two sides are not alike.
-    pub fn has_failed(&self) -> bool {
-        self.is_holding || self.reports.has_failed()
+    /// The two sides are not alike: something could not be read, written or brought in, and has not been since, or something is not
+    /// deleted because of that; or the script changed something that the folder does not have as the script left it.
+    pub fn differs(&self) -> bool {
+        self.is_holding || self.is_lacking || self.reports.has_failed()
     }
 
     // Keeps an object as it is on both sides now.
@@ -150,7 +158,15 @@ impl Mirror {
     }
 
     // Notes that an object gives way to this machine's, if the Shell has one.
-    pub(crate) fn overrule(&mut self, path: &str, is_there: bool) -> Result<(), TransferFault> {
+    pub(crate) fn overrule(
+        &mut self,
+        key: &str,
+        path: &str,
+        is_there: bool,
+    ) -> Result<(), TransferFault> {
+        if is_there {
+            self.reports.add_lost(key)?;
+        }
         if is_there && self.overruled.is_none() {
             self.overruled = Some(String::from_str(self.alloc, path)?);
         }

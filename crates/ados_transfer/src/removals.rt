@@ -1,6 +1,6 @@
 //! How an object of the folder of a share that is gone in the Shell's files, or of another kind there, is deleted.
 
-use crate::account::{Account, Aside};
+use crate::account::{Account, Aside, Moment};
 use crate::decision::{Removal, decide_removal};
 use crate::departure::{Departure, move_aside, own_path, remove};
 use crate::faults::TransferFault;
@@ -43,9 +43,11 @@ impl Mirror {
         match removal {
             Removal::Forget => {
                 self.forget(key);
+                self.reports.agree(key);
                 Ok(())
             }
             Removal::Delete => self.delete(rt, key, departure, &here, account),
+            Removal::Hold if account.is_meanwhile() => Ok(()),
             Removal::Hold => {
                 // It comes in again: later its bytes may be nowhere else.
                 self.forget(key);
@@ -83,6 +85,7 @@ impl Mirror {
         match is_done {
             Ok(true) => {
                 self.forget(key);
+                self.reports.agree(key);
                 Ok(())
             }
             Ok(false) => self.reports.report_kept(key, path, false),
@@ -100,7 +103,7 @@ impl Mirror {
         let Some(path) = self.overruled.take() else {
             return Ok(());
         };
-        let mut account = Account::new(self.alloc);
+        let mut account = Account::new(self.alloc, Moment::Start);
         account.add_unwritten(path.as_str())?;
         let mut keys = Vec::new(self.alloc);
         for (key, record) in &self.records {

@@ -14,6 +14,8 @@ pub struct Reports {
     // The keys of those for which this machine's object stays, and of those that could not be written or brought in.
     kept: BTreeSet<String>,
     failing: BTreeSet<String>,
+    // The keys of those that the script changed, and for which this machine's object stood. They have not been written since.
+    lost: BTreeSet<String>,
     // The keys of those that could not be read at the last look, and at the one before.
     unread: BTreeSet<String>,
     unread_before: BTreeSet<String>,
@@ -30,6 +32,7 @@ impl Reports {
             reported: BTreeSet::new(alloc),
             kept: BTreeSet::new(alloc),
             failing: BTreeSet::new(alloc),
+            lost: BTreeSet::new(alloc),
             unread: BTreeSet::new(alloc),
             unread_before: BTreeSet::new(alloc),
             is_full: false,
@@ -41,9 +44,29 @@ impl Reports {
         std::mem::replace(&mut self.lines, Vec::new(self.alloc))
     }
 
-    /// Something could not be read, written or brought in, and has not been since.
+    /// Something could not be read, written or brought in, and has not been since, or a change of the script is lost.
     pub fn has_failed(&self) -> bool {
-        !self.failing.is_empty() || !self.unread.is_empty()
+        !self.failing.is_empty() || !self.unread.is_empty() || !self.lost.is_empty()
+    }
+
+    /// A change of the script is lost, since this machine's object stood.
+    pub fn add_lost(&mut self, key: &str) -> Result<(), TransferFault> {
+        self.lost.insert(String::from_str(self.alloc, key)?)?;
+        Ok(())
+    }
+
+    /// The keys of what could not be written or brought in, and of those of which a change is lost.
+    pub fn missed(&self) -> Result<Vec<String>, TransferFault> {
+        let mut keys = Vec::new(self.alloc);
+        for key in self.failing.iter().chain(self.lost.iter()) {
+            keys.push(key.clone()?)?;
+        }
+        Ok(keys)
+    }
+
+    /// This machine has what the script made, or nothing if the script deleted it.
+    pub fn agree(&mut self, key: &str) {
+        self.lost.remove(key);
     }
 
     /// The two sides no longer differ at this key.
@@ -81,6 +104,7 @@ impl Reports {
         let text = if is_stand_in {
             "kept, since the Shell can't hold it"
         } else {
+            self.add_lost(key)?;
             "both changed, kept this machine's"
         };
         self.report_stays(key, text, path)

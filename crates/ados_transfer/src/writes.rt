@@ -71,9 +71,12 @@ impl Mirror {
     ) -> Result<(), TransferFault> {
         let (key, path) = object;
         if is_moved_away(draft, account) {
+            account.add_unwritten_entry(path, draft.entry)?;
+            if account.is_meanwhile() {
+                return Ok(());
+            }
             // It comes in again.
             self.forget(key);
-            account.add_unwritten_entry(path, draft.entry)?;
             return account.hold(path);
         }
         match write_entry(rt, path, draft) {
@@ -193,6 +196,7 @@ impl Mirror {
         stamp: Stamp,
     ) -> Result<(), TransferFault> {
         let (key, path) = object;
+        self.reports.agree(key);
         self.keep_as(key, path, Last::of(entry)?, stamp, &self.now(rt))
     }
 }
