@@ -96,7 +96,11 @@ impl Shared<'_> {
     fn path(&self, alloc: Global, below: &str) -> Result<String, NoMemory> {
         match self.folder {
             "." | "./" => Ok(String::from_str(alloc, below)?),
-            folder => Ok(step_into(alloc, folder, below)?),
+            folder => match step_into(alloc, folder, below) {
+                Ok(path) => Ok(path),
+                // To step down fails for no other reason.
+                Err(_) => Err(NoMemory),
+            },
         }
     }
 }
