@@ -39,9 +39,11 @@ impl Mirror {
             return self.fail("", "cannot write", folder.as_str());
         }
         self.forget("");
-        self.spare_moved(files)?;
+        self.watch(files)?;
         let mut account = Account::new(self.alloc);
-        let departures = self.departures(files, &mut account)?;
+        let asides = self.begin_moves(rt, files, &mut account)?;
+        let mut departures = self.departures(files, &mut account)?;
+        self.find_copies(files, &mut departures)?;
         for is_new in [true, false] {
             for (key, departure) in &departures.by_key {
                 if departure.is_new == is_new && !departure.is_within_kind_change {
@@ -50,12 +52,31 @@ impl Mirror {
             }
         }
         self.change_kinds(rt, files, &departures, &mut account)?;
-        for (key, departure) in departures.by_key.iter().rev() {
-            if departure.entry.is_none() && !departure.is_within_kind_change {
-                self.delete_here(rt, key.as_str(), departure, &mut account)?;
-            }
+        self.delete_gone(rt, files, &departures, &mut account)?;
+        if self.finish_moves(rt, files, asides)? {
+            self.delete_gone(rt, files, &departures, &mut account)?;
         }
         self.report_account(&account)
+    }
+
+    // Deletes what is gone, the deepest first. By now a large file may have got the name.
+    fn delete_gone<R: AllocGlobal + Files>(
+        &mut self,
+        rt: &R,
+        files: &Ram,
+        departures: &Departures<'_>,
+        account: &mut Account,
+    ) -> Result<(), TransferFault> {
+        for (key, departure) in departures.by_key.iter().rev() {
+            let is_there = self
+                .records
+                .get(key.as_str())
+                .is_some_and(|record| record.is_kept(files.look(&record.place)));
+            if departure.entry.is_none() && !departure.is_within_kind_change && !is_there {
+                self.delete_here(rt, key.as_str(), departure, account)?;
+            }
+        }
+        Ok(())
     }
 
     // Makes way for what is of another kind now, and writes what needs the place. What is moved aside for it is deleted only if all of

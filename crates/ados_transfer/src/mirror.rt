@@ -6,10 +6,12 @@ ghost use Rattle.ados_transfer.specs.Records.{Sets};
 
 use crate::bringing::parted;
 use crate::faults::{TransferFault, named};
+use crate::last_copies::Waiting;
 use crate::paths::{is_free, place_in};
 use crate::records::{Last, Record, Records};
 use crate::stamps::Stamp;
-use crate::stand_ins::Watch;
+use crate::stand_ins::StandIns;
+use crate::watches::Watch;
 use ados_ram::{Place, Ram};
 use std::alloc::Global;
 use std::collections::{BTreeMap, BTreeSet};
@@ -38,8 +40,9 @@ pub struct Mirror {
     pub(crate) place: Place,
     pub(crate) options: MirrorOptions,
     pub(crate) records: Records,
-    // A file has a stand-in, or had one.
-    pub(crate) has_stand_ins: bool,
+    pub(crate) stand_ins: StandIns,
+    // What is not deleted, since only the Shell has its bytes beside.
+    pub(crate) waiting: Waiting,
     // The lines that are to be reported, and those that are reported only once in a run.
     lines: Vec<String>,
     reported: BTreeSet<String>,
@@ -90,7 +93,8 @@ impl Mirror {
             place,
             options,
             records: BTreeMap::new(alloc),
-            has_stand_ins: false,
+            stand_ins: StandIns::new(alloc),
+            waiting: Waiting::new(alloc),
             lines: Vec::new(alloc),
             reported: BTreeSet::new(alloc),
             reported_kept: BTreeSet::new(alloc),
@@ -113,10 +117,14 @@ impl Mirror {
         std::mem::replace(&mut self.lines, Vec::new(self.alloc))
     }
 
-    /// Something could not be read, written or brought in, and has not been since, or something is not deleted because of that: the
-    /// two sides are not alike.
+    /// Something could not be read, written or brought in, and has not been since, or something is not deleted because of that, or
+    /// waits for its bytes, or a large file is not what the script takes it for: the two sides are not alike.
     pub fn has_failed(&self) -> bool {
-        self.is_holding || !self.failing.is_empty() || !self.unread.is_empty()
+        self.is_holding
+            || self.stand_ins.is_lost
+            || !self.waiting.is_empty()
+            || !self.failing.is_empty()
+            || !self.unread.is_empty()
     }
 
     // Keeps an object as it is on both sides now.
@@ -124,7 +132,7 @@ impl Mirror {
         ensures kept { OnOk result (Sets self.old.records self.new.records (string_bytes key) (Some «record»)) }
         ensures once { IsOrdered string_cmp self.new.records }
     {
-        self.has_stand_ins = self.has_stand_ins || record.is_stand_in();
+        self.stand_ins.note(key.as_str(), record.is_stand_in())?;
         self.settled(key.as_str());
         self.records.insert(key, record)?;
         Ok(())
@@ -156,6 +164,7 @@ impl Mirror {
         ensures once { IsOrdered string_cmp self.new.records }
     {
         self.settled(key);
+        self.stand_ins.keys.remove(key);
         self.records.remove(key);
     }
 

@@ -116,7 +116,7 @@ impl Share {
         ensures held { session.new.held ≡ session.old.held }
         ensures leads { IsReachable world.old world.new }
     {
-        self.mirror.watch(world.files());
+        self.mirror.watch(world.files())?;
         if !self.is_filled {
             if is_ready && world.wants_line() {
                 self.bring_in(rt, world, launcher, session)?;
@@ -145,7 +145,9 @@ impl Share {
         world: &World,
     ) -> Result<bool, Fault> {
         if self.is_filled {
-            self.write_out(rt, world)?;
+            self.mirror.write_out(rt, world.files())?;
+            self.mirror.report_waiting()?;
+            self.report_lines(rt);
         }
         Ok(!self.mirror.has_failed())
     }
