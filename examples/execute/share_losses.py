@@ -9,7 +9,7 @@ take the same names. Nothing of that destroys anything: no file is deleted, and 
 line that was once in a file of the folder must be in one at each later look, under whatever name.
 The last line is 'N changes, M looks: ok'.
 """
-import os, random, re, resource, shutil, signal, subprocess, sys
+import os, random, re, resource, shutil, signal, subprocess, sys, time
 
 STEPS = 60
 LIMIT = 700
@@ -126,6 +126,15 @@ def sh(lines, folder):
     subprocess.run(['sh', '-c', '\n'.join(lines)], cwd=folder, stdin=subprocess.DEVNULL, stderr=subprocess.DEVNULL)
 
 
+def await_input(pid):
+    """Waits until a process that has asked waits for the answer: what changed is written by then."""
+    idle = 0
+    while idle < 3:
+        with open(f'/proc/{pid}/stat') as file:
+            idle = idle + 1 if file.read().rsplit(')', 1)[1].split()[0] == 'S' else 0
+        time.sleep(0.002)
+
+
 def limit():
     signal.signal(signal.SIGXFSZ, signal.SIG_IGN)
     resource.setrlimit(resource.RLIMIT_FSIZE, (LIMIT, resource.RLIM_INFINITY))
@@ -166,6 +175,8 @@ def run(program, room, random_, count):
             if not byte:
                 raise SystemExit(f'the script ended before step {number}: {said[-300:].decode()}')
             said += byte
+        if asks[number]:
+            await_input(child.pid)
         looks.look(f'{room}, before step {number}')
         sh(lines, folder)
         looks.found = tokens(folder)

@@ -4,6 +4,7 @@ pub mod LeftOut
 pub mod Mirror
 pub mod Paths
 pub mod StandIns
+pub mod Stamps
 pub mod Account
 pub mod Here
 pub mod Records

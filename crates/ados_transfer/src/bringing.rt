@@ -15,7 +15,8 @@ use std::{fs, io};
 // A walk looks at this many files and folders at most: the Shell holds 1,024 at most.
 const WALK: usize = 4096;
 
-/// Adds what words of `--bring` name, as `PATH` or `PATH=NAME`, to what is brought in.
+/// Adds what words of `--bring` name, as `PATH` or `PATH=NAME`, to what is brought in. Devices and pipes are no files: `CannotRead` if
+/// PATH is one, and one that is in a folder is left out, with a line.
 pub fn bring<R: AllocGlobal + Files + Clone + Drop>(
     rt: &R,
     files: &Ram,
@@ -23,8 +24,9 @@ pub fn bring<R: AllocGlobal + Files + Clone + Drop>(
     plan: &mut Plan,
 ) -> Result<(), TransferFault> {
     let (path, name) = parted(rt, words);
-    let Ok(found) = fs::metadata(rt, path) else {
-        return Err(named(rt.alloc(), path, TransferFault::CannotRead));
+    let found = match fs::metadata(rt, path) {
+        Ok(found) if found.is_dir() || found.is_file() => found,
+        _ => return Err(named(rt.alloc(), path, TransferFault::CannotRead)),
     };
     let place = target(rt, path, name, found.is_dir())?;
     walk(rt, files, path, place, plan)
@@ -115,6 +117,9 @@ fn add_one<R: AllocGlobal + Files + Clone + Drop>(
     if found.is_dir() {
         push_children(rt, path.as_str(), &place, left)?;
         return plan.add_directory(files, place, path.as_str());
+    }
+    if !found.is_file() {
+        return plan.leave(path.as_str());
     }
     let is_script = found.permissions().mode() & 0o111 != 0;
     let bytes = read_file(rt, path.as_str())?;

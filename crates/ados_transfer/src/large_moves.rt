@@ -1,23 +1,34 @@
 //! Large files whose stand-ins the script renamed: they are renamed in the folder of the share.
 
 use crate::account::{Account, Aside};
-use crate::departure::{is_key_left_out, move_aside, own_path};
+use crate::departure::{is_key_left_out, own_path};
 use crate::faults::TransferFault;
 use crate::folders::{is_descendant, lower};
-use crate::here::Here;
 use crate::mirror::Mirror;
-use crate::paths::step_into;
 use crate::placing::place_new;
 use crate::records::Record;
 use crate::stamps::Stamp;
 use crate::stand_ins::own_entry;
-use ados_ram::{Place, Ram};
+use ados_ram::{Entry, Place, Ram};
 use std::rt::Files;
 use std::{fs, io};
 
+/// A large file whose stand-in is no longer in its own place.
+#[derive(Drop)]
+pub struct Moved {
+    /// Its key, by its name in the folder.
+    pub key: String,
+    /// Its path below the folder.
+    pub path: String,
+    /// The path that it is to get; nothing if its stand-in is outside of the directory.
+    pub new_path: Option<String>,
+    /// Its stamp.
+    pub stamp: Stamp,
+}
+
 impl Mirror {
-    // Renames those large files whose new names are free. One whose old name the script gave to another object is moved aside, if its new
-    // name is not free yet. What cannot be written because of one that stays is noted.
+    // Renames those large files whose new names are free. At a program's start and at the end one whose old name the script gave to
+    // another object is moved aside, if its new name is not free yet. What cannot be written because of one that stays is noted.
     pub(crate) fn begin_moves<R: AllocGlobal + Files>(
         &mut self,
         rt: &R,
@@ -25,18 +36,19 @@ impl Mirror {
         account: &mut Account,
     ) -> Result<Vec<Aside>, TransferFault> {
         let mut asides = Vec::new(self.alloc);
+        self.stand_ins.is_blocked = false;
         if self.options.dry {
             self.report_moves(files)?;
             return Ok(asides);
         }
         self.rename_all(rt, files)?;
-        for key in self.moved_keys()? {
-            if files.look(&self.place_of(key.as_str())?).is_none() {
+        for moved in &self.moved(files)? {
+            let Some(entry) = files.look(&self.place_of(moved.key.as_str())?) else {
                 continue;
-            }
-            match self.moved_aside(rt, files, key.as_str())? {
+            };
+            match self.set_large_aside(rt, moved, account)? {
                 Some(aside) => asides.push(aside)?,
-                None => self.note_taken_name(files, key.as_str(), account)?,
+                None => self.note_taken_name(moved, entry, account)?,
             }
         }
         Ok(asides)
@@ -49,50 +61,45 @@ impl Mirror {
         rt: &R,
         files: &Ram,
         asides: Vec<Aside>,
+        account: &mut Account,
     ) -> Result<bool, TransferFault> {
         if self.options.dry {
             return Ok(false);
         }
-        let mut is_renamed = self.rename_all(rt, files)?;
-        let count = asides.len();
-        let mut left = asides;
-        for _ in 0..count {
-            let mut blocked = Vec::new(self.alloc);
-            for aside in left {
-                match self.rename_aside(rt, files, aside)? {
-                    Some(aside) => blocked.push(aside)?,
-                    None => is_renamed = true,
-                }
-            }
-            left = blocked;
+        let is_first = self.rename_all(rt, files)?;
+        let is_aside = self.rename_asides(rt, files, asides, account)?;
+        let is_last = self.rename_all(rt, files)?;
+        if !account.is_meanwhile() {
+            self.report_blocked(files)?;
         }
-        for aside in left {
-            self.return_aside(rt, aside)?;
-        }
-        is_renamed = self.rename_all(rt, files)? || is_renamed;
-        self.report_blocked(files)?;
-        Ok(is_renamed)
+        Ok(is_first || is_aside || is_last)
     }
 
-    // The keys of the large files whose stand-ins are no longer in their own places.
-    fn moved_keys(&self) -> Result<Vec<String>, TransferFault> {
-        let mut keys = Vec::new(self.alloc);
+    // The large files whose stand-ins are no longer in their own places.
+    fn moved(&self, files: &Ram) -> Result<Vec<Moved>, TransferFault> {
+        let mut all = Vec::new(self.alloc);
         for key in &self.stand_ins.keys {
             if let Some(record) = self.records.get(key.as_str())
                 && record.place != self.place_of(key.as_str())?
             {
-                keys.push(key.clone()?)?;
+                all.push(Moved {
+                    key: key.clone()?,
+                    path: record.path.clone()?,
+                    new_path: self.new_path(files, &record.place)?,
+                    stamp: record.stamp,
+                })?;
             }
         }
-        Ok(keys)
+        Ok(all)
     }
 
-    // The path below the folder that belongs to the place of a stand-in; none if that is outside of the directory, or not shared.
-    fn new_path(&self, files: &Ram, place: &Place) -> Result<Option<String>, TransferFault> {
-        let Some(key) = self.key_of(place)? else {
-            return Ok(None);
-        };
-        if is_key_left_out(key.as_str(), self.options.all) {
+    // The path below the folder that belongs to the place of a stand-in; none if that is outside of the directory.
+    pub(crate) fn new_path(
+        &self,
+        files: &Ram,
+        place: &Place,
+    ) -> Result<Option<String>, TransferFault> {
+        if self.key_of(place)?.is_none() {
             return Ok(None);
         }
         let written = files.written(place)?;
@@ -105,49 +112,38 @@ impl Mirror {
         rt: &R,
         files: &Ram,
     ) -> Result<bool, TransferFault> {
-        let keys = self.moved_keys()?;
+        let count = self.moved(files)?.len();
         let mut is_renamed = false;
         // One may free the name of another one.
-        for _ in 0..keys.len() {
-            for key in &keys {
-                is_renamed = self.rename_one(rt, files, key.as_str())? || is_renamed;
+        for _ in 0..count {
+            for moved in &self.moved(files)? {
+                is_renamed = self.rename_one(rt, moved)? || is_renamed;
             }
         }
         Ok(is_renamed)
     }
 
-    // Renames a large file, if it was to be and is still the same, and if its new name is free.
+    // Renames a large file, if it is still the same and its new name is free.
     fn rename_one<R: AllocGlobal + Files>(
         &mut self,
         rt: &R,
-        files: &Ram,
-        key: &str,
+        moved: &Moved,
     ) -> Result<bool, TransferFault> {
-        let Some(record) = self.records.get(key) else {
-            return Ok(false);
-        };
-        let Some(path) = self.new_path(files, &record.place)? else {
+        let Some(path) = &moved.new_path else {
             return Ok(false);
         };
         let new_key = lower(self.alloc, path.as_str())?;
-        if self.records.contains_key(new_key.as_str()) {
+        if !self.may_have(new_key.as_str()) {
             return Ok(false);
         }
-        let from = step_into(self.alloc, self.folder.as_str(), record.path.as_str())?;
-        let stamp = renamed(
-            rt,
-            self.folder.as_str(),
-            from.as_str(),
-            path.as_str(),
-            &record.stamp,
-        );
-        let Some(stamp) = done(stamp)? else {
+        let Some(stamp) = renamed(rt, moved.path.as_str(), path.as_str(), &moved.stamp)? else {
             return Ok(false);
         };
-        let Some((_, record)) = self.records.remove_entry(key) else {
+        let Some((_, record)) = self.records.remove_entry(moved.key.as_str()) else {
             return Ok(false);
         };
-        self.forget(key);
+        self.forget(moved.key.as_str());
+        let path = path.clone()?;
         self.keep(
             new_key,
             Record {
@@ -159,163 +155,64 @@ impl Mirror {
         Ok(true)
     }
 
-    // Moves a large file aside whose new name is in the directory, and gives it.
-    fn moved_aside<R: AllocGlobal + Files>(
-        &mut self,
-        rt: &R,
-        files: &Ram,
-        key: &str,
-    ) -> Result<Option<Aside>, TransferFault> {
-        let Some(record) = self.records.get(key) else {
-            return Ok(None);
-        };
-        if self.new_path(files, &record.place)?.is_none() {
-            return Ok(None);
-        }
-        let here = Here::Large(record.stamp);
-        let moved = move_aside(rt, self.folder.as_str(), record.path.as_str(), &here);
-        let Some((beside, mode)) = done(moved)? else {
-            return Ok(None);
-        };
-        let Some((key, record)) = self.records.remove_entry(key) else {
-            return Ok(None);
-        };
-        self.forget(key.as_str());
-        Ok(Some(Aside {
-            key,
-            record,
-            beside,
-            mode,
-        }))
-    }
-
-    // Gives one that was moved aside its new name; if that is not free it is given back.
-    fn rename_aside<R: AllocGlobal + Files>(
-        &mut self,
-        rt: &R,
-        files: &Ram,
-        aside: Aside,
-    ) -> Result<Option<Aside>, TransferFault> {
-        let Some(path) = self.new_path(files, &aside.record.place)? else {
-            return Ok(Some(aside));
-        };
-        let key = lower(self.alloc, path.as_str())?;
-        let Some(beside) = &aside.beside else {
-            return Ok(None);
-        };
-        if self.records.contains_key(key.as_str()) {
-            return Ok(Some(aside));
-        }
-        let stamp = renamed(
-            rt,
-            self.folder.as_str(),
-            beside.as_str(),
-            path.as_str(),
-            &aside.record.stamp,
-        );
-        let Some(stamp) = done(stamp)? else {
-            return Ok(Some(aside));
-        };
-        let record = aside.record;
-        self.keep(
-            key,
-            Record {
-                path,
-                stamp,
-                ..record
-            },
-        )?;
-        Ok(None)
-    }
-
-    // Gives one that was moved aside its old name back. If something else has that by now it stays where it is, and a line says so.
-    fn return_aside<R: AllocGlobal + Files>(
-        &mut self,
-        rt: &R,
-        aside: Aside,
-    ) -> Result<(), TransferFault> {
-        let Aside {
-            key,
-            record,
-            beside,
-            ..
-        } = aside;
-        let Some(beside) = beside else {
-            return Ok(());
-        };
-        let path = record.path.clone()?;
-        let stamp = renamed(
-            rt,
-            self.folder.as_str(),
-            beside.as_str(),
-            path.as_str(),
-            &record.stamp,
-        );
-        match done(stamp)? {
-            Some(stamp) if !self.records.contains_key(key.as_str()) => {
-                self.keep(key, Record { stamp, ..record })
-            }
-            Some(_) => Ok(()),
-            None => {
-                self.stand_ins.is_lost = true;
-                let text = format!(in self.alloc; "kept as {beside}")?;
-                self.report(text.as_str(), path.as_str())
-            }
-        }
+    // A large file may get the name of this key: it is shared, and no object that is known has it.
+    pub(crate) fn may_have(&self, key: &str) -> bool {
+        !is_key_left_out(key, self.options.all) && !self.records.contains_key(key)
     }
 
     // The Shell has an object of its own under the old name of a large file, which stays: it is not written.
     fn note_taken_name(
         &mut self,
-        files: &Ram,
-        key: &str,
+        moved: &Moved,
+        entry: &Entry,
         account: &mut Account,
     ) -> Result<(), TransferFault> {
-        let place = self.place_of(key)?;
-        let (Some(record), Some(entry)) = (self.records.get(key), own_entry(files.look(&place)))
-        else {
+        if own_entry(Some(entry)).is_none() {
             return Ok(());
-        };
-        let path = record.path.clone()?;
-        account.add_unwritten_entry(path.as_str(), entry)?;
-        self.fail(key, "cannot write", path.as_str())
+        }
+        account.add_unwritten_entry(moved.path.as_str(), entry)?;
+        if account.is_meanwhile() {
+            return Ok(());
+        }
+        self.stand_ins.is_blocked = true;
+        self.reports
+            .report_once("cannot write", moved.path.as_str())
     }
 
     // Reports the large files that could not be renamed as their stand-ins were. One whose stand-in is outside of the directory has no
     // name to get.
     fn report_blocked(&mut self, files: &Ram) -> Result<(), TransferFault> {
-        for key in self.moved_keys()? {
-            let Some(record) = self.records.get(key.as_str()) else {
-                continue;
-            };
-            let path = record.path.clone()?;
-            if self.key_of(&record.place)?.is_none() {
-                continue;
+        for moved in &self.moved(files)? {
+            if let Some(new) = &moved.new_path {
+                self.stand_ins.is_blocked = true;
+                let text = format!(in self.alloc; "cannot rename to {new}")?;
+                self.reports
+                    .report_once(text.as_str(), moved.path.as_str())?;
             }
-            let written = files.written(&record.place)?;
-            let new = self.path_of(written.relative_names(&self.place))?;
-            let text = format!(in self.alloc; "cannot rename to {new}")?;
-            self.fail(key.as_str(), text.as_str(), path.as_str())?;
         }
         Ok(())
     }
 
     // A large file stays in a folder, though its stand-in is elsewhere by now.
     pub(crate) fn has_moved_in(&self, folder: &str) -> Result<bool, TransferFault> {
-        let keys = self.moved_keys()?;
-        Ok(keys.iter().any(|key| is_descendant(folder, key.as_str())))
+        for key in &self.stand_ins.keys {
+            if is_descendant(folder, key.as_str())
+                && let Some(record) = self.records.get(key.as_str())
+                && record.place != self.place_of(key.as_str())?
+            {
+                return Ok(true);
+            }
+        }
+        Ok(false)
     }
 
     // Reports at the end the large files whose stand-ins are outside of the directory.
-    pub(crate) fn report_outside(&mut self) -> Result<(), TransferFault> {
-        for key in self.moved_keys()? {
-            let Some(record) = self.records.get(key.as_str()) else {
-                continue;
-            };
-            let path = record.path.clone()?;
-            if self.key_of(&record.place)?.is_none() {
-                self.stand_ins.is_lost = true;
-                self.report_kept(key.as_str(), path.as_str(), true)?;
+    pub(crate) fn report_outside(&mut self, files: &Ram) -> Result<(), TransferFault> {
+        for moved in &self.moved(files)? {
+            if moved.new_path.is_none() {
+                self.stand_ins.is_blocked = true;
+                self.reports
+                    .report_kept(moved.key.as_str(), moved.path.as_str(), true)?;
             }
         }
         Ok(())
@@ -323,34 +220,35 @@ impl Mirror {
 
     // Reports what would be renamed.
     fn report_moves(&mut self, files: &Ram) -> Result<(), TransferFault> {
-        for key in self.moved_keys()? {
-            let Some(record) = self.records.get(key.as_str()) else {
-                continue;
-            };
-            let path = record.path.clone()?;
-            if let Some(new) = self.new_path(files, &record.place)? {
+        for moved in &self.moved(files)? {
+            if let Some(new) = &moved.new_path {
                 let text = format!(in self.alloc; "would rename to {new}")?;
-                self.report_once(text.as_str(), path.as_str())?;
+                self.reports
+                    .report_once(text.as_str(), moved.path.as_str())?;
             }
         }
         Ok(())
     }
 }
 
-// What was done; nothing if it could not be.
-fn done<T>(tried: io::Result<Option<T>>) -> Result<Option<T>, TransferFault> {
-    match tried {
+/// Gives a file a path below the folder that nothing has, and gives its stamp; nothing if it is not the file of this stamp, if
+/// something has the path, or if it can't be done. If it was changed since, it keeps the old stamp, so that the change is seen.
+pub fn renamed<R: AllocGlobal + Files>(
+    rt: &R,
+    from: &str,
+    path: &str,
+    stamp: &Stamp,
+) -> Result<Option<Stamp>, TransferFault> {
+    match try_rename(rt, from, path, stamp) {
         Ok(done) => Ok(done),
         Err(error) if error.kind() == io::ErrorKind::OutOfMemory => Err(TransferFault::NoMemory),
         Err(_) => Ok(None),
     }
 }
 
-// Gives a file a path below the folder that nothing has, and gives its stamp; nothing if it is not the file of this stamp, or if
-// something has the path. If it was changed since, it keeps the old stamp, so that the change is seen.
-fn renamed<R: AllocGlobal + Files>(
+// The same, with the error.
+fn try_rename<R: AllocGlobal + Files>(
     rt: &R,
-    root: &str,
     from: &str,
     path: &str,
     stamp: &Stamp,
@@ -360,11 +258,11 @@ fn renamed<R: AllocGlobal + Files>(
     if !found.is_file() || before.number != stamp.number {
         return Ok(None);
     }
-    let target = own_path(rt, root, path)?;
+    let target = own_path(rt, path)?;
     if !place_new(rt, from, target.as_str())? {
         return Ok(None);
     }
-    if before.size != stamp.size {
+    if !before.is_same_file(stamp) {
         return Ok(Some(*stamp));
     }
     Ok(Some(Stamp::of(&fs::symlink_metadata(rt, target.as_str())?)))

@@ -74,7 +74,7 @@ impl Mirror {
         departures: &mut Departures<'_>,
     ) -> Result<(), TransferFault> {
         self.waiting = Waiting::new(self.alloc);
-        if !departures.by_key.values().any(Departure::is_removal) {
+        if !departures.by_key.values().any(Departure::is_gone) {
             return Ok(());
         }
         let mut outside = Vec::new(self.alloc);
@@ -95,7 +95,7 @@ impl Mirror {
         for (key, departure) in &mut departures.by_key {
             let is_replaced = departure.is_within_kind_change || self.options.dry;
             if let (true, Some(bytes)) = (
-                departure.is_removal(),
+                departure.is_gone(),
                 bytes_of(&self.records, key.as_str()),
             )
                 && !(is_replaced && first_with(inside.as_slice(), bytes).is_some())
@@ -139,7 +139,7 @@ impl Mirror {
             if other.as_str() == key || !record.is_file_of(bytes.as_bytes()) {
                 continue;
             }
-            let here = Here::look(rt, self.folder.as_str(), record.path.as_str())?;
+            let here = Here::look(rt, record.path.as_str())?;
             if here
                 .into_bytes()
                 .is_some_and(|found| found.as_slice() == bytes.as_bytes())
@@ -165,13 +165,13 @@ impl Mirror {
         Ok(())
     }
 
-    /// Reports at the end what is not deleted, since its bytes would be gone with the Shell's files: that of files whose only other copy is
-    /// outside of the directory, and large files whose stand-ins are.
-    pub fn report_waiting(&mut self) -> Result<(), TransferFault> {
+    // Reports at the end what is not deleted, since its bytes would be gone with the Shell's files: that of files whose only other copy is
+    // outside of the directory, and large files whose stand-ins are.
+    pub(crate) fn report_waiting(&mut self, files: &Ram) -> Result<(), TransferFault> {
         if let Some(line) = self.waiting.line()? {
-            self.report_line(line)?;
+            self.reports.report_line(line)?;
         }
-        self.report_outside()
+        self.report_outside(files)
     }
 }
 

@@ -14,6 +14,8 @@ pub struct Plan {
     alloc: Global,
     planned: Vec<Planned>,
     room: Room,
+    // A line for each object that is left out.
+    lines: Vec<String>,
 }
 
 impl Plan {
@@ -23,12 +25,25 @@ impl Plan {
             alloc,
             planned: Vec::new(alloc),
             room: Room::new(alloc, files)?,
+            lines: Vec::new(alloc),
         })
     }
 
     /// What is to be brought in.
     pub fn planned(&self) -> &[Planned] {
         self.planned.as_slice()
+    }
+
+    /// The lines that report what is left out.
+    pub fn lines(&self) -> &[String] {
+        self.lines.as_slice()
+    }
+
+    /// Leaves out an object that is neither a file nor a folder.
+    pub fn leave(&mut self, path: &str) -> Result<(), TransferFault> {
+        let line = format!(in self.alloc; "no file or folder, left alone: {path}")?;
+        self.lines.push(line)?;
+        Ok(())
     }
 
     /// The bytes of the file that was added last; none after a directory.

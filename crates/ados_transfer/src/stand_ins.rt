@@ -55,6 +55,8 @@ pub struct StandIns {
     /// The script wrote to one or changed its comment, or the file of one could not be given back its name: what the script has there
     /// is not what the folder has.
     pub is_lost: bool,
+    /// At the last update one was elsewhere than its file, or its file had the name of another object.
+    pub is_blocked: bool,
 }
 
 impl StandIns {
@@ -65,7 +67,13 @@ impl StandIns {
             keys: BTreeSet::new(alloc),
             number: 0,
             is_lost: false,
+            is_blocked: false,
         }
+    }
+
+    /// The script has something that the folder does not have as the script left it.
+    pub fn differ(&self) -> bool {
+        self.is_lost || self.is_blocked
     }
 
     /// Notes whether the record of a key is that of a stand-in.
@@ -73,9 +81,14 @@ impl StandIns {
         if is_stand_in {
             self.keys.insert(String::from_str(self.alloc, key)?)?;
         } else {
-            self.keys.remove(key);
+            self.leave_out(key);
         }
         Ok(())
+    }
+
+    /// There is no record of this key any longer.
+    pub fn leave_out(&mut self, key: &str) {
+        self.keys.remove(key);
     }
 
     /// The comment of the next one, whose file has this size.

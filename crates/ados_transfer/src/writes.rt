@@ -9,7 +9,6 @@ use crate::departure::{Departure, write_entry};
 use crate::faults::TransferFault;
 use crate::here::Here;
 use crate::mirror::Mirror;
-use crate::paths::step_into;
 use crate::placing::Draft;
 use crate::records::{Last, Record};
 use crate::stamps::Stamp;
@@ -38,9 +37,9 @@ impl Mirror {
             return Ok(());
         }
         if departure.is_within_kind_change && self.options.dry {
-            return self.report_once("would write", path);
+            return self.reports.report_once("would write", path);
         }
-        let here = Here::look(rt, self.folder.as_str(), path)?;
+        let here = Here::look(rt, path)?;
         let record = self.records.get(key);
         let is_large = record.is_some_and(Record::is_stand_in);
         match here.decision(record, Some(entry)) {
@@ -53,7 +52,7 @@ impl Mirror {
                 account.add_unwritten_entry(path, entry)?;
                 self.not_touched(key, path, &here, "cannot write", is_large)
             }
-            Decision::Write if self.options.dry => self.report_once("would write", path),
+            Decision::Write if self.options.dry => self.reports.report_once("would write", path),
             Decision::Write => {
                 let mode = self.mode_of(rt, files, entry, account)?;
                 let draft = Draft::new(entry, &here, mode);
@@ -72,16 +71,19 @@ impl Mirror {
     ) -> Result<(), TransferFault> {
         let (key, path) = object;
         if is_moved_away(draft, account) {
+            account.add_unwritten_entry(path, draft.entry)?;
+            if account.is_meanwhile() {
+                return Ok(());
+            }
             // It comes in again.
             self.forget(key);
-            account.add_unwritten_entry(path, draft.entry)?;
             return account.hold(path);
         }
-        match write_entry(rt, self.folder.as_str(), path, draft) {
+        match write_entry(rt, path, draft) {
             Ok(Some(stamp)) => self.keep_written(rt, object, draft.entry, stamp),
             Ok(None) => {
                 account.add_unwritten_entry(path, draft.entry)?;
-                self.report_kept(key, path, false)
+                self.reports.report_kept(key, path, false)
             }
             Err(error) => {
                 account.add_unwritten_entry(path, draft.entry)?;
@@ -117,6 +119,8 @@ impl Mirror {
                 let mode = self.mode_here(rt, record)?;
                 Ok(mode.map(|mode| mode & 0o755))
             }
+            _ if account.is_private && entry.bits.script => Ok(Some(0o700)),
+            _ if account.is_private => Ok(Some(0o600)),
             _ => Ok(None),
         }
     }
@@ -127,8 +131,7 @@ impl Mirror {
         rt: &R,
         record: &Record,
     ) -> Result<Option<u32>, TransferFault> {
-        let whole = step_into(self.alloc, self.folder.as_str(), record.path.as_str())?;
-        match fs::symlink_metadata(rt, whole.as_str()) {
+        match fs::symlink_metadata(rt, record.path.as_str()) {
             Ok(found) if found.is_file() => Ok(Some(found.permissions().mode())),
             _ => Ok(None),
         }
@@ -144,9 +147,9 @@ impl Mirror {
         is_large: bool,
     ) -> Result<(), TransferFault> {
         if here.is_unread() {
-            self.fail(key, text, path)
+            self.reports.fail(key, text, path)
         } else {
-            self.report_kept(key, path, is_large)
+            self.reports.report_kept(key, path, is_large)
         }
     }
 
@@ -161,7 +164,7 @@ impl Mirror {
         if error.kind() == io::ErrorKind::OutOfMemory {
             return Err(TransferFault::NoMemory);
         }
-        self.fail(key, text, path)
+        self.reports.fail(key, text, path)
     }
 
     // Keeps an object as it is on both sides.
@@ -173,6 +176,7 @@ impl Mirror {
         stamp: Stamp,
     ) -> Result<(), TransferFault> {
         let (key, path) = object;
+        self.reports.agree(key);
         self.keep_as(key, path, Last::of(entry)?, stamp, &self.now(rt))
     }
 }

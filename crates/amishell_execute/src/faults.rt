@@ -1,4 +1,6 @@
 //! Why the program ends with a line on standard error.
+ghost use Rattle.std.specs.Prelude.{◌≡◌};
+ghost use Rattle.amishell_execute.specs.declared.faults.Fault.TheVariants.{Drive};
 
 use ados_launch::DriveFault;
 use ados_text::NoMemory;
@@ -35,6 +37,9 @@ pub enum Fault {
     /// The files are not in the Shell's world as they were brought.
     #[error("the files cannot be brought in")]
     NotBrought,
+    /// The Shell asked for a line of standard input, which was at its end.
+    #[error("no answer for {0}")]
+    Unanswered(String),
     /// There was no memory.
     #[error("out of memory")]
     Memory,
@@ -43,7 +48,15 @@ pub enum Fault {
     Write,
     /// The run stopped before its end.
     #[error("{0}")]
-    Drive(#[from] DriveFault),
+    Drive(DriveFault),
+}
+
+impl From<DriveFault> for Fault {
+    ghost from_gives = { λ fault why. why ≡ Drive fault };
+
+    fn from(fault: DriveFault) -> Fault {
+        Fault::Drive(fault)
+    }
 }
 
 impl From<NoMemory> for Fault {

@@ -6,27 +6,34 @@ ghost use Rattle.ados_launch.specs.Agreement.{Agrees};
 ghost use Rattle.amishell_execute.specs.Status.{status_of};
 
 mod command;
+mod due;
 mod faults;
+mod home;
 mod hosts;
 mod launcher;
+mod pace;
 mod play;
 mod reader;
 mod reading;
 mod request;
 mod share;
+mod unanswered;
 mod warnings;
 
+use ados_launch::Counted;
 use ados_ram::Place;
 use ados_text::{Code, Text};
-use ados_transfer::{Lines, Plan, bring, bring_script, take};
+use ados_transfer::{Lines, Plan, TransferFault, bring, bring_script, take};
 use ados_world::{NewFault, World};
 use faults::{Fault, report};
 use hosts::hosts_for;
 use play::{Script, play};
 use request::{Options, Refused};
 use share::Share;
+use std::fs::{File, OpenOptions};
 use std::io;
 use std::io::{Eprint, Write};
+use std::os::fd::AsRawFd;
 use std::process::{ExitCode, Processes};
 use std::rt::{Env, Files};
 use std::time::Clock;
@@ -35,14 +42,40 @@ use warnings::warn;
 // The exit status after a fault, and after a code that is not an exit status.
 const FAILED: u8 = 20;
 
+// The last of the three descriptors that a program has from its beginning.
+const STANDARD_ERROR: i32 = 2;
+// The exit status if a question has no answer, if a folder does not fit, or if it does not have at the end what the script left.
+const LACKING: u8 = 125;
+
 fn main(rt: HostRuntime) -> ExitCode {
+    let _held = held_descriptors(&rt);
     match run(&rt) {
         Ok(status) => ExitCode::from(status),
         Err(fault) => {
             report(&rt, &fault);
-            ExitCode::from(FAILED)
+            ExitCode::from(match fault {
+                Fault::Unanswered(_) | Fault::Transfer(TransferFault::DoesNotFit(_)) => LACKING,
+                _ => FAILED,
+            })
         }
     }
+}
+
+// Opens /dev/null at those of the descriptors 0 to 2 that are closed: otherwise the pipe of a program would get such a number, and
+// with it what the script asks for, or prints.
+fn held_descriptors<R: AllocGlobal + Files<File = File>>(rt: &R) -> Vec<File> {
+    let mut held = Vec::new(rt.alloc());
+    let mut options = OpenOptions::new();
+    options.read(true).write(true);
+    for _ in 0..=STANDARD_ERROR {
+        match options.open(rt, "/dev/null") {
+            Ok(file) if file.as_raw_fd() <= STANDARD_ERROR => {
+                let _ = held.push(file);
+            }
+            _ => return held,
+        }
+    }
+    held
 }
 
 // Does what the words ask for, and gives the exit status.
@@ -110,23 +143,27 @@ fn opened<R: Env + AllocGlobal + Files + Clone + Drop + Clock>(
 }
 
 // Runs the script, takes what is asked for, and gives the exit status.
-fn run_script<R: AllocGlobal + Files + Input + Print + Eprint + Processes + Clone + Drop + Clock>(
-    rt: &R,
-    options: &Options<'_>,
-    world: &mut World,
-    share: &mut Option<Share>,
-) -> Result<u8, Fault>
+fn run_script<
+    R: Env + AllocGlobal + Files + Input + Print + Eprint + Processes + Clone + Drop + Clock,
+>(rt: &R, options: &Options<'_>, world: &mut World, share: &mut Option<Share>) -> Result<u8, Fault>
     requires agrees { Agrees world.old [] }
 {
     let mut plan = Plan::new(rt.alloc(), world.files())?;
     for words in &options.bring {
         bring(rt, world.files(), words, &mut plan)?;
     }
+    for line in plan.lines() {
+        report(rt, line);
+    }
     let script = bring_script(rt, world.files(), options.script, options.strike, &mut plan)?;
     if warn(rt, options.script, plan.last_bytes())? && options.strict {
         return Ok(FAILED);
     }
     let lines = lines_for(rt, options, share.as_ref(), &plan, &script)?;
+    if let Some(share) = share.as_ref() {
+        share.enter(rt)?;
+    }
+    let mut writer = Counted::new(io::writer(rt));
     let ended = play(
         rt,
         world,
@@ -134,21 +171,32 @@ fn run_script<R: AllocGlobal + Files + Input + Print + Eprint + Processes + Clon
             planned: plan.planned(),
             lines: &lines,
             turns: options.turns,
+            at_end: options.at_end,
         },
         share.as_mut(),
+        &mut writer,
     );
     let is_alike = close(rt, world, share.as_mut())?;
     let is_taken = take_all(rt, options, world);
     let end = ended?;
-    Ok(if is_alike && is_taken {
-        status(end.code)
-    } else {
-        FAILED
-    })
+    if !is_alike {
+        return report_lacking(rt, end.code);
+    }
+    Ok(if is_taken { status(end.code) } else { FAILED })
+}
+
+// Reports that the shared folder is not as the script left it, and with which code the script ended; gives the exit status.
+fn report_lacking<R: AllocGlobal + Eprint>(rt: &R, code: Code) -> Result<u8, Fault> {
+    let code = code.0;
+    let line = format!(in rt.alloc();
+        "the shared folder and the Shell's files differ; the script's code was {code}"
+    )?;
+    report(rt, &line);
+    Ok(LACKING)
 }
 
 // Brings the shared folder up to date, if there is one; gives whether all was done.
-fn close<R: AllocGlobal + Files + Eprint + Clone + Drop + Clock>(
+fn close<R: Env + AllocGlobal + Files + Eprint + Clone + Drop + Clock>(
     rt: &R,
     world: &World,
     share: Option<&mut Share>,

@@ -2,6 +2,7 @@
 ghost use Rattle.std.specs.Prelude.{◌≤◌, IfSome};
 
 use crate::command::matches_of_words;
+use crate::reader::AtEnd;
 use crate::request::{Options, Refused};
 use ados_text::{NoMemory, Text, number};
 use ados_transfer::MirrorOptions;
@@ -52,15 +53,25 @@ fn options<'a>(
         share: matches.get_str("share"),
         mirror: MirrorOptions {
             all: matches.get_flag("all"),
+            part: matches.get_flag("part"),
             dry: matches.get_flag("dry"),
         },
         quote: matches.get_flag("quote"),
         strike: matches.get_flag("strike"),
         strict: matches.get_flag("strict"),
+        at_end: at_end(matches),
         turns,
         script,
         args: args.to_vec(alloc)?,
     })
+}
+
+// What is answered at the end of standard input. `clap` takes no other value than `no`.
+fn at_end(matches: &ArgMatches<'_>) -> AtEnd {
+    match matches.get_str("answer") {
+        Some(_) => AtEnd::No,
+        None => AtEnd::Nothing,
+    }
 }
 
 // The values of an option that may be given again.

@@ -1,5 +1,6 @@
 //! What a command line asks for.
 
+use crate::reader::AtEnd;
 use ados_text::Text;
 use ados_transfer::MirrorOptions;
 
@@ -28,6 +29,8 @@ pub struct Options<'a> {
     pub strike: bool,
     /// The script runs only if it has no option that the Shell leaves out.
     pub strict: bool,
+    /// What is answered at the end of standard input.
+    pub at_end: AtEnd,
     /// The most events and long lines that are taken.
     pub turns: u64,
     /// The script's file.
