@@ -87,7 +87,7 @@ impl Mirror {
     pub(crate) fn report_stand_ins(&mut self, arrivals: &[Arrival]) -> Result<(), TransferFault> {
         let mut paths = Vec::new(self.alloc);
         for arrival in arrivals {
-            if matches!(arrival.coming, Coming::StandIn) {
+            if matches!(arrival.coming, Coming::StandIn(_)) {
                 paths.push(arrival.path.as_str())?;
             }
         }
