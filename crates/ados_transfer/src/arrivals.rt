@@ -153,11 +153,9 @@ impl Mirror {
             return Ok(());
         }
         let Some(last) = last_of(&arrival, entry)? else {
-            return self.reports.fail(
-                arrival.key.as_str(),
-                "cannot bring in",
-                arrival.path.as_str(),
-            );
+            return self
+                .reports
+                .report_absent(arrival.key.as_str(), arrival.path.as_str());
         };
         let record = Record {
             path: arrival.path,
