@@ -39,6 +39,10 @@ pub struct Account {
     pub more: usize,
     /// What was moved out of the way.
     pub aside: Vec<Aside>,
+    /// The paths at which some of that stays.
+    pub kept: Vec<String>,
+    /// A file that is gone gave no rights to group and others: a new one may have bytes of it, and gives none either.
+    pub is_private: bool,
 }
 
 /// An object of the folder that was moved out of the way of another one.
@@ -66,6 +70,8 @@ impl Account {
             held: None,
             more: 0,
             aside: Vec::new(alloc),
+            kept: Vec::new(alloc),
+            is_private: false,
         }
     }
 

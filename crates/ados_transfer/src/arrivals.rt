@@ -8,6 +8,7 @@ ghost use Rattle.ados_transfer.specs.Changes.{has_changed, has_last_stamp, has_s
 ghost use Rattle.ados_transfer.specs.Records.{OthersStay, has_key};
 
 use crate::arrival_plan::ArrivalPlan;
+use crate::below::{Below, is_gone};
 use crate::faults::TransferFault;
 use crate::folders::{Kind, Look, Seen};
 use crate::mirror::Mirror;
@@ -108,7 +109,8 @@ impl Mirror {
         files: &Ram,
     ) -> Result<Vec<Arrival>, TransferFault> {
         self.reports.begin_look();
-        if self.is_elsewhere(rt) {
+        let rt = &Below::new(rt);
+        if is_gone(rt) {
             self.report_unread("", "")?;
             return Ok(Vec::new(self.alloc));
         }

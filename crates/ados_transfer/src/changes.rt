@@ -64,7 +64,7 @@ impl Mirror {
         seen: Option<&Seen>,
     ) -> Result<Here, TransferFault> {
         match seen {
-            Some(seen) => Here::look(rt, self.folder.as_str(), seen.path.as_str()),
+            Some(seen) => Here::look(rt, seen.path.as_str()),
             None => Ok(Here::Absent),
         }
     }
@@ -82,7 +82,7 @@ impl Mirror {
         if entry.is_none() && plan.is_full() && !self.records.contains_key(key) {
             return self.reports.report_full(seen.path.as_str());
         }
-        let here = Here::look(rt, self.folder.as_str(), seen.path.as_str())?;
+        let here = Here::look(rt, seen.path.as_str())?;
         if here.is_unread() {
             return self.report_unread(key, seen.path.as_str());
         }

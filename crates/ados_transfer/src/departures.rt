@@ -5,6 +5,7 @@ ghost use Rattle.ados_text.specs.Text.{Bytes};
 ghost use Rattle.ados_transfer.specs.Records.{has_key, has_left};
 
 use crate::account::{Account, Moment};
+use crate::below::{Below, is_gone};
 use crate::departure::{Departure, Departures, is_key_left_out};
 use crate::faults::TransferFault;
 use crate::mirror::Mirror;
@@ -38,7 +39,8 @@ impl Mirror {
                 path.as_str(),
             );
         }
-        if self.is_elsewhere(rt) {
+        let rt = &Below::new(rt);
+        if is_gone(rt) {
             let folder = self.folder.clone()?;
             return self.reports.fail("", "cannot write", folder.as_str());
         }
@@ -49,6 +51,7 @@ impl Mirror {
         self.spare_moved(files)?;
         let mut account = Account::new(self.alloc, moment);
         let departures = self.departures(files, &mut account)?;
+        account.is_private = self.loses_private(rt, &departures);
         for is_new in [true, false] {
             for (key, departure) in &departures.by_key {
                 if departure.is_new == is_new && !departure.is_within_kind_change {
@@ -62,6 +65,7 @@ impl Mirror {
                 self.delete_here(rt, key.as_str(), departure, &mut account)?;
             }
         }
+        self.report_temporaries(rt, &account)?;
         self.report_account(&account)
     }
 
@@ -78,8 +82,24 @@ impl Mirror {
     }
 
     // Makes way for what is of another kind now, and writes what needs the place. What is moved aside for it is deleted only if all of
-    // it is written, otherwise it gets its place back.
+    // it is written and nothing changed aside, otherwise it gets its place back.
     fn change_kinds<R: AllocGlobal + Files + Clock>(
+        &mut self,
+        rt: &R,
+        files: &Ram,
+        departures: &Departures<'_>,
+        account: &mut Account,
+    ) -> Result<(), TransferFault> {
+        let written = self.exchange_kinds(rt, files, departures, account);
+        let is_written = written.is_ok()
+            && self.heed_changes_aside(rt, departures, account).is_ok();
+        let finished = self.finish_kind_changes(rt, account, is_written);
+        written?;
+        finished
+    }
+
+    // Moves aside what is in the way, and writes what needs the place.
+    fn exchange_kinds<R: AllocGlobal + Files + Clock>(
         &mut self,
         rt: &R,
         files: &Ram,
@@ -98,7 +118,7 @@ impl Mirror {
                 self.write_here(rt, files, key.as_str(), departure, account)?;
             }
         }
-        self.finish_kind_changes(rt, account)
+        Ok(())
     }
 
     // The objects whose state in the Shell's files differs from the last comparison. A file whose name is left out is never written: that
@@ -157,6 +177,20 @@ impl Mirror {
                 departures.add(key, Departure::new(path, entry))?;
             } else {
                 account.add_left_out(path, entry)?;
+            }
+        }
+        Ok(())
+    }
+
+    // Reports each temporary file that could not be removed.
+    fn report_temporaries<R: AllocGlobal + Files>(
+        &mut self,
+        rt: &Below<'_, R>,
+        account: &Account,
+    ) -> Result<(), TransferFault> {
+        for path in &rt.temporaries()? {
+            if !account.kept.contains(path) {
+                self.reports.report("temporary file left", path.as_str())?;
             }
         }
         Ok(())

@@ -36,7 +36,7 @@ pub struct MirrorOptions {
 #[derive(Drop)]
 pub struct Mirror {
     pub(crate) alloc: Global,
-    // The folder's whole path.
+    // The folder's whole path, for lines: what it leads to by now has no effect.
     pub(crate) folder: String,
     pub(crate) place: Place,
     pub(crate) options: MirrorOptions,
@@ -94,6 +94,11 @@ impl Mirror {
             is_lacking: false,
             overruled: None,
         })
+    }
+
+    /// The folder's whole path at the beginning.
+    pub fn folder(&self) -> &str {
+        self.folder.as_str()
     }
 
     /// The directory.
@@ -170,11 +175,9 @@ impl Mirror {
 
     // Reports that an object cannot be read, unless that was so at the look before; without a path it is the folder.
     pub(crate) fn report_unread(&mut self, key: &str, path: &str) -> Result<(), TransferFault> {
-        let path = if path.is_empty() {
-            self.folder.as_str()
-        } else {
-            path
-        };
+        if path.is_empty() {
+            return self.reports.report_unread(key, self.folder.as_str());
+        }
         self.reports.report_unread(key, path)
     }
 

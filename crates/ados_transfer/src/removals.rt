@@ -6,6 +6,7 @@ use crate::departure::{Departure, move_aside, own_path, remove};
 use crate::faults::TransferFault;
 use crate::here::Here;
 use crate::mirror::Mirror;
+use crate::paths::step_into;
 use crate::placing::place_new;
 use crate::records::Record;
 use crate::stamps::Stamp;
@@ -30,7 +31,7 @@ impl Mirror {
         let Some(record) = self.records.get(key) else {
             return Ok(());
         };
-        let here = Here::look(rt, self.folder.as_str(), path)?;
+        let here = Here::look(rt, path)?;
         let is_large = record.is_stand_in();
         let removal = decide_removal(
             &record.state(),
@@ -76,7 +77,7 @@ impl Mirror {
         let is_done = if departure.is_within_kind_change {
             self.set_aside(rt, key, path, here, account)
         } else {
-            remove(rt, self.folder.as_str(), path, here)
+            remove(rt, path, here)
         };
         if !matches!(is_done, Ok(true)) {
             add_unwritten_within_kind_change(departure, account)?;
@@ -126,7 +127,7 @@ impl Mirror {
         here: &Here,
         account: &mut Account,
     ) -> io::Result<bool> {
-        let Some((beside, mode)) = move_aside(rt, self.folder.as_str(), path, here)? else {
+        let Some((beside, mode)) = move_aside(rt, path, here)? else {
             return Ok(false);
         };
         let Some((key, record)) = self.records.remove_entry(key) else {
@@ -149,10 +150,11 @@ impl Mirror {
         &mut self,
         rt: &R,
         account: &mut Account,
+        is_written: bool,
     ) -> Result<(), TransferFault> {
         for one in account.take_aside().into_iter().rev() {
-            if account.has_unwritten() {
-                self.put_back(rt, one)?;
+            if account.has_unwritten() || !is_written {
+                self.put_back(rt, one, account)?;
             } else if let Some(beside) = &one.beside {
                 let _ = fs::remove_file(rt, beside.as_str());
             }
@@ -165,6 +167,7 @@ impl Mirror {
         &mut self,
         rt: &R,
         aside: Aside,
+        account: &mut Account,
     ) -> Result<(), TransferFault> {
         let Aside {
             key,
@@ -172,7 +175,7 @@ impl Mirror {
             beside,
             mode,
         } = aside;
-        match placed_back(rt, self.folder.as_str(), &record, beside.as_ref(), mode) {
+        match placed_back(rt, &record, beside.as_ref(), mode) {
             Ok(Some(stamp)) => {
                 let mut record = record;
                 record.stamp = stamp;
@@ -182,7 +185,9 @@ impl Mirror {
             }
             _ => match beside {
                 Some(beside) => {
-                    let text = format!(in self.alloc; "kept as {beside}")?;
+                    let whole = step_into(self.alloc, self.folder.as_str(), beside.as_str())?;
+                    let text = format!(in self.alloc; "kept as {whole}")?;
+                    account.kept.push(beside)?;
                     self.reports.report(text.as_str(), record.path.as_str())
                 }
                 None => Ok(()),
@@ -207,12 +212,11 @@ fn add_unwritten_within_kind_change(
 // if it is empty.
 fn placed_back<R: AllocGlobal + Files>(
     rt: &R,
-    root: &str,
     record: &Record,
     beside: Option<&String>,
     mode: u32,
 ) -> io::Result<Option<Stamp>> {
-    let whole = own_path(rt, root, record.path.as_str())?;
+    let whole = own_path(rt, record.path.as_str())?;
     match beside {
         Some(beside) => {
             let _ = fs::remove_dir(rt, whole.as_str());

@@ -1,19 +1,19 @@
 //! A folder of this machine that is shared with the Shell.
 ghost use Rattle.std.specs.Prelude.{◌≡◌, ◌<◌, ◌^◌, ◌-◌, [], IsOk, OnOk};
 ghost use Rattle.ados_launch.specs.Agreement.{Agrees, IsOpenTable};
-ghost use Rattle.ados_launch.specs.Leads.{IsReachable};
+ghost use Rattle.ados_launch.specs.Deeds.{RunsLines};
 
 use crate::due::Due;
-use crate::faults::{Fault, cannot_read, report};
+use crate::faults::{Fault, report};
+use crate::home::{Home, enter};
 use crate::launcher::{Bringer, Start};
 use crate::pace::Pace;
 use ados_launch::{Launcher, Listed, Session, SystemEnd, SystemFault, system};
-use ados_launcher::StartFolder;
+use ados_ram::Place;
 use ados_text::Text;
 use ados_transfer::{Arrival, Mirror, MirrorOptions, Moment, StartPlace, push_word};
 use ados_world::World;
 use std::alloc::Global;
-use std::env;
 use std::io::Eprint;
 use std::process::Processes;
 use std::rt::{Env, Files};
@@ -26,8 +26,7 @@ const EVENTS: u64 = 100;
 #[derive(Drop)]
 pub struct Share {
     mirror: Mirror,
-    // The current directory of this process.
-    home: String,
+    home: Home,
     // What was in the folder at the beginning was brought in.
     is_filled: bool,
     pace: Pace,
@@ -44,13 +43,10 @@ impl Share {
     ) -> Result<Share, Fault>
         requires agrees { Agrees world.old [] }
         ensures agrees { OnOk result (Agrees world.new []) }
-        ensures leads { IsReachable world.old world.new }
+        ensures ran { RunsLines world.old world.new }
     {
         let alloc = rt.alloc();
-        let Ok(home) = env::current_dir(rt) else {
-            return Err(cannot_read(alloc, "."));
-        };
-        let home = String::from_str(alloc, home.as_path().as_str())?;
+        let home = Home::new(rt)?;
         let mirror = Mirror::new(rt, words, options, world.files())?;
         // These lines start no program.
         let mut launcher = Listed::new(Vec::new(alloc));
@@ -66,6 +62,16 @@ impl Share {
             is_filled: false,
             pace: Pace::new(rt),
         })
+    }
+
+    /// The directory.
+    pub fn place(&self) -> &Place {
+        self.mirror.place()
+    }
+
+    /// Makes the folder this process's current directory: from now on its files are found in it, whatever its name leads to.
+    pub fn enter<R: AllocGlobal + Env>(&self, rt: &R) -> Result<(), Fault> {
+        enter(rt, self.mirror.folder())
     }
 
     /// The line that makes the directory the current one.
@@ -95,7 +101,7 @@ impl Share {
         ensures children { IsOpenTable session.new.children launcher.new.calls }
         ensures schedule { session.new.schedule ≡ session.old.schedule }
         ensures held { session.new.held ≡ session.old.held }
-        ensures leads { IsReachable world.old world.new }
+        ensures ran { RunsLines world.old world.new }
     {
         self.mirror.watch(world.files());
         if !self.is_filled {
@@ -123,8 +129,8 @@ impl Share {
         Ok(())
     }
 
-    /// Writes what changed to the folder at the end. `false` if the two sides are not alike then.
-    pub fn close<R: AllocGlobal + Files + Eprint + Clone + Drop + Clock>(
+    /// Writes what changed to the folder at the end, and goes back to where this process was started. `false` if the two sides are not alike then.
+    pub fn close<R: Env + AllocGlobal + Files + Eprint + Clone + Drop + Clock>(
         &mut self,
         rt: &R,
         world: &World,
@@ -132,6 +138,7 @@ impl Share {
         if self.is_filled {
             self.write_out(rt, world, Moment::End)?;
         }
+        self.home.enter(rt)?;
         Ok(!self.mirror.differs())
     }
 
@@ -149,7 +156,7 @@ impl Share {
         ensures children { IsOpenTable session.new.children launcher.new.calls }
         ensures schedule { session.new.schedule ≡ session.old.schedule }
         ensures held { session.new.held ≡ session.old.held }
-        ensures leads { IsReachable world.old world.new }
+        ensures ran { RunsLines world.old world.new }
     {
         for arrival in self.mirror.arrivals(rt, world.files())? {
             let arrival = take_in(rt.alloc(), world, launcher, session, arrival)?;
@@ -179,15 +186,13 @@ impl Share {
         world: &World,
         number: u8,
     ) -> Result<Start, Fault> {
-        let Some(shell) = world.shell(number) else {
-            return Ok(Start::Home);
+        let place = match world.shell(number) {
+            Some(shell) => self.mirror.start_place(rt, shell.directory())?,
+            None => StartPlace::Home,
         };
-        match self.mirror.start_place(rt, shell.directory())? {
-            StartPlace::Home => Ok(Start::Home),
-            StartPlace::Folder(path) => Ok(Start::Folder(StartFolder {
-                path,
-                home: String::from_str(rt.alloc(), self.home.as_str())?,
-            })),
+        match place {
+            StartPlace::Home => self.home.start(rt.alloc(), None),
+            StartPlace::Folder(path) => self.home.start(rt.alloc(), Some(path.as_str())),
             StartPlace::Nowhere => {
                 self.report_lines(rt);
                 Ok(Start::Nowhere)
@@ -217,7 +222,7 @@ fn take_in<R: Processes>(
     ensures children { IsOpenTable session.new.children launcher.new.calls }
     ensures schedule { session.new.schedule ≡ session.old.schedule }
     ensures held { session.new.held ≡ session.old.held }
-    ensures leads { IsReachable world.old world.new }
+    ensures ran { RunsLines world.old world.new }
 {
     launcher.offer(arrival.bytes.take());
     run_lines(alloc, world, arrival.lines.as_slice(), launcher, session)?;
@@ -239,7 +244,7 @@ fn run_lines<L: Launcher>(
     ensures children { IsOpenTable session.new.children (L.calls launcher.new) }
     ensures schedule { session.new.schedule ≡ session.old.schedule }
     ensures held { session.new.held ≡ session.old.held }
-    ensures leads { IsReachable world.old world.new }
+    ensures ran { RunsLines world.old world.new }
 {
     for line in lines {
         run_alone(alloc, world, line, launcher, session)?;
@@ -261,7 +266,7 @@ fn run_alone<L: Launcher>(
     ensures children { IsOpenTable session.new.children (L.calls launcher.new) }
     ensures schedule { session.new.schedule ≡ session.old.schedule }
     ensures held { session.new.held ≡ session.old.held }
-    ensures leads { IsReachable world.old world.new }
+    ensures ran { RunsLines world.old world.new }
 {
     let mut printed = Vec::new(alloc);
     let ran = system(alloc, world, line, launcher, EVENTS, &mut printed);
