@@ -103,7 +103,7 @@ impl Mirror {
     /// What changed in the folder since the last comparison, in an order in which it can come in; the first time everything. If both
     /// sides changed, this machine's version comes in, and a line reports it. If both are alike there is no arrival.
     ///
-    /// `DoesNotFit` if the first time not all has room, unless a part is enough; `CannotRead` if there are too many folders.
+    /// `DoesNotFit` if the first time there is no room for all names, unless a part is enough; `CannotRead` if there are too many folders.
     pub fn arrivals<R: AllocGlobal + Files + Clock + Clone + Drop>(
         &mut self,
         rt: &R,
@@ -156,11 +156,9 @@ impl Mirror {
             return Ok(());
         }
         let Some(last) = last_of(&arrival, entry)? else {
-            return self.reports.fail(
-                arrival.key.as_str(),
-                "cannot bring in",
-                arrival.path.as_str(),
-            );
+            return self
+                .reports
+                .report_absent(arrival.key.as_str(), arrival.path.as_str());
         };
         let record = Record {
             path: arrival.path,

@@ -28,7 +28,7 @@ const DIRECTORY: &str = "RAM:Work";
 pub struct MirrorOptions {
     /// Names that begin with a dot are shared too.
     pub all: bool,
-    /// The folder may have more than the Shell's files can hold.
+    /// The folder may have more files and folders than the Shell's files can hold.
     pub part: bool,
     /// Nothing of this machine is changed; changes are only reported.
     pub dry: bool,
