@@ -31,16 +31,26 @@ impl<K: Sink> Gate<K> {
         requires { K.faults self.old.inner < 2 ^ 64 - 1 }
         ensures { OnOk result (K.faults self.new.inner ≡ K.faults self.old.inner) }
     {
-        let mut from = 0;
-        while from < self.held.len() {
-            match self.inner.write(&self.held[from..]) {
-                Ok(0) | Err(_) => return Err(DriveFault::Write),
-                Ok(count) => from += count,
-            }
-        }
+        write_all(&mut self.inner, self.held.as_slice())?;
         self.held.clear();
         Ok(())
     }
+}
+
+// Writes all of the bytes, by as many writes as that takes.
+fn write_all<K: Sink>(writer: &mut K, bytes: &[u8]) -> Result<(), DriveFault>
+    requires { K.faults writer.old < 2 ^ 64 - 1 }
+    ensures { OnOk result (K.faults writer.new ≡ K.faults writer.old) }
+{
+    let mut at = 0;
+    while at < bytes.len() {
+        match writer.write(&bytes[at..]) {
+            Err(_) => return Err(DriveFault::Write),
+            Ok(0) => return Err(DriveFault::Write),
+            Ok(count) => at += count,
+        }
+    }
+    Ok(())
 }
 
 impl<K: Sink> Sink for Gate<K> {
