@@ -116,7 +116,9 @@ impl<'a> ArrivalPlan<'a> {
     ) -> Result<(), TransferFault> {
         let entry = self.look(key, place);
         if place.path(self.alloc)?.as_bytes().len() > PATH_LIMIT {
-            return mirror.report_once("bad name for the Shell, left alone", seen.path.as_str());
+            return mirror
+                .reports
+                .report_once("bad name for the Shell, left alone", seen.path.as_str());
         }
         let Some(stamp) = here.stamp() else {
             return Ok(());
@@ -205,7 +207,10 @@ impl<'a> ArrivalPlan<'a> {
                 Ok(())
             }
             Err(TransferFault::LongLine(_)) => {
-                mirror.report_once("bad name for the Shell, left alone", arrival.path.as_str())
+                mirror.reports.report_once(
+                    "bad name for the Shell, left alone",
+                    arrival.path.as_str(),
+                )
             }
             Err(fault) => Err(fault),
         }

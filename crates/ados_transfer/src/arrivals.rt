@@ -8,6 +8,7 @@ ghost use Rattle.ados_transfer.specs.Changes.{has_changed, has_last_stamp, has_s
 ghost use Rattle.ados_transfer.specs.Records.{OthersStay, has_key};
 
 use crate::arrival_plan::ArrivalPlan;
+use crate::below::{Below, is_gone};
 use crate::faults::TransferFault;
 use crate::folders::{Kind, Look, Seen};
 use crate::mirror::Mirror;
@@ -100,13 +101,16 @@ impl Mirror {
 
     /// What changed in the folder since the last comparison, in an order in which it can come in; the first time everything. If both
     /// sides changed, this machine's version comes in, and a line reports it. If both are alike there is no arrival.
+    ///
+    /// `DoesNotFit` if the first time not all has room, unless a part is enough; `CannotRead` if there are too many folders.
     pub fn arrivals<R: AllocGlobal + Files + Clock + Clone + Drop>(
         &mut self,
         rt: &R,
         files: &Ram,
     ) -> Result<Vec<Arrival>, TransferFault> {
-        self.begin_look();
-        if self.is_elsewhere(rt) {
+        self.reports.begin_look();
+        let rt = &Below::new(rt);
+        if is_gone(rt) {
             self.report_unread("", "")?;
             return Ok(Vec::new(self.alloc));
         }
@@ -115,8 +119,9 @@ impl Mirror {
             self.report_unread(unread.key.as_str(), unread.path.as_str())?;
         }
         for line in &look.lines {
-            self.report_line(line.clone()?)?;
+            self.reports.report_line(line.clone()?)?;
         }
+        let is_first = self.begins(&look, files)?;
         let changes = self.changes(&look, files)?;
         if changes.is_empty() {
             return Ok(Vec::new(self.alloc));
@@ -131,7 +136,11 @@ impl Mirror {
             }
         }
         self.hold_deletions(files)?;
-        Ok(plan.into_arrivals())
+        let arrivals = plan.into_arrivals();
+        if is_first {
+            self.report_stand_ins(&arrivals)?;
+        }
+        Ok(arrivals)
     }
 
     /// Checks whether the files have what an arrival, whose lines were run, was to bring in, and keeps that as the last state.
@@ -146,7 +155,7 @@ impl Mirror {
             return Ok(());
         }
         let Some(last) = last_of(&arrival, entry)? else {
-            return self.fail(
+            return self.reports.fail(
                 arrival.key.as_str(),
                 "cannot bring in",
                 arrival.path.as_str(),

@@ -1,7 +1,6 @@
 //! The files and folders of this machine that are brought in.
 
 use crate::faults::{TransferFault, named};
-use crate::left_out::strike;
 use crate::paths::{base_name, name_of, place_in, step_into};
 use crate::plan::{Plan, file_of};
 use crate::script::shell_script;
@@ -18,7 +17,8 @@ const WALK: usize = 4096;
 // A name of the Shell's files has at most this many bytes.
 const NAME_BYTES: usize = 30;
 
-/// Adds what words of `--bring` name, as `PATH` or `PATH=NAME`, to what is brought in.
+/// Adds what words of `--bring` name, as `PATH` or `PATH=NAME`, to what is brought in. Devices and pipes are no files: `CannotRead` if
+/// PATH is one, and one that is in a folder is left out, with a line.
 pub fn bring<R: AllocGlobal + Files + Clone + Drop>(
     rt: &R,
     files: &Ram,
@@ -26,31 +26,33 @@ pub fn bring<R: AllocGlobal + Files + Clone + Drop>(
     plan: &mut Plan,
 ) -> Result<(), TransferFault> {
     let (path, name) = parted(rt, words);
-    let Ok(found) = fs::metadata(rt, path) else {
-        return Err(named(rt.alloc(), path, TransferFault::CannotRead));
+    let found = match fs::metadata(rt, path) {
+        Ok(found) if found.is_dir() || found.is_file() => found,
+        _ => return Err(named(rt.alloc(), path, TransferFault::CannotRead)),
     };
     let place = target(rt, path, name, found.is_dir())?;
     walk(rt, files, path, place, plan)
 }
 
-/// Adds a script of this machine to what is brought in, as a file in S:, and gives its place; with `strikes`, without the options
-/// that have no effect which matters here. Where its name is none of the Shell's files, it has a similar one there.
+/// The bytes of a script of this machine as the Shell reads it.
+pub fn read_script<R: AllocGlobal + Files>(rt: &R, path: &str) -> Result<Vec<u8>, TransferFault> {
+    let bytes = read_file(rt, path)?;
+    Ok(shell_script(rt.alloc(), bytes.as_slice())?)
+}
+
+/// Adds a script of this machine with these bytes to what is brought in, as a file in S:, and gives its place. Where its name is none
+/// of the Shell's files, it has a similar one there.
 pub fn bring_script<R: AllocGlobal + Files>(
     rt: &R,
     files: &Ram,
     path: &str,
-    strikes: bool,
+    script: Vec<u8>,
     plan: &mut Plan,
 ) -> Result<Place, TransferFault> {
     let alloc = rt.alloc();
     let own = base_name(rt, path)?;
     let name = similar_name(alloc, own.as_str())?;
     let place = place_in(alloc, "S:")?.with(name_of(alloc, name.as_str(), path)?)?;
-    let bytes = read_file(rt, path)?;
-    let mut script = shell_script(alloc, bytes.as_slice())?;
-    if strikes {
-        strike(alloc, &mut script)?;
-    }
     plan.add_file(files, place.copy()?, file_of(script, false), path)?;
     Ok(place)
 }
@@ -137,6 +139,9 @@ fn add_one<R: AllocGlobal + Files + Clone + Drop>(
     if found.is_dir() {
         push_children(rt, path.as_str(), &place, left)?;
         return plan.add_directory(files, place, path.as_str());
+    }
+    if !found.is_file() {
+        return plan.leave(path.as_str());
     }
     let is_script = found.permissions().mode() & 0o111 != 0;
     let bytes = read_file(rt, path.as_str())?;

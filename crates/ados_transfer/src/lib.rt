@@ -3,9 +3,9 @@
 //! as it was meant; what the files then hold; and how files are written out.
 
 mod account;
-mod arguments;
 mod arrival_plan;
 mod arrivals;
+mod below;
 mod bringing;
 mod changes;
 mod choice;
@@ -13,9 +13,9 @@ mod decision;
 mod departure;
 mod departures;
 mod faults;
+mod fit;
 mod folders;
 mod here;
-mod left_out;
 mod lines;
 mod mirror;
 mod paths;
@@ -24,10 +24,11 @@ mod placing;
 mod plan;
 mod planned;
 mod records;
-mod release_two;
 mod removals;
+mod reports;
 mod room;
 mod script;
+mod second_look;
 mod share_lines;
 mod stamps;
 mod stand_ins;
@@ -37,11 +38,11 @@ mod words;
 mod writes;
 mod writing;
 
+pub use account::Moment;
 pub use arrivals::Arrival;
-pub use bringing::{bring, bring_script, bytes_of};
+pub use bringing::{bring, bring_script, bytes_of, read_script};
 pub use decision::{Decision, Removal, State, decide, decide_removal};
 pub use faults::TransferFault;
-pub use left_out::{LeftOut, options_left_out};
 pub use lines::{BRING, Lines};
 pub use mirror::{Mirror, MirrorOptions};
 pub use paths::{ascii, last_piece, step_into};

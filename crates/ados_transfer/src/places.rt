@@ -6,8 +6,6 @@ use crate::mirror::Mirror;
 use crate::paths::step_into;
 use ados_ram::Place;
 use ados_text::{Name, Text};
-use std::fs;
-use std::rt::Files;
 
 impl Mirror {
     // The key of a place, the empty one for the directory itself; none outside it.
@@ -52,13 +50,5 @@ impl Mirror {
             };
         }
         Ok(path)
-    }
-
-    // By now a link is on the way to the folder: its path leads elsewhere, where nothing is shared.
-    pub(crate) fn is_elsewhere<R: AllocGlobal + Files>(&self, rt: &R) -> bool {
-        match fs::canonicalize(rt, self.folder.as_str()) {
-            Ok(whole) => whole.as_path().as_str() != self.folder.as_str(),
-            Err(_) => false,
-        }
     }
 }

@@ -1,10 +1,9 @@
 //! The program's command line, in `clap`'s words.
 
+use ados_session::VERSION;
 use clap::{Arg, ArgAction, ArgMatches, Command, Error};
 use std::alloc::{AllocError, Global};
 use std::convert::AsStr;
-
-const VERSION: &str = "1.0";
 
 const ABOUT: &str =
     "Runs an Amiga command script of this machine by the Shell of the Amiga (AmigaDOS Release 2)";
@@ -31,11 +30,11 @@ the nearest folder share/amishell above that of this program";
 
 const BRING: &str =
     "Brings a file or a folder of this machine into the files: into RAM: under its own name, or to NAME. A
-file that may be executed gets bit s. May be given again";
+file that may be executed gets bit s; pipes and devices in a folder are left out. May be given again";
 
 const TAKE: &str =
     "Writes a file or a directory of the files out at the end: into this folder under its own name, or to
-PATH. May be given again";
+PATH, in which no name is . or .. and no folder a link. May be given again";
 
 const TYPE: &str = "A line that is typed before the script. May be given again";
 
@@ -45,6 +44,10 @@ each program starts what changed there is written to the folder, and what the pr
 folder comes in when it ends";
 
 const ALL: &str = "Shares also what has a name that begins with a dot";
+
+const PART: &str =
+    "Shares what fits of a folder that has more than 1024 files and folders, or more than 1048576 bytes in
+files that are not too large by themselves; without it nothing runs then";
 
 const DRY: &str =
     "Tells what would be written to the shared folder and deleted there, and writes nothing itself; programs
@@ -57,9 +60,20 @@ const STRIKE: &str =
 NOREQ and BUFFER of Copy, FORCE of Delete, KEYS, DATES, NODATES, BLOCK and NOHEAD of List, and QUIET
 where there is none";
 
-const STRICT: &str =
-    "Runs nothing if a line of the script gives a command an option of Release 2 that the Shell leaves out;
-without it each such line is reported on standard error, and the script runs";
+const STRICT: &str = "As without it: a line that must not be run as it is ends the run";
+
+const LENIENT: &str =
+    "Reports the lines of the script that give a command an option of Release 2 that the Shell leaves out, or
+have bytes above 127, and runs it all the same. Without it neither it nor a script that it calls runs
+with such a line";
+
+const ASCII_MARKS: &str = "Writes _ in the place of each byte above 127 in the script";
+
+const ANSWERS: &[&str] = &["no"];
+
+const ANSWER: &str =
+    "At the end of standard input Ask takes this answer, for ever, and `?` an empty line; without it the run
+ends there";
 
 const TURNS: &str =
     "How many events and long lines are taken at most, 1 to 1000000000, not counted those that bring files
@@ -116,10 +130,14 @@ fn command<'a>(alloc: Global) -> Result<Command<'a>, AllocError> {
         .arg(list_option(alloc, "type", "LINE", TYPE))?
         .arg(text_option(alloc, "share", "FOLDER[=PATH]", SHARE))?
         .arg(flag(alloc, "all", ALL))?
+        .arg(flag(alloc, "part", PART))?
         .arg(flag(alloc, "dry", DRY))?
         .arg(flag(alloc, "quote", QUOTE))?
         .arg(flag(alloc, "strike", STRIKE))?
+        .arg(flag(alloc, "ascii-marks", ASCII_MARKS))?
+        .arg(flag(alloc, "lenient", LENIENT))?
         .arg(flag(alloc, "strict", STRICT))?
+        .arg(text_option(alloc, "answer", "no", ANSWER).value_parser(ANSWERS))?
         .arg(text_option(alloc, "turns", "N", TURNS))?
         .arg(text_option(alloc, "seconds", "N", SECONDS))?
         .arg(list_option(alloc, "error", "NAME=CODE", ERROR))?

@@ -1,4 +1,6 @@
 //! `--seconds`: after them no further event is taken.
+ghost use Rattle.std.specs.Prelude.{◌≡◌, None, IfErr};
+ghost use Rattle.amishell_execute.specs.Playing.{drive_fault_of};
 
 use crate::faults::Fault;
 use std::time::{Clock, Instant};
@@ -20,7 +22,9 @@ impl Deadline {
     }
 
     /// `Seconds` if they have passed.
-    pub fn check<R: Clock>(&self, rt: &R) -> Result<(), Fault> {
+    pub fn check<R: Clock>(&self, rt: &R) -> Result<(), Fault>
+        ensures { IfErr result (λ why. drive_fault_of why ≡ None) }
+    {
         match self.begun.elapsed(rt) {
             Ok(passed) if passed.as_secs() >= self.seconds => Err(Fault::Seconds(self.seconds)),
             _ => Ok(()),

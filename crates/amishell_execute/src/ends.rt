@@ -1,12 +1,11 @@
 //! The line on the end of a script.
 ghost use Rattle.std.specs.Prelude.{◌≡◌, ◌||◌, is_some};
 
-use crate::faults::Fault;
 use crate::host_faults::shown_bytes;
 use crate::lost_jumps::LostJump;
 use ados_items::trimmed;
 use ados_machine::EndReport;
-use ados_text::Text;
+use ados_text::{NoMemory, Text};
 use std::alloc::Global;
 
 /// Why the end of a script is told.
@@ -41,7 +40,7 @@ pub fn end_line(
     report: &EndReport,
     cause: Cause<'_>,
     text: Option<&Text>,
-) -> Result<String, Fault> {
+) -> Result<String, NoMemory> {
     let line = report.last_line;
     let code = report.code.0;
     let told = match cause {
@@ -54,7 +53,7 @@ pub fn end_line(
 }
 
 /// A line that ends in the text of a script's line, if there is one.
-pub fn with_text(alloc: Global, told: String, text: Option<&Text>) -> Result<String, Fault> {
+pub fn with_text(alloc: Global, told: String, text: Option<&Text>) -> Result<String, NoMemory> {
     match text {
         Some(text) => {
             let text = shown_bytes(trimmed(text.as_bytes()));

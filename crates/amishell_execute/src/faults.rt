@@ -1,4 +1,6 @@
 //! Why the program ends with a line on standard error.
+ghost use Rattle.std.specs.Prelude.{◌≡◌};
+ghost use Rattle.amishell_execute.specs.declared.faults.Fault.TheVariants.{Drive, Memory};
 
 use crate::status::Status;
 use crate::unread::Unread;
@@ -54,6 +56,12 @@ pub enum Fault {
     /// The files are not in the Shell's world as they were brought.
     #[error("the files cannot be brought in")]
     NotBrought,
+    /// The Shell asked for a line of standard input, which was at its end.
+    #[error("no answer for {0}")]
+    Unanswered(String),
+    /// Lines of the script of this name must not be run as they are.
+    #[error("{0} is not run (--lenient runs it)")]
+    NotRun(String),
     /// There was no memory.
     #[error("out of memory")]
     Memory,
@@ -62,7 +70,7 @@ pub enum Fault {
     Write,
     /// The run stopped before its end.
     #[error("{0}")]
-    Drive(#[from] DriveFault),
+    Drive(DriveFault),
     /// As many events were taken as may be, and another one is due.
     #[error("turn limit of {0} reached (--turns)")]
     Turns(u64),
@@ -85,7 +93,17 @@ impl Fault {
     }
 }
 
+impl From<DriveFault> for Fault {
+    ghost from_gives = { λ fault why. why ≡ Drive fault };
+
+    fn from(fault: DriveFault) -> Fault {
+        Fault::Drive(fault)
+    }
+}
+
 impl From<NoMemory> for Fault {
+    ghost from_gives = { λ _e why. why ≡ Memory };
+
     fn from(_e: NoMemory) -> Fault {
         Fault::Memory
     }

@@ -1,7 +1,9 @@
 //! The output of a run, which can be held back until what comes before it is written elsewhere.
-ghost use Rattle.std.specs.Prelude.{◌≡◌, ◌<◌, ◌^◌, ◌-◌, None, OnOk};
+ghost use Rattle.std.specs.Prelude.{◌≡◌, ◌<◌, ◌^◌, ◌-◌, None, IfErr, OnOk};
+ghost use Rattle.amishell_execute.specs.Playing.{contents_through, drive_fault_of};
 
-use ados_launch::{DriveFault, Sink};
+use crate::faults::Fault;
+use ados_launch::{Sink, write_whole};
 use std::alloc::Global;
 use std::io;
 
@@ -26,35 +28,32 @@ impl<K: Sink> Gate<K> {
         }
     }
 
-    /// Writes what is held back.
-    pub fn release(&mut self) -> Result<(), DriveFault>
+    /// Writes what is held back; an open gate holds nothing.
+    ///
+    /// `Write` if not all of it could be written.
+    pub fn release(&mut self) -> Result<(), Fault>
         requires { K.faults self.old.inner < 2 ^ 64 - 1 }
-        ensures { OnOk result (K.faults self.new.inner ≡ K.faults self.old.inner) }
+        ensures contents { contents_through K.contents self.new ≡ contents_through K.contents self.old }
+        ensures faults { OnOk result (K.faults self.new.inner ≡ K.faults self.old.inner) }
+        ensures stalls { OnOk result (K.stalls self.new.inner ≡ K.stalls self.old.inner) }
+        // Such a fault is none of the drive's.
+        ensures fault { IfErr result (λ why. drive_fault_of why ≡ None) }
     {
-        write_all(&mut self.inner, self.held.as_slice())?;
+        if !self.is_shut {
+            return Ok(());
+        }
+        let written = write_whole(&mut self.inner, self.held.as_slice());
         self.held.clear();
-        Ok(())
-    }
-}
-
-// Writes all of the bytes, by as many writes as that takes.
-fn write_all<K: Sink>(writer: &mut K, bytes: &[u8]) -> Result<(), DriveFault>
-    requires { K.faults writer.old < 2 ^ 64 - 1 }
-    ensures { OnOk result (K.faults writer.new ≡ K.faults writer.old) }
-{
-    let mut at = 0;
-    while at < bytes.len() {
-        match writer.write(&bytes[at..]) {
-            Err(_) => return Err(DriveFault::Write),
-            Ok(0) => return Err(DriveFault::Write),
-            Ok(count) => at += count,
+        match written {
+            Ok(()) => Ok(()),
+            Err(_) => Err(Fault::Write),
         }
     }
-    Ok(())
 }
 
 impl<K: Sink> Sink for Gate<K> {
-    ghost contents = { λ _. None };
+    // What a shut gate lets through later is not known.
+    ghost contents = { λ g. contents_through K.contents g };
 
     ghost faults = { λ g. K.faults g.inner };
 

@@ -4,13 +4,17 @@
 ghost use Rattle.std.specs.Prelude.{◌≡◌, [], OnOk};
 ghost use Rattle.ados_launch.specs.Agreement.{Agrees};
 
+mod checks;
 mod command;
 mod deadline;
 mod delivery;
+mod descriptors;
+mod due;
 mod ends;
 mod error_codes;
 mod faults;
 mod gate;
+mod home;
 mod host_faults;
 mod hosts;
 mod launcher;
@@ -18,6 +22,7 @@ mod losses;
 mod lost_jumps;
 mod mistakes;
 mod origins;
+mod pace;
 mod play;
 mod reader;
 mod reading;
@@ -28,16 +33,20 @@ mod status;
 mod teller;
 mod trace;
 mod trail;
+mod unanswered;
 mod unread;
-mod warnings;
 
+use ados_launch::Counted;
 use ados_ram::Place;
-use ados_text::Text;
+use ados_text::{Code, Text};
 use ados_transfer::{Lines, Plan, TransferFault, bring, bring_script, take, taken_place};
 use ados_world::{NewFault, World};
+use checks::{Checks, read_checked};
 use deadline::Deadline;
+use descriptors::held_descriptors;
 use error_codes::{ErrorCode, error_codes};
-use faults::{Fault, not_brought, report, unread_script};
+use faults::{Fault, not_brought, report};
+use gate::Gate;
 use hosts::hosts_for;
 use losses::{Kept, tell_losses};
 use origins::Origins;
@@ -52,9 +61,9 @@ use std::rt::{Env, Files};
 use std::time::Clock;
 use std::{env, fs, io};
 use teller::Teller;
-use warnings::warn;
 
 fn main(rt: HostRuntime) -> ExitCode {
+    let _held = held_descriptors(&rt);
     let status = match run(&rt) {
         Ok(status) => status,
         Err(fault) => {
@@ -138,7 +147,9 @@ fn opened<R: Env + AllocGlobal + Files + Clone + Drop + Clock>(
 }
 
 // Runs the script, takes what is asked for, and gives the exit status.
-fn run_script<R: AllocGlobal + Files + Input + Print + Eprint + Processes + Clone + Drop + Clock>(
+fn run_script<
+    R: Env + AllocGlobal + Files + Input + Print + Eprint + Processes + Clone + Drop + Clock,
+>(
     rt: &R,
     options: &Options<'_>,
     errors: &[ErrorCode],
@@ -149,41 +160,55 @@ fn run_script<R: AllocGlobal + Files + Input + Print + Eprint + Processes + Clon
 {
     let mut plan = Plan::new(rt.alloc(), world.files())?;
     let script = add_files(rt, options, world, &mut plan)?;
-    if warn(rt, options.script, plan.last_bytes())? && options.strict {
-        return Ok(Status::Failed);
-    }
     let lines = lines_for(rt, options, share.as_ref(), &plan, &script)?;
     let shared = share.as_ref().map(|share| share.place());
     let origins = Origins::new(rt, plan.planned(), options.share, shared)?;
     let kept = Kept::new(rt.alloc(), world.files(), plan.planned(), &script)?;
+    if let Some(share) = share.as_ref() {
+        share.enter(rt)?;
+    }
+    let mut writer = Gate::new(rt.alloc(), Counted::new(io::writer(rt)), options.trace);
     let ended = play(
         rt,
         world,
-        &Script {
+        Script {
             planned: plan.planned(),
             lines: &lines,
             turns: options.turns,
+            at_end: options.at_end,
             deadline: Deadline::after(rt, options.seconds),
             errors,
+            checks: Checks::new(rt.alloc(), options, &script)?,
         },
         Teller::new(&origins, options.quiet, options.trace)?,
         share.as_mut(),
+        &mut writer,
     );
     let is_alike = close(rt, world, share.as_mut())?;
     let is_taken = take_all(rt, options, world);
+    let code = ended.as_ref().ok().map(|end| end.code);
     let status = status_after(rt, options, world, &origins, ended)?;
     if !options.quiet {
         tell_gone(rt, options, world, share.as_ref(), kept)?;
     }
-    Ok(if is_alike && is_taken {
-        status
-    } else {
-        Status::Failed
-    })
+    if !is_alike {
+        return report_lacking(rt, code);
+    }
+    Ok(if is_taken { status } else { Status::Failed })
+}
+
+// Reports that the shared folder is not as the script left it, and with which code the script ended, if it did.
+fn report_lacking<R: AllocGlobal + Eprint>(rt: &R, code: Option<Code>) -> Result<Status, Fault> {
+    let mut line = String::from_str(rt.alloc(), "the shared folder and the Shell's files differ")?;
+    if let Some(Code(number)) = code {
+        write!(line, "; the script's code was {number}")?;
+    }
+    report(rt, &line);
+    Ok(Status::Failed)
 }
 
 // Plans what is brought in, the script last, and gives its place.
-fn add_files<R: AllocGlobal + Files + Clone + Drop>(
+fn add_files<R: AllocGlobal + Files + Eprint + Clone + Drop>(
     rt: &R,
     options: &Options<'_>,
     world: &World,
@@ -194,10 +219,11 @@ fn add_files<R: AllocGlobal + Files + Clone + Drop>(
             return Err(not_brought(rt, fault));
         }
     }
-    match bring_script(rt, world.files(), options.script, options.strike, plan) {
-        Ok(place) => Ok(place),
-        Err(fault) => Err(unread_script(rt, fault)),
+    for line in plan.lines() {
+        report(rt, line);
     }
+    let bytes = read_checked(rt, options)?;
+    Ok(bring_script(rt, world.files(), options.script, bytes, plan)?)
 }
 
 // Tells which files are gone.
@@ -220,7 +246,7 @@ fn tell_gone<R: AllocGlobal + Eprint>(
 }
 
 // Brings the shared folder up to date, if there is one; gives whether all was done.
-fn close<R: AllocGlobal + Files + Eprint + Clone + Drop + Clock>(
+fn close<R: Env + AllocGlobal + Files + Eprint + Clone + Drop + Clock>(
     rt: &R,
     world: &World,
     share: Option<&mut Share>,

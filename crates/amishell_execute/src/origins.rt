@@ -1,6 +1,5 @@
 //! The paths of this machine from which the Shell's files come.
 
-use crate::faults::Fault;
 use crate::host_faults::shown;
 use ados_ram::Place;
 use ados_text::{NoMemory, Text, same_name};
@@ -52,7 +51,7 @@ impl<'a> Origins<'a> {
     }
 
     /// The name by which a user knows the file of a full path: its path on this machine, if it has one.
-    pub fn name(&self, file: &Text) -> Result<String, Fault> {
+    pub fn name(&self, file: &Text) -> Result<String, NoMemory> {
         for one in self.planned {
             let path = one.place.path(self.alloc)?;
             if same_name(path.as_bytes(), file.as_bytes()) {
@@ -79,7 +78,7 @@ fn folder_in<'a, R: Files>(rt: &R, words: &'a str) -> &'a str {
 
 impl Shared<'_> {
     // The path of a file in the folder, if it is below the directory; otherwise its full path.
-    fn name(&self, alloc: Global, file: &Text) -> Result<String, Fault> {
+    fn name(&self, alloc: Global, file: &Text) -> Result<String, NoMemory> {
         let path = shown(file);
         let length = self.directory.as_bytes().len();
         let (Some(above), Some(below)) = (path.get(..length), path.get(length..)) else {
@@ -94,10 +93,14 @@ impl Shared<'_> {
     }
 
     // The path of what is below the folder; nothing is before it if that is the current one.
-    fn path(&self, alloc: Global, below: &str) -> Result<String, Fault> {
+    fn path(&self, alloc: Global, below: &str) -> Result<String, NoMemory> {
         match self.folder {
             "." | "./" => Ok(String::from_str(alloc, below)?),
-            folder => Ok(step_into(alloc, folder, below)?),
+            folder => match step_into(alloc, folder, below) {
+                Ok(path) => Ok(path),
+                // To step down fails for no other reason.
+                Err(_) => Err(NoMemory),
+            },
         }
     }
 }

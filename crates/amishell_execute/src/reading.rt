@@ -3,6 +3,7 @@ ghost use Rattle.std.specs.Prelude.{◌≤◌, IfSome};
 
 use crate::command::matches_of_words;
 use crate::mistakes::mistake;
+use crate::reader::AtEnd;
 use crate::request::{Options, Refused};
 use ados_text::{NoMemory, Text, number};
 use ados_transfer::MirrorOptions;
@@ -26,7 +27,7 @@ pub fn asked<'a, S: AsStr>(alloc: Global, words: &'a [S]) -> Result<Options<'a>,
         Ok(matches) => matches,
         Err(error) => return Err(refusal(alloc, &error)),
     };
-    for name in ["all", "dry"] {
+    for name in ["all", "part", "dry"] {
         if matches.get_flag(name) && matches.get_str("share").is_none() {
             return Err(bad_line(format!(in alloc; "--{name} needs --share")));
         }
@@ -97,11 +98,14 @@ fn options<'a>(
         share: matches.get_str("share"),
         mirror: MirrorOptions {
             all: matches.get_flag("all"),
+            part: matches.get_flag("part"),
             dry: matches.get_flag("dry"),
         },
         quote: matches.get_flag("quote"),
         strike: matches.get_flag("strike"),
-        strict: matches.get_flag("strict"),
+        ascii_marks: matches.get_flag("ascii-marks"),
+        lenient: matches.get_flag("lenient"),
+        at_end: at_end(matches),
         turns: numbers.turns,
         seconds: numbers.seconds,
         errors: list(alloc, matches, "error")?,
@@ -111,6 +115,14 @@ fn options<'a>(
         script,
         args: args.to_vec(alloc)?,
     })
+}
+
+// What is answered at the end of standard input. `clap` takes no other value than `no`.
+fn at_end(matches: &ArgMatches<'_>) -> AtEnd {
+    match matches.get_str("answer") {
+        Some(_) => AtEnd::No,
+        None => AtEnd::Nothing,
+    }
 }
 
 // The values of an option that may be given again.

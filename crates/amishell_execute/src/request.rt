@@ -1,5 +1,6 @@
 //! What a command line asks for.
 
+use crate::reader::AtEnd;
 use ados_text::Text;
 use ados_transfer::MirrorOptions;
 
@@ -26,8 +27,12 @@ pub struct Options<'a> {
     pub quote: bool,
     /// Options that the Shell leaves out, and that have no effect which matters here, are struck out of the script.
     pub strike: bool,
-    /// The script runs only if it has no option that the Shell leaves out.
-    pub strict: bool,
+    /// Bytes of the script above 127 become `_`.
+    pub ascii_marks: bool,
+    /// What is found in the lines of scripts is reported, and they run all the same.
+    pub lenient: bool,
+    /// What is answered at the end of standard input.
+    pub at_end: AtEnd,
     /// The most events and long lines that are taken.
     pub turns: u64,
     /// The most seconds that the run takes.

@@ -1,8 +1,7 @@
 //! What is told of the scripts while they run: those that end early or broken, and the shells that are waited for.
-ghost use Rattle.std.specs.Prelude.{◌<◌, ◌^◌, ◌-◌};
 
 use crate::ends::{cause, end_line};
-use crate::faults::{Fault, report, tell};
+use crate::faults::{report, tell};
 use crate::host_faults::shown_bytes;
 use crate::lost_jumps::lost_jump;
 use crate::origins::Origins;
@@ -59,16 +58,11 @@ impl<'a> Teller<'a> {
         &mut self,
         rt: &R,
         world: &World,
-        session: &Session<'_>,
-    ) -> Result<(), Fault>
-        requires count { session.now.schedule.taken < 2 ^ 64 - 1 }
-    {
+        next: Next,
+    ) -> Result<(), NoMemory> {
         if self.is_quiet && !self.traces {
             return Ok(());
         }
-        let Some(next) = session.next(world) else {
-            return Ok(());
-        };
         let number = shell_of(next);
         let Some(shell) = world.shell(number) else {
             return Ok(());
@@ -88,7 +82,7 @@ impl<'a> Teller<'a> {
     }
 
     // The line on the command that a shell takes next, if it takes one.
-    fn command_of(&self, next: Next, shell: &Shell) -> Result<Option<String>, Fault> {
+    fn command_of(&self, next: Next, shell: &Shell) -> Result<Option<String>, NoMemory> {
         let is_turn = matches!(next, Next::Turn(_));
         if !is_turn || shell.asks_for_line() || self.trail.goes_on(shell.number()) {
             return Ok(None);
@@ -112,7 +106,7 @@ impl<'a> Teller<'a> {
         rt: &R,
         world: &World,
         session: &Session<'_>,
-    ) -> Result<(), Fault> {
+    ) -> Result<(), NoMemory> {
         if self.is_quiet {
             return Ok(());
         }
@@ -129,7 +123,7 @@ impl<'a> Teller<'a> {
         world: &World,
         newer: usize,
         end: &EndReport,
-    ) -> Result<(), Fault> {
+    ) -> Result<(), NoMemory> {
         let script = self.trail.script(end.shell, newer);
         let jump = match script {
             Some(script) if newer == 0 => lost_jump(world, end, script),
@@ -152,7 +146,7 @@ impl<'a> Teller<'a> {
         &mut self,
         rt: &R,
         world: &World,
-    ) -> Result<(), Fault> {
+    ) -> Result<(), NoMemory> {
         let mut line = String::from_str(rt.alloc(), "waiting for ")?;
         let mut sign = "";
         for number in 2..=20 {
@@ -169,7 +163,7 @@ impl<'a> Teller<'a> {
     }
 
     // What a shell runs: its oldest script, or else the first line of its commands.
-    fn shell_name(&self, number: u8) -> Result<String, Fault> {
+    fn shell_name(&self, number: u8) -> Result<String, NoMemory> {
         if let Some(name) = self.trail.first_script(number) {
             return self.origins.name(name);
         }

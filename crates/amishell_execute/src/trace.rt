@@ -1,17 +1,16 @@
 //! `--trace`: the line on a command that is taken.
 
-use crate::faults::Fault;
 use crate::host_faults::shown_bytes;
 use crate::origins::Origins;
 use crate::trail::name_of;
 use ados_flow::Frame;
 use ados_items::trimmed;
 use ados_shell::Shell;
-use ados_text::Text;
+use ados_text::{NoMemory, Text};
 
 /// The line for the next line of a shell's newest frame, if that is a command: a `+` for each frame, the shell's number if that is not
 /// 1, the newest script with its line, and the text.
-pub fn trace_line(origins: &Origins<'_>, shell: &Shell) -> Result<Option<String>, Fault> {
+pub fn trace_line(origins: &Origins<'_>, shell: &Shell) -> Result<Option<String>, NoMemory> {
     let frames = shell.frames();
     let Some(text) = frames.last().and_then(|frame| frame.next_line()) else {
         return Ok(None);
@@ -34,7 +33,7 @@ pub fn trace_line(origins: &Origins<'_>, shell: &Shell) -> Result<Option<String>
 }
 
 // Adds the newest script and its line: the one that is taken, or the one in which there is a command substitution.
-fn push_script(line: &mut String, origins: &Origins<'_>, frames: &[Frame]) -> Result<(), Fault> {
+fn push_script(line: &mut String, origins: &Origins<'_>, frames: &[Frame]) -> Result<(), NoMemory> {
     let mut is_newest = true;
     for frame in frames.iter().rev() {
         if let (Some(name), Some((_, begun))) = (name_of(frame), frame.script_line()) {
