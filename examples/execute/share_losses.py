@@ -200,18 +200,9 @@ def run(program, room, random_, count):
         child = subprocess.Popen([program, '--host', f'act={act}', '--share', folder, os.path.join(room, 'script')], bufsize=0,
                                  stdin=subprocess.PIPE, stdout=subprocess.PIPE, stderr=told, preexec_fn=limit)
     for number, lines in enumerate(users):
-<<<<<<< HEAD
-        said = b''
-        while not said.endswith(f'{number}? '.encode()):
-            byte = child.stdout.read(1)
-            if not byte:
-                raise SystemExit(f'the script ended before step {number}: {said[-300:].decode()}')
-            said += byte
+        await_step(child, number)
         if asks[number]:
             await_input(child.pid)
-=======
-        await_step(child, number)
->>>>>>> 9fcac37b80fe7e93c733c58e443387f4799bb74e
         looks.look(f'{room}, before step {number}')
         sh(lines, folder)
         looks.found = tokens(folder)
