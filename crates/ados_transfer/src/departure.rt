@@ -33,6 +33,8 @@ pub struct Departure<'a> {
     pub changes_kind: bool,
     /// It changes its kind so, or is below an object that does.
     pub is_within_kind_change: bool,
+    /// If it is a file that is to be deleted, the path of one with its bytes that the Shell has outside of the directory.
+    pub copy: Option<String>,
 }
 
 impl<'a> Departure<'a> {
@@ -46,6 +48,7 @@ impl<'a> Departure<'a> {
             is_new: false,
             changes_kind,
             is_within_kind_change: changes_kind,
+            copy: None,
         })
     }
 
@@ -57,6 +60,7 @@ impl<'a> Departure<'a> {
             is_new: true,
             changes_kind: false,
             is_within_kind_change: false,
+            copy: None,
         }
     }
 

@@ -48,9 +48,11 @@ impl Mirror {
         if moment == Moment::End {
             self.forgive_deleted(files)?;
         }
-        self.spare_moved(files)?;
+        self.watch(files)?;
         let mut account = Account::new(self.alloc, moment);
-        let departures = self.departures(files, &mut account)?;
+        let asides = self.begin_moves(rt, files, &mut account)?;
+        let mut departures = self.departures(files, &mut account)?;
+        self.find_copies(files, &mut departures)?;
         account.is_private = self.loses_private(rt, &departures);
         for is_new in [true, false] {
             for (key, departure) in &departures.by_key {
@@ -60,13 +62,35 @@ impl Mirror {
             }
         }
         self.change_kinds(rt, files, &departures, &mut account)?;
-        for (key, departure) in departures.by_key.iter().rev() {
-            if departure.entry.is_none() && !departure.is_within_kind_change {
-                self.delete_here(rt, key.as_str(), departure, &mut account)?;
-            }
+        self.delete_gone(rt, files, &departures, &mut account)?;
+        if self.finish_moves(rt, files, asides, &mut account)? {
+            self.delete_gone(rt, files, &departures, &mut account)?;
+        }
+        if moment == Moment::End {
+            self.report_waiting(files)?;
         }
         self.report_temporaries(rt, &account)?;
         self.report_account(&account)
+    }
+
+    // Deletes what is gone, the deepest first. By now a large file may have got the name.
+    fn delete_gone<R: AllocGlobal + Files>(
+        &mut self,
+        rt: &R,
+        files: &Ram,
+        departures: &Departures<'_>,
+        account: &mut Account,
+    ) -> Result<(), TransferFault> {
+        for (key, departure) in departures.by_key.iter().rev() {
+            let is_there = self
+                .records
+                .get(key.as_str())
+                .is_some_and(|record| record.is_kept(files.look(&record.place)));
+            if departure.entry.is_none() && !departure.is_within_kind_change && !is_there {
+                self.delete_here(rt, key.as_str(), departure, account)?;
+            }
+        }
+        Ok(())
     }
 
     // What was not written, and what the script deleted since, is no longer missed.

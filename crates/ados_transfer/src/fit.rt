@@ -1,4 +1,4 @@
-//! Whether a folder fits into the Shell's files at the start, and which of its files become stand-ins.
+//! Whether there is room at the start for all names of a folder, and for which of its files there is none for the bytes.
 
 use crate::arrivals::{Arrival, Coming};
 use crate::faults::TransferFault;
@@ -22,7 +22,7 @@ pub struct Need {
 }
 
 impl Need {
-    // What a folder needs, by a look at it: a file that is too large in any case needs no bytes.
+    // What a folder needs, by a look at it: a file that is too large by itself is a stand-in, which needs no bytes.
     fn of(alloc: Global, folder: &str, look: &Look, files: &Ram) -> Result<Need, TransferFault> {
         let mut need = Need {
             folder: String::from_str(alloc, folder)?,
@@ -43,11 +43,10 @@ impl Need {
         Ok(need)
     }
 
-    // There is room for all of it.
+    // There is room for each name: a name that is not there would be taken for a file that does not exist. A file without room for
+    // its bytes has a stand-in.
     fn fits(&self) -> bool {
-        let objects = self.objects.saturating_add(self.others.objects());
-        let bytes = self.bytes.saturating_add(self.others.bytes() as u64);
-        objects <= OBJECTS && bytes <= BYTES_LIMIT as u64
+        self.objects.saturating_add(self.others.objects()) <= OBJECTS
     }
 }
 
@@ -87,7 +86,7 @@ impl Mirror {
     pub(crate) fn report_stand_ins(&mut self, arrivals: &[Arrival]) -> Result<(), TransferFault> {
         let mut paths = Vec::new(self.alloc);
         for arrival in arrivals {
-            if matches!(arrival.coming, Coming::StandIn) {
+            if matches!(arrival.coming, Coming::StandIn(_)) {
                 paths.push(arrival.path.as_str())?;
             }
         }

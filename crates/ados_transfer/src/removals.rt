@@ -1,7 +1,7 @@
 //! How an object of the folder of a share that is gone in the Shell's files, or of another kind there, is deleted.
 
 use crate::account::{Account, Aside, Moment};
-use crate::decision::{Removal, decide_removal};
+use crate::decision::{Removal, Terms, decide_removal};
 use crate::departure::{Departure, move_aside, own_path, remove};
 use crate::faults::TransferFault;
 use crate::here::Here;
@@ -28,17 +28,22 @@ impl Mirror {
         account: &mut Account,
     ) -> Result<(), TransferFault> {
         let path = departure.path.as_str();
+        let is_last_copy = self.is_last_copy(rt, key, departure)?;
         let Some(record) = self.records.get(key) else {
             return Ok(());
         };
         let here = Here::look(rt, path)?;
         let is_large = record.is_stand_in();
+        let terms = Terms {
+            may_delete: record.watch.may_delete(),
+            has_unwritten: account.has_unwritten(),
+            is_last_copy,
+        };
         let removal = decide_removal(
             &record.state(),
             &here.state(Some(record)),
             &record.state_there(departure.entry),
-            record.watch.may_delete(),
-            account.has_unwritten(),
+            terms,
         );
         match removal {
             Removal::Forget => {
@@ -52,6 +57,10 @@ impl Mirror {
                 // It comes in again: later its bytes may be nowhere else.
                 self.forget(key);
                 account.hold(path)
+            }
+            Removal::Wait => {
+                add_unwritten_within_kind_change(departure, account)?;
+                self.wait(key, departure)
             }
             Removal::Conflict => {
                 add_unwritten_within_kind_change(departure, account)?;

@@ -14,6 +14,8 @@ pub struct Reports {
     // The keys of those for which this machine's object stays, and of those that could not be written or brought in.
     kept: BTreeSet<String>,
     failing: BTreeSet<String>,
+    // The keys of those that could not be brought in: they are on this machine alone.
+    absent: BTreeSet<String>,
     // The keys of those that the script changed, and for which this machine's object stood. They have not been written since.
     lost: BTreeSet<String>,
     // The keys of those that could not be read at the last look, and at the one before.
@@ -32,6 +34,7 @@ impl Reports {
             reported: BTreeSet::new(alloc),
             kept: BTreeSet::new(alloc),
             failing: BTreeSet::new(alloc),
+            absent: BTreeSet::new(alloc),
             lost: BTreeSet::new(alloc),
             unread: BTreeSet::new(alloc),
             unread_before: BTreeSet::new(alloc),
@@ -55,11 +58,13 @@ impl Reports {
         Ok(())
     }
 
-    /// The keys of what could not be written or brought in, and of those of which a change is lost.
+    /// The keys of what could not be written, and of those of which a change is lost.
     pub fn missed(&self) -> Result<Vec<String>, TransferFault> {
         let mut keys = Vec::new(self.alloc);
         for key in self.failing.iter().chain(self.lost.iter()) {
-            keys.push(key.clone()?)?;
+            if !self.absent.contains(key.as_str()) {
+                keys.push(key.clone()?)?;
+            }
         }
         Ok(keys)
     }
@@ -73,6 +78,7 @@ impl Reports {
     pub fn settle(&mut self, key: &str) {
         self.kept.remove(key);
         self.failing.remove(key);
+        self.absent.remove(key);
     }
 
     /// Reports a line about an object.
@@ -143,6 +149,12 @@ impl Reports {
             self.report(text, path)?;
         }
         Ok(())
+    }
+
+    /// Reports that an object could not be brought in, once until that is settled.
+    pub fn report_absent(&mut self, key: &str, path: &str) -> Result<(), TransferFault> {
+        self.absent.insert(String::from_str(self.alloc, key)?)?;
+        self.fail(key, "cannot bring in", path)
     }
 
     /// Begins a look: nothing is known yet of what cannot be read.

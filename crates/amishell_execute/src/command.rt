@@ -46,8 +46,7 @@ folder comes in when it ends";
 const ALL: &str = "Shares also what has a name that begins with a dot";
 
 const PART: &str =
-    "Shares what fits of a folder that has more than 1024 files and folders, or more than 1048576 bytes in
-files that are not too large by themselves; without it nothing runs then";
+    "Shares what fits of a folder that has more than 1024 files and folders; without it nothing runs then";
 
 const DRY: &str =
     "Tells what would be written to the shared folder and deleted there, and writes nothing itself; programs

@@ -103,7 +103,7 @@ impl Share {
         ensures held { session.new.held ≡ session.old.held }
         ensures ran { RunsLines world.old world.new }
     {
-        self.mirror.watch(world.files());
+        self.mirror.watch(world.files())?;
         if !self.is_filled {
             if is_ready && world.wants_line() {
                 self.bring_in(rt, world, launcher, session)?;
