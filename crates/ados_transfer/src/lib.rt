@@ -35,7 +35,7 @@ mod writes;
 mod writing;
 
 pub use arrivals::Arrival;
-pub use bringing::{bring, bring_script, bytes_of, read_script};
+pub use bringing::{bring, bring_script, bytes_of, parted, read_script};
 pub use decision::{Decision, Removal, State, decide, decide_removal};
 pub use faults::TransferFault;
 pub use lines::{BRING, Lines};

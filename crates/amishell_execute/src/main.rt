@@ -9,6 +9,7 @@ mod checks;
 mod command;
 mod faults;
 mod hosts;
+mod inspections;
 mod launcher;
 mod play;
 mod reader;
@@ -23,6 +24,7 @@ use ados_world::{NewFault, World};
 use checks::{Checks, read_checked};
 use faults::{Fault, report};
 use hosts::hosts_for;
+use inspections::inspect_all;
 use play::{Script, play};
 use request::{Options, Refused};
 use share::Share;
@@ -51,6 +53,7 @@ fn run<R: Env + AllocGlobal + Files + Input + Print + Eprint + Processes + Clone
 ) -> Result<u8, Fault> {
     let words = given_words(rt)?;
     match reading::asked(rt.alloc(), &words) {
+        Ok(options) if options.check => inspect_all(rt, &options),
         Ok(options) => execute(rt, &options),
         Err(Refused::Help(text)) => show(rt, &text),
         Err(Refused::BadLine) => Err(Fault::BadLine),
