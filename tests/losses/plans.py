@@ -22,7 +22,9 @@ class Plan:
         kind = numbers.random()
         self.killed_at = numbers.random() * 1.2 if kind < 0.25 else None
         self.signal = numbers.choice(SIGNALS)
-        self.scripts = [self.script() for _ in range(2 if kind > 0.85 else 1)]
+        # what a program shows may be changed by the other script before it is destroyed
+        self.is_alone = kind <= 0.85
+        self.scripts = [self.script() for _ in range(1 if self.is_alone else 2)]
         self.options = ["--take", "RAM:Work=taken"] if len(self.scripts) == 1 and numbers.random() < 0.4 else []
         self.has_large = bool(self.sizes)
 
@@ -90,7 +92,8 @@ class Plan:
         """The steps of a script, each some lines."""
         steps = [["FailAt 100"]]
         while sum(map(len, steps)) < MOST_LINES:
-            steps.append(self.step())
+            step = self.step()
+            steps += [step] if self.is_alone or not step[0].startswith("show") else []
             if self.numbers.random() < 0.08:
                 break
         return steps

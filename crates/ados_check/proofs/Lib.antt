@@ -1,1 +1,2 @@
 mod StrikeLemmas
+mod ReadingLemmas

@@ -1,5 +1,5 @@
 -- Bytes above 127 in the lines of a script's file.
-use Rattle.std.specs.Prelude.{ℕ, ◌≡◌, ◌==◌, ◌&&◌, ◌||◌, not, Bool, true, false, List, [], ◌∷◌, get_or}
+use Rattle.std.specs.Prelude.{ℕ, ◌≡◌, ◌==◌, ◌&&◌, ◌||◌, not, Bool, true, false, List, [], ◌∷◌, get_or, is_none, position}
 use Rattle.std.specs.List.{list_any, slice_split}
 use Rattle.ados_text.specs.Text.{Bytes, is_past_ascii}
 use Rattle.ados_text.specs.Lines.{is_newline}
@@ -15,7 +15,7 @@ is_remark [] = false
 
 -- the line has a byte past ASCII before its comment; if its script has directives, it is none that says nothing
 abbrev pub has_sign : Bool → Bytes → Bool
-has_sign dotted line = not (dotted && is_remark line) && list_any is_past_ascii (without_comment line)
+has_sign dotted line = not (dotted && is_remark line) && not (is_none (position is_past_ascii (without_comment line)))
 
 -- the file has directives: its first byte is a dot
 abbrev pub is_dotted : Bytes → Bool

@@ -44,7 +44,7 @@ mod writing;
 
 pub use account::Moment;
 pub use arrivals::Arrival;
-pub use bringing::{bring, bring_script, bytes_of, read_script};
+pub use bringing::{bring, bring_script, bytes_of, parted, read_script};
 pub use decision::{Decision, Removal, State, Terms, decide, decide_removal};
 pub use faults::TransferFault;
 pub use lines::{BRING, Lines};

@@ -1,12 +1,13 @@
 -- The exit status.
 use Rattle.std.specs.Prelude.{ℕ, ℤ, pos, if◌then◌else◌, nat_lt}
 use Rattle.amishell_execute.specs.declared.status.Status.{Status}
-use Rattle.amishell_execute.specs.declared.status.Status.TheVariants.{Done, Ended, BadLine, Limit, Failed, Unreadable}
+use Rattle.amishell_execute.specs.declared.status.Status.TheVariants.{Done, Ended, Wrong, BadLine, Limit, Failed, Unreadable}
 
 -- the number of each
 abbrev pub number_of : Status → ℕ
 number_of Done = 0
 number_of (Ended n) = n
+number_of Wrong = 1
 number_of BadLine = 2
 number_of Limit = 124
 number_of Failed = 125

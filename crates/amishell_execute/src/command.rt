@@ -66,6 +66,10 @@ const LENIENT: &str =
 have bytes above 127, and runs it all the same. Without it neither it nor a script that it calls runs
 with such a line";
 
+const CHECK: &str =
+    "Runs nothing: writes a line for each error in SCRIPT, in ARGS, which are scripts too, and in those that
+they call, as build:12: error: .. or build:12: note: ..; the exit status is 1 if there is an error";
+
 const ASCII_MARKS: &str = "Writes _ in the place of each byte above 127 in the script";
 
 const ANSWERS: &[&str] = &["no"];
@@ -133,6 +137,7 @@ fn command<'a>(alloc: Global) -> Result<Command<'a>, AllocError> {
         .arg(flag(alloc, "dry", DRY))?
         .arg(flag(alloc, "quote", QUOTE))?
         .arg(flag(alloc, "strike", STRIKE))?
+        .arg(flag(alloc, "check", CHECK))?
         .arg(flag(alloc, "ascii-marks", ASCII_MARKS))?
         .arg(flag(alloc, "lenient", LENIENT))?
         .arg(flag(alloc, "strict", STRICT))?

@@ -20,7 +20,7 @@ pub enum Cause<'s> {
 }
 
 /// Why an end is told: exactly if it was early or broken, or a jump found nothing.
-pub fn cause<'s>(report: &EndReport, jump: Option<LostJump<'s>>) -> Option<Cause<'s>>
+pub fn cause_of<'s>(report: &EndReport, jump: Option<LostJump<'s>>) -> Option<Cause<'s>>
     ensures { is_some result ≡ (report.now.early || report.now.broken || is_some jump.entry) }
 {
     if report.broken {

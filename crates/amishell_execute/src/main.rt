@@ -17,6 +17,7 @@ mod gate;
 mod home;
 mod host_faults;
 mod hosts;
+mod inspections;
 mod launcher;
 mod losses;
 mod lost_jumps;
@@ -48,6 +49,7 @@ use error_codes::{ErrorCode, error_codes};
 use faults::{Fault, not_brought, report};
 use gate::Gate;
 use hosts::hosts_for;
+use inspections::inspect_all;
 use losses::{Kept, tell_losses};
 use origins::Origins;
 use play::{Script, play};
@@ -80,6 +82,7 @@ fn run<R: Env + AllocGlobal + Files + Input + Print + Eprint + Processes + Clone
 ) -> Result<Status, Fault> {
     let words = given_words(rt)?;
     match reading::asked(rt.alloc(), &words) {
+        Ok(options) if options.check => inspect_all(rt, &options),
         Ok(options) => execute(rt, &options),
         Err(Refused::Help(text)) => show(rt, &text),
         Err(Refused::BadLine(reason)) => Err(Fault::BadLine(reason)),

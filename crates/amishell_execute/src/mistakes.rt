@@ -12,7 +12,7 @@ pub fn mistake(alloc: Global, error: &Error) -> Result<String, AllocError> {
     let text = error.to_string(alloc)?;
     match (error.kind(), quoted(text.as_str())) {
         (ErrorKind::UnknownArgument, Some(word)) => unknown(alloc, word, text.as_str()),
-        (ErrorKind::InvalidValue, Some(option)) => without_value(alloc, option),
+        (ErrorKind::InvalidValue, Some(word)) => invalid_value(alloc, word, text.as_str()),
         (ErrorKind::ArgumentConflict, Some(option)) => {
             format!(in alloc; "{name} is given twice", name = option_name(option))
         }
@@ -30,6 +30,21 @@ fn unknown(alloc: Global, word: &str, text: &str) -> Result<String, AllocError> 
     match similar {
         Some(option) => format!(in alloc; "unknown option {word} (did you mean {option}?)"),
         None => format!(in alloc; "unknown option {word}"),
+    }
+}
+
+// The line for an option whose value is none that it takes, as `clap` writes it: `'yes' for '--answer <no>'`; or that has no value.
+fn invalid_value(alloc: Global, word: &str, text: &str) -> Result<String, AllocError> {
+    let option = match text.split_once(" for ") {
+        Some((_, after)) => quoted(after).and_then(|option| option.split_once(" <")),
+        None => None,
+    };
+    match option {
+        Some((name, value)) if !word.starts_with("--") => {
+            let value = value.strip_suffix(">").unwrap_or(value);
+            format!(in alloc; "{name} takes {value}, not {word}")
+        }
+        _ => without_value(alloc, word),
     }
 }
 

@@ -3,9 +3,8 @@
 use crate::host_faults::shown;
 use ados_ram::Place;
 use ados_text::{NoMemory, Text, same_name};
-use ados_transfer::{Planned, step_into};
+use ados_transfer::{Planned, parted, step_into};
 use std::alloc::Global;
-use std::fs;
 use std::rt::Files;
 
 /// Where the Shell's files come from.
@@ -39,7 +38,7 @@ impl<'a> Origins<'a> {
         let share = match (words, directory) {
             (Some(words), Some(directory)) => Some(Shared {
                 directory: directory.path(rt.alloc())?,
-                folder: folder_in(rt, words),
+                folder: parted(rt, words).0,
             }),
             _ => None,
         };
@@ -62,17 +61,6 @@ impl<'a> Origins<'a> {
             Some(share) => share.name(self.alloc, file),
             None => Ok(String::from_str(self.alloc, shown(file))?),
         }
-    }
-}
-
-// The folder that words of `--share` name. A path that exists is taken as a whole.
-fn folder_in<'a, R: Files>(rt: &R, words: &'a str) -> &'a str {
-    if fs::metadata(rt, words).is_ok() {
-        return words;
-    }
-    match words.rsplit_once('=') {
-        Some((folder, _)) => folder,
-        None => words,
     }
 }
 

@@ -103,6 +103,7 @@ fn options<'a>(
         },
         quote: matches.get_flag("quote"),
         strike: matches.get_flag("strike"),
+        check: matches.get_flag("check"),
         ascii_marks: matches.get_flag("ascii-marks"),
         lenient: matches.get_flag("lenient"),
         at_end: at_end(matches),

@@ -27,6 +27,8 @@ pub struct Options<'a> {
     pub quote: bool,
     /// Options that the Shell leaves out, and that have no effect which matters here, are struck out of the script.
     pub strike: bool,
+    /// The script and its arguments are scripts that are only looked at.
+    pub check: bool,
     /// Bytes of the script above 127 become `_`.
     pub ascii_marks: bool,
     /// What is found in the lines of scripts is reported, and they run all the same.

@@ -11,6 +11,8 @@ pub enum Status {
     Done,
     /// The script ended with this code.
     Ended(u8),
+    /// A script that was looked at has an error.
+    Wrong,
     /// The words are not a command line of the program.
     BadLine,
     /// As many events, or seconds, as may be have passed.
@@ -40,6 +42,7 @@ impl Status {
         match self {
             Status::Done => 0,
             Status::Ended(number) => number,
+            Status::Wrong => 1,
             Status::BadLine => 2,
             Status::Limit => 124,
             Status::Failed => 125,

@@ -1,6 +1,6 @@
 //! What is told of the scripts while they run: those that end early or broken, and the shells that are waited for.
 
-use crate::ends::{cause, end_line};
+use crate::ends::{cause_of, end_line};
 use crate::faults::{report, tell};
 use crate::host_faults::shown_bytes;
 use crate::lost_jumps::lost_jump;
@@ -129,7 +129,7 @@ impl<'a> Teller<'a> {
             Some(script) if newer == 0 => lost_jump(world, end, script),
             _ => None,
         };
-        let Some(cause) = cause(end, jump) else {
+        let Some(cause) = cause_of(end, jump) else {
             return Ok(());
         };
         let text = match script {
