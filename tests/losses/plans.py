@@ -22,7 +22,9 @@ class Plan:
         kind = numbers.random()
         self.killed_at = numbers.random() * 1.2 if kind < 0.25 else None
         self.signal = numbers.choice(SIGNALS)
-        self.scripts = [self.script() for _ in range(2 if kind > 0.85 else 1)]
+        # what a program shows may be changed by the other script before it is destroyed
+        self.is_alone = kind <= 0.85
+        self.scripts = [self.script() for _ in range(1 if self.is_alone else 2)]
         self.options = ["--take", "RAM:Work=taken"] if len(self.scripts) == 1 and numbers.random() < 0.4 else []
         self.has_large = bool(self.sizes)
 
@@ -84,15 +86,17 @@ class Plan:
             return f"chmod {numbers.choice(['600', '644', '755'])} {path}"
         return f"mkdir -p {numbers.choice(FOLDERS)}"
 
-    # What the script does: what it destroys it shows first.
+    # What the script does: what it destroys it shows first, by itself or by a program that shows what is in a directory of this machine.
 
     def script(self):
-        lines = ["FailAt 100"]
-        while len(lines) < MOST_LINES:
-            lines += [line for group in [self.step()] for line in group]
+        """The steps of a script, each some lines."""
+        steps = [["FailAt 100"]]
+        while sum(map(len, steps)) < MOST_LINES:
+            step = self.step()
+            steps += [step] if self.is_alone or not step[0].startswith("show") else []
             if self.numbers.random() < 0.08:
                 break
-        return lines
+        return steps
 
     def step(self):
         numbers, path, other, out = self.numbers, self.path(), self.path(), self.numbers.choice(OUT)
@@ -107,15 +111,16 @@ class Plan:
             lambda: [f"If NOT EXISTS {folder}", f"Rename {out} {folder}", "EndIf"],
             lambda: [f"If NOT EXISTS {second}", f"Rename {folder} {second}", "EndIf"],
             lambda: [f"If NOT EXISTS {second}", f"Rename {folder} {second}", "EndIf"],
-            lambda: [f"Type {other}", f"Copy {path} {other} QUIET"],
-            lambda: [*self.shown(out), f"Copy {path} {out} QUIET"],
-            lambda: [*[f"Type {second}/{name}" for name in NAMES], f"Copy {folder} {second} ALL QUIET"],
+            lambda: [f"If NOT EXISTS {other}", f"Copy {path} {other} QUIET", "EndIf"],
+            lambda: [f"show {other}", f"Copy {path} {other} QUIET"],
+            lambda: [f"If NOT EXISTS {out}", f"Copy {path} {out} QUIET", "EndIf"],
+            lambda: [f"show {second}", f"Copy {folder} {second} ALL QUIET"],
             lambda: [f"Echo >>{path} more"],
-            lambda: [*self.shown(out), f"Echo >>{out} more"],
+            lambda: [f"Type {out}", f"Echo >>{out} more"],
             lambda: [f"Type {path}", f"Echo >{path} new"],
             lambda: [f"Type {path}", f"List {path}", f"Delete {path} QUIET"],
-            lambda: [*self.shown(folder), f"Delete {folder} ALL QUIET"],
-            lambda: [*self.shown(out), f"Delete {out} ALL QUIET"],
+            lambda: [f"show {folder}", f"Delete {folder} ALL QUIET"],
+            lambda: [f"Type {out}", f"List {out}", f"Delete {out} QUIET"],
             lambda: [f"MakeDir {folder}"],
             lambda: [f"Protect {path} rwed"],
             lambda: [f"Protect {path} {numbers.choice(['+d', '+w', '-w', '-d', '+r'])}"],
@@ -126,18 +131,13 @@ class Plan:
             lambda: [self.act()],
         ])()
 
-    @staticmethod
-    def shown(path):
-        """Shows what stands at a path, a file or a directory of files."""
-        return [line for one in [path, *[f"{path}/{name}" for name in NAMES]] for line in (f"Type {one}", f"List {one}")]
-
     # A plan without one of its lines or objects.
 
     def shorter(self):
-        for number, lines in enumerate(self.scripts):
-            for place in reversed(range(len(lines))):
-                yield self.changed(scripts=[[*lines[:place], *lines[place + 1:]] if number == one else other
-                                            for one, other in enumerate(self.scripts)])
+        for number, steps in enumerate(self.scripts):
+            for place in reversed(range(len(steps))):
+                for fewer in self.shorter_steps(steps, place):
+                    yield self.changed(scripts=[fewer if number == one else other for one, other in enumerate(self.scripts)])
         for number, lines in enumerate(self.acts):
             for place in range(len(lines)):
                 yield self.changed(acts=[[*lines[:place], *lines[place + 1:]] if number == one else other for one, other in enumerate(self.acts)])
@@ -149,6 +149,15 @@ class Plan:
         if self.options:
             yield self.changed(options=[])
 
+    @staticmethod
+    def shorter_steps(steps, place):
+        """The steps without this one, or without one of its lines, but for those which show what is destroyed."""
+        yield [*steps[:place], *steps[place + 1:]]
+        lines = steps[place]
+        if len(lines) > 1 and not any(line.startswith(("Type", "show")) for line in lines):
+            for at in range(len(lines)):
+                yield [*steps[:place], [*lines[:at], *lines[at + 1:]], *steps[place + 1:]]
+
     def changed(self, **what):
         other = copy.copy(self)
         other.__dict__.update(what)
@@ -157,7 +166,7 @@ class Plan:
     def __str__(self):
         stands = [f"    {path} -> {what}" if isinstance(what, Link) else f"    {path}: {len(what)} bytes, {what[:8]!r}" for path, what in self.before.items()]
         stands += [f"    {path}: mode {mode:o}" for path, mode in self.modes.items()]
-        scripts = [f"    script {number}: {line}" for number, lines in enumerate(self.scripts) for line in lines]
+        scripts = [f"    script {number}: {line}" for number, steps in enumerate(self.scripts) for lines in steps for line in lines]
         acts = [f"    act{number}: {line}" for number, lines in enumerate(self.acts) for line in lines]
         killed = [] if self.killed_at is None else [f"    {self.signal.name} at {self.killed_at:.2f} of its time"]
         return "\n".join([*stands, *scripts, *acts, *killed, f"    options {self.options}"])

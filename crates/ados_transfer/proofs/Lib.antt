@@ -1,5 +1,4 @@
 mod WordLemmas
-mod StrikeLemmas
 mod WithinLemmas
 mod PathLemmas
 mod KeyLemmas

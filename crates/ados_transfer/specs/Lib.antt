@@ -1,9 +1,9 @@
 pub mod Words
 pub mod Planned
-pub mod LeftOut
 pub mod Mirror
 pub mod Paths
 pub mod StandIns
+pub mod Stamps
 pub mod Account
 pub mod Here
 pub mod Records

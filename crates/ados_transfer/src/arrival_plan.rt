@@ -135,8 +135,9 @@ impl<'a> ArrivalPlan<'a> {
             lines.add_file(place, entry, is_script)?;
             Coming::File(Octets::from_vec(bytes))
         } else {
-            lines.add_stand_in(place, entry, stamp.size)?;
-            Coming::StandIn
+            let comment = mirror.stand_ins.next_comment(stamp.size)?;
+            lines.add_stand_in(place, entry, &comment)?;
+            Coming::StandIn(comment)
         };
         self.room.put(coming.size(), entry);
         let arrival = Arrival::new(self.alloc, (key, seen.path.as_str()), coming, stamp)?;

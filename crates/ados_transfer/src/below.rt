@@ -4,10 +4,12 @@
 //!
 //! Where there is no `/proc` the folder is used by its name: then a link that takes the name between the look and the call is followed.
 
+use crate::faults::TransferFault;
 use crate::paths::last_piece;
 use crate::writing::{BESIDE, joined};
 use std::alloc::{Alloc, AllocError, Allocator, Global};
 use std::cell::Cell;
+use std::collections::BTreeSet;
 use std::fs::{Metadata, OpenFile, OpenOptions, Permissions};
 use std::io::{Error, ErrorKind};
 use std::os::unix::fs::MetadataExt;
@@ -28,7 +30,7 @@ const LAST: usize = 1024;
 pub struct Below<'a, R> {
     rt: &'a R,
     // The paths of the temporary files that were made.
-    made: Cell<Vec<String>>,
+    made: Cell<BTreeSet<String>>,
 }
 
 // A folder that is open, and a path that leads to it.
@@ -51,29 +53,31 @@ impl<'a, R: AllocGlobal + Files> Below<'a, R> {
     pub fn new(rt: &'a R) -> Below<'a, R> {
         Below {
             rt,
-            made: Cell::new(Vec::new(rt.alloc())),
+            made: Cell::new(BTreeSet::new(rt.alloc())),
         }
     }
 
     /// The paths of the temporary files that were made and are still there.
-    pub fn temporaries(&self) -> Vec<String> {
-        let mut left = self.made.replace(Vec::new(self.rt.alloc()));
-        left.retain(|path| fs::symlink_metadata(self.rt, path.as_str()).is_ok());
-        left
+    pub fn temporaries(&self) -> Result<Vec<String>, TransferFault> {
+        let mut left = Vec::new(self.rt.alloc());
+        for path in self.made.replace(BTreeSet::new(self.rt.alloc())) {
+            if fs::symlink_metadata(self.rt, path.as_str()).is_ok() {
+                left.push(path)?;
+            }
+        }
+        Ok(left)
     }
 
-    // Notes a temporary file before it is made.
-    fn note(&self, path: &str) -> Result<(), AllocError> {
+    // Notes a temporary file that was made. If there is no memory for that it is not reported, should it be left.
+    fn note(&self, path: &str) {
         if !last_piece(path).as_bytes().starts_with(BESIDE.as_bytes()) {
-            return Ok(());
+            return;
         }
-        let mut made = self.made.replace(Vec::new(self.rt.alloc()));
-        let noted = match String::from_str(self.rt.alloc(), path) {
-            Ok(path) => made.push(path).map_err(AllocError::from),
-            Err(error) => Err(error),
-        };
+        let mut made = self.made.replace(BTreeSet::new(self.rt.alloc()));
+        if let Ok(path) = String::from_str(self.rt.alloc(), path) {
+            let _ = made.insert(path);
+        }
         self.made.set(made);
-        noted
     }
 
     // The way to an object.
@@ -192,10 +196,11 @@ impl<R: AllocGlobal + Files> Files for Below<'_, R> {
 
     fn open_file(&self, how: &OpenOptions, path: &str) -> io::Result<R::File> {
         let way = self.way(path)?;
+        let file = self.rt.open_file(how, way.path.as_str())?;
         if how.asks_create_new() {
-            self.note(path)?;
+            self.note(path);
         }
-        self.rt.open_file(how, way.path.as_str())
+        Ok(file)
     }
 
     fn open_dir(&self, path: &str) -> io::Result<R::Dir> {
@@ -223,14 +228,16 @@ impl<R: AllocGlobal + Files> Files for Below<'_, R> {
 
     fn rename(&self, from: &str, to: &str) -> io::Result<()> {
         let (old, new) = (self.way(from)?, self.way(to)?);
-        self.note(to)?;
-        self.rt.rename(old.path.as_str(), new.path.as_str())
+        self.rt.rename(old.path.as_str(), new.path.as_str())?;
+        self.note(to);
+        Ok(())
     }
 
     fn hard_link(&self, original: &str, link: &str) -> io::Result<()> {
         let (old, new) = (self.way(original)?, self.way(link)?);
-        self.note(link)?;
-        self.rt.hard_link(old.path.as_str(), new.path.as_str())
+        self.rt.hard_link(old.path.as_str(), new.path.as_str())?;
+        self.note(link);
+        Ok(())
     }
 
     fn remove_file(&self, path: &str) -> io::Result<()> {

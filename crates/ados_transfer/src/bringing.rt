@@ -1,7 +1,6 @@
 //! The files and folders of this machine that are brought in.
 
 use crate::faults::{TransferFault, named};
-use crate::left_out::strike;
 use crate::paths::{base_name, name_of, place_in, step_into};
 use crate::plan::{Plan, file_of};
 use crate::script::shell_script;
@@ -14,6 +13,9 @@ use std::{fs, io};
 
 // A walk looks at this many files and folders at most: the Shell holds 1,024 at most.
 const WALK: usize = 4096;
+
+// A name of the Shell's files has at most this many bytes.
+const NAME_BYTES: usize = 30;
 
 /// Adds what words of `--bring` name, as `PATH` or `PATH=NAME`, to what is brought in. Devices and pipes are no files: `CannotRead` if
 /// PATH is one, and one that is in a folder is left out, with a line.
@@ -32,25 +34,45 @@ pub fn bring<R: AllocGlobal + Files + Clone + Drop>(
     walk(rt, files, path, place, plan)
 }
 
-/// Adds a script of this machine to what is brought in, as a file in S:, and gives its place; with `strikes`, without the options
-/// that have no effect which matters here.
+/// The bytes of a script of this machine as the Shell reads it.
+pub fn read_script<R: AllocGlobal + Files>(rt: &R, path: &str) -> Result<Vec<u8>, TransferFault> {
+    let bytes = read_file(rt, path)?;
+    Ok(shell_script(rt.alloc(), bytes.as_slice())?)
+}
+
+/// Adds a script of this machine with these bytes to what is brought in, as a file in S:, and gives its place. Where its name is none
+/// of the Shell's files, it has a similar one there.
 pub fn bring_script<R: AllocGlobal + Files>(
     rt: &R,
     files: &Ram,
     path: &str,
-    strikes: bool,
+    script: Vec<u8>,
     plan: &mut Plan,
 ) -> Result<Place, TransferFault> {
     let alloc = rt.alloc();
     let own = base_name(rt, path)?;
-    let place = place_in(alloc, "S:")?.with(name_of(alloc, own.as_str(), path)?)?;
-    let bytes = read_file(rt, path)?;
-    let mut script = shell_script(alloc, bytes.as_slice())?;
-    if strikes {
-        strike(alloc, &mut script)?;
-    }
+    let name = similar_name(alloc, own.as_str())?;
+    let place = place_in(alloc, "S:")?.with(name_of(alloc, name.as_str(), path)?)?;
     plan.add_file(files, place.copy()?, file_of(script, false), path)?;
     Ok(place)
+}
+
+// A name of this machine as one of the Shell's files: its first 30 bytes, with `_` for each that no such name has.
+fn similar_name(alloc: Global, own: &str) -> Result<String, TransferFault> {
+    let mut name = String::new(alloc);
+    for byte in own.as_bytes().iter().take(NAME_BYTES) {
+        name.push(if is_name_sign(*byte) {
+            char::from(*byte)
+        } else {
+            '_'
+        })?;
+    }
+    Ok(name)
+}
+
+// A name of the Shell's files may have this byte.
+fn is_name_sign(byte: u8) -> bool {
+    matches!(byte, b' '..=b'~') && byte != b':' && byte != b'/'
 }
 
 /// The path and the name of `PATH=NAME`. A path that exists is taken as a whole.

@@ -38,7 +38,7 @@ impl Mirror {
         let arrival = Arrival::new(self.alloc, gone, Coming::Nothing, Stamp::NONE)?;
         if decision == Decision::Conflict {
             self.reports.report_kept(key, arrival.path.as_str(), false)?;
-            self.overrule(arrival.path.as_str(), entry.is_some() && !is_foreign)?;
+            self.overrule(key, arrival.path.as_str(), entry.is_some() && !is_foreign)?;
         }
         let is_forgotten = match (decision, entry) {
             (Decision::Conflict, _) if is_foreign => false,
@@ -92,16 +92,17 @@ impl Mirror {
         }
         let is_stand_in = record.is_some_and(Record::is_stand_in);
         match here.decision(record, entry) {
-            Decision::Keep => self.keep_alike(plan, key, seen, &here, entry),
-            Decision::Write => self.keep_stamp(plan, key, seen, &here),
+            Decision::Keep => return self.keep_alike(plan, key, seen, &here, entry),
+            Decision::Write => return self.keep_stamp(plan, key, seen, &here),
             Decision::Conflict => {
                 self.reports
                     .report_kept(key, seen.path.as_str(), is_stand_in)?;
-                self.overrule(seen.path.as_str(), entry.is_some())?;
-                plan.add_object(self, key, seen, here, &place)
+                self.overrule(key, seen.path.as_str(), entry.is_some())?;
             }
-            Decision::Bring => plan.add_object(self, key, seen, here, &place),
+            Decision::Bring => {}
         }
+        self.release(key, &place)?;
+        plan.add_object(self, key, seen, here, &place)
     }
 
     // Keeps the path and the stamp of an object in whose place the Shell's is to be written.
@@ -141,7 +142,7 @@ impl Mirror {
             (Here::File { .. }, Body::File(bytes)) if !is_stand_in(entry) => {
                 Last::File(bytes.clone()?)
             }
-            (_, Body::File(_)) if is_stand_in(entry) => Last::StandIn,
+            (_, Body::File(_)) if is_stand_in(entry) => Last::StandIn(entry.comment.copy()?),
             _ => return Ok(()),
         };
         self.keep_as(key, seen.path.as_str(), last, stamp, plan.now())
@@ -152,7 +153,7 @@ impl Mirror {
 fn is_of_kind(record: &Record, kind: Kind) -> bool {
     match (&record.last, kind) {
         (Last::Directory, Kind::Directory) => true,
-        (Last::File(_) | Last::StandIn, Kind::File { .. }) => true,
+        (Last::File(_) | Last::StandIn(_), Kind::File { .. }) => true,
         _ => false,
     }
 }

@@ -33,6 +33,8 @@ pub struct Departure<'a> {
     pub changes_kind: bool,
     /// It changes its kind so, or is below an object that does.
     pub is_within_kind_change: bool,
+    /// If it is a file that is to be deleted, the path of one with its bytes that the Shell has outside of the directory.
+    pub copy: Option<String>,
 }
 
 impl<'a> Departure<'a> {
@@ -46,6 +48,7 @@ impl<'a> Departure<'a> {
             is_new: false,
             changes_kind,
             is_within_kind_change: changes_kind,
+            copy: None,
         })
     }
 
@@ -57,11 +60,12 @@ impl<'a> Departure<'a> {
             is_new: true,
             changes_kind: false,
             is_within_kind_change: false,
+            copy: None,
         }
     }
 
-    // What was there is gone, or of another kind.
-    fn is_gone(&self) -> bool {
+    /// What was there is gone, or of another kind.
+    pub fn is_gone(&self) -> bool {
         !self.is_new && (self.entry.is_none() || self.changes_kind)
     }
 }
@@ -97,12 +101,6 @@ impl<'a> Departures<'a> {
         )?;
         self.by_key.insert(key, departure)?;
         Ok(())
-    }
-
-    /// A file that is gone gave no rights to group and others.
-    pub fn leave_private<R: Files>(&self, rt: &R) -> bool {
-        self.by_key.values().any(|departure| departure.is_gone()
-            && is_private(rt, departure.path.as_str()))
     }
 
     // An object changes its kind, which is noted, or is below one that does.
@@ -198,12 +196,6 @@ pub fn own_path<R: AllocGlobal + Files>(rt: &R, path: &str) -> io::Result<String
     let (folder, name) = way(rt, path)?;
     let whole = path_of(rt.alloc(), folder.as_str(), name)?;
     Ok(whole)
-}
-
-// A file is at a path whose mode gives no rights to group and others.
-fn is_private<R: Files>(rt: &R, path: &str) -> bool {
-    fs::symlink_metadata(rt, path).is_ok_and(|found| found.is_file()
-        && found.permissions().mode() & 0o077 == 0)
 }
 
 // What is at a path has the stamp of what was looked at.

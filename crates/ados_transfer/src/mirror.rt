@@ -6,11 +6,13 @@ ghost use Rattle.ados_transfer.specs.Records.{Sets};
 
 use crate::bringing::parted;
 use crate::faults::{TransferFault, named};
+use crate::last_copies::Waiting;
 use crate::paths::{is_free, place_in};
 use crate::records::{Last, Record, Records};
 use crate::reports::Reports;
 use crate::stamps::Stamp;
-use crate::stand_ins::Watch;
+use crate::stand_ins::StandIns;
+use crate::watches::Watch;
 use ados_ram::{Place, Ram};
 use std::alloc::Global;
 use std::collections::BTreeMap;
@@ -26,6 +28,8 @@ const DIRECTORY: &str = "RAM:Work";
 pub struct MirrorOptions {
     /// Names that begin with a dot are shared too.
     pub all: bool,
+    /// The folder may have more files and folders than the Shell's files can hold.
+    pub part: bool,
     /// Nothing of this machine is changed; changes are only reported.
     pub dry: bool,
 }
@@ -39,11 +43,16 @@ pub struct Mirror {
     pub(crate) place: Place,
     pub(crate) options: MirrorOptions,
     pub(crate) records: Records,
-    // A file has a stand-in, or had one.
-    pub(crate) has_stand_ins: bool,
+    pub(crate) stand_ins: StandIns,
+    // What is not deleted, since only the Shell has its bytes beside.
+    pub(crate) waiting: Waiting,
     pub(crate) reports: Reports,
+    // The folder was looked at.
+    pub(crate) has_begun: bool,
     // At the last comparison something was not deleted, since not everything was written.
     pub(crate) is_holding: bool,
+    // At the last comparison the Shell had something that was not written.
+    pub(crate) is_lacking: bool,
     // The first object of the Shell that gave way to this machine's at this look.
     pub(crate) overruled: Option<String>,
 }
@@ -81,9 +90,12 @@ impl Mirror {
             place,
             options,
             records: BTreeMap::new(alloc),
-            has_stand_ins: false,
+            stand_ins: StandIns::new(alloc),
+            waiting: Waiting::new(alloc),
             reports: Reports::new(alloc),
+            has_begun: false,
             is_holding: false,
+            is_lacking: false,
             overruled: None,
         })
     }
@@ -103,10 +115,15 @@ impl Mirror {
         self.reports.take_lines()
     }
 
-    /// Something could not be read, written or brought in, and has not been since, or something is not deleted because of that: the
-    /// two sides are not alike.
-    pub fn has_failed(&self) -> bool {
-        self.is_holding || self.reports.has_failed()
+    /// The two sides are not alike: something could not be read, written or brought in, and has not been since, or something is not
+    /// deleted because of that, or since its bytes would be only in memory; or the script changed something that the folder does not have
+    /// as the script left it.
+    pub fn differs(&self) -> bool {
+        self.is_holding
+            || self.is_lacking
+            || self.stand_ins.differ()
+            || !self.waiting.is_empty()
+            || self.reports.has_failed()
     }
 
     // Keeps an object as it is on both sides now.
@@ -114,10 +131,10 @@ impl Mirror {
         ensures kept { OnOk result (Sets self.old.records self.new.records (string_bytes key) (Some «record»)) }
         ensures once { IsOrdered string_cmp self.new.records }
     {
-        self.has_stand_ins = self.has_stand_ins || record.is_stand_in();
+        let noted = self.stand_ins.note(key.as_str(), record.is_stand_in());
         self.reports.settle(key.as_str());
         self.records.insert(key, record)?;
-        Ok(())
+        Ok(noted?)
     }
 
     // Keeps an object as it is on both sides now, with this stamp.
@@ -146,11 +163,20 @@ impl Mirror {
         ensures once { IsOrdered string_cmp self.new.records }
     {
         self.reports.settle(key);
+        self.stand_ins.leave_out(key);
         self.records.remove(key);
     }
 
     // Notes that an object gives way to this machine's, if the Shell has one.
-    pub(crate) fn overrule(&mut self, path: &str, is_there: bool) -> Result<(), TransferFault> {
+    pub(crate) fn overrule(
+        &mut self,
+        key: &str,
+        path: &str,
+        is_there: bool,
+    ) -> Result<(), TransferFault> {
+        if is_there {
+            self.reports.add_lost(key)?;
+        }
         if is_there && self.overruled.is_none() {
             self.overruled = Some(String::from_str(self.alloc, path)?);
         }
@@ -159,11 +185,9 @@ impl Mirror {
 
     // Reports that an object cannot be read, unless that was so at the look before; without a path it is the folder.
     pub(crate) fn report_unread(&mut self, key: &str, path: &str) -> Result<(), TransferFault> {
-        let path = if path.is_empty() {
-            self.folder.as_str()
-        } else {
-            path
-        };
+        if path.is_empty() {
+            return self.reports.report_unread(key, self.folder.as_str());
+        }
         self.reports.report_unread(key, path)
     }
 

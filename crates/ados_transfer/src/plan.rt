@@ -45,20 +45,6 @@ impl Plan {
         self.lines.push(line)?;
         Ok(())
     }
-
-    /// The bytes of the file that was added last; none after a directory.
-    pub fn last_bytes(&self) -> &[u8] {
-        match self.planned.last() {
-            Some(
-                Planned {
-                    content: Content::File { bytes, .. },
-                    ..
-                },
-            ) => bytes.as_bytes(),
-            _ => &[],
-        }
-    }
-
     /// Adds a directory, if it is not there; a fault names `path`.
     pub fn add_directory(
         &mut self,
@@ -123,7 +109,12 @@ impl Plan {
             return Err(named(self.alloc, path, TransferFault::ManyObjects));
         }
         self.room.put(size, None);
-        self.planned.push(Planned { place, content })?;
+        let path = String::from_str(self.alloc, path)?;
+        self.planned.push(Planned {
+            place,
+            content,
+            path,
+        })?;
         Ok(())
     }
 }

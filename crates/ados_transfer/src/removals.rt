@@ -1,7 +1,7 @@
 //! How an object of the folder of a share that is gone in the Shell's files, or of another kind there, is deleted.
 
-use crate::account::{Account, Aside};
-use crate::decision::{Removal, decide_removal};
+use crate::account::{Account, Aside, Moment};
+use crate::decision::{Removal, Terms, decide_removal};
 use crate::departure::{Departure, move_aside, own_path, remove};
 use crate::faults::TransferFault;
 use crate::here::Here;
@@ -28,28 +28,39 @@ impl Mirror {
         account: &mut Account,
     ) -> Result<(), TransferFault> {
         let path = departure.path.as_str();
+        let is_last_copy = self.is_last_copy(rt, key, departure)?;
         let Some(record) = self.records.get(key) else {
             return Ok(());
         };
         let here = Here::look(rt, path)?;
         let is_large = record.is_stand_in();
+        let terms = Terms {
+            may_delete: record.watch.may_delete(),
+            has_unwritten: account.has_unwritten(),
+            is_last_copy,
+        };
         let removal = decide_removal(
             &record.state(),
             &here.state(Some(record)),
             &record.state_there(departure.entry),
-            record.watch.may_delete(),
-            account.has_unwritten(),
+            terms,
         );
         match removal {
             Removal::Forget => {
                 self.forget(key);
+                self.reports.agree(key);
                 Ok(())
             }
             Removal::Delete => self.delete(rt, key, departure, &here, account),
+            Removal::Hold if account.is_meanwhile() => Ok(()),
             Removal::Hold => {
                 // It comes in again: later its bytes may be nowhere else.
                 self.forget(key);
                 account.hold(path)
+            }
+            Removal::Wait => {
+                add_unwritten_within_kind_change(departure, account)?;
+                self.wait(key, departure)
             }
             Removal::Conflict => {
                 add_unwritten_within_kind_change(departure, account)?;
@@ -83,6 +94,7 @@ impl Mirror {
         match is_done {
             Ok(true) => {
                 self.forget(key);
+                self.reports.agree(key);
                 Ok(())
             }
             Ok(false) => self.reports.report_kept(key, path, false),
@@ -100,7 +112,7 @@ impl Mirror {
         let Some(path) = self.overruled.take() else {
             return Ok(());
         };
-        let mut account = Account::new(self.alloc);
+        let mut account = Account::new(self.alloc, Moment::Start);
         account.add_unwritten(path.as_str())?;
         let mut keys = Vec::new(self.alloc);
         for (key, record) in &self.records {

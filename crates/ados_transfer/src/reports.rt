@@ -14,6 +14,10 @@ pub struct Reports {
     // The keys of those for which this machine's object stays, and of those that could not be written or brought in.
     kept: BTreeSet<String>,
     failing: BTreeSet<String>,
+    // The keys of those that could not be brought in: they are on this machine alone.
+    absent: BTreeSet<String>,
+    // The keys of those that the script changed, and for which this machine's object stood. They have not been written since.
+    lost: BTreeSet<String>,
     // The keys of those that could not be read at the last look, and at the one before.
     unread: BTreeSet<String>,
     unread_before: BTreeSet<String>,
@@ -30,6 +34,8 @@ impl Reports {
             reported: BTreeSet::new(alloc),
             kept: BTreeSet::new(alloc),
             failing: BTreeSet::new(alloc),
+            absent: BTreeSet::new(alloc),
+            lost: BTreeSet::new(alloc),
             unread: BTreeSet::new(alloc),
             unread_before: BTreeSet::new(alloc),
             is_full: false,
@@ -41,15 +47,38 @@ impl Reports {
         std::mem::replace(&mut self.lines, Vec::new(self.alloc))
     }
 
-    /// Something could not be read, written or brought in, and has not been since.
+    /// Something could not be read, written or brought in, and has not been since, or a change of the script is lost.
     pub fn has_failed(&self) -> bool {
-        !self.failing.is_empty() || !self.unread.is_empty()
+        !self.failing.is_empty() || !self.unread.is_empty() || !self.lost.is_empty()
+    }
+
+    /// A change of the script is lost, since this machine's object stood.
+    pub fn add_lost(&mut self, key: &str) -> Result<(), TransferFault> {
+        self.lost.insert(String::from_str(self.alloc, key)?)?;
+        Ok(())
+    }
+
+    /// The keys of what could not be written, and of those of which a change is lost.
+    pub fn missed(&self) -> Result<Vec<String>, TransferFault> {
+        let mut keys = Vec::new(self.alloc);
+        for key in self.failing.iter().chain(self.lost.iter()) {
+            if !self.absent.contains(key.as_str()) {
+                keys.push(key.clone()?)?;
+            }
+        }
+        Ok(keys)
+    }
+
+    /// This machine has what the script made, or nothing if the script deleted it.
+    pub fn agree(&mut self, key: &str) {
+        self.lost.remove(key);
     }
 
     /// The two sides no longer differ at this key.
     pub fn settle(&mut self, key: &str) {
         self.kept.remove(key);
         self.failing.remove(key);
+        self.absent.remove(key);
     }
 
     /// Reports a line about an object.
@@ -81,6 +110,7 @@ impl Reports {
         let text = if is_stand_in {
             "kept, since the Shell can't hold it"
         } else {
+            self.add_lost(key)?;
             "both changed, kept this machine's"
         };
         self.report_stays(key, text, path)
@@ -119,6 +149,12 @@ impl Reports {
             self.report(text, path)?;
         }
         Ok(())
+    }
+
+    /// Reports that an object could not be brought in, once until that is settled.
+    pub fn report_absent(&mut self, key: &str, path: &str) -> Result<(), TransferFault> {
+        self.absent.insert(String::from_str(self.alloc, key)?)?;
+        self.fail(key, "cannot bring in", path)
     }
 
     /// Begins a look: nothing is known yet of what cannot be read.

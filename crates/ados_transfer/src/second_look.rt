@@ -70,10 +70,10 @@ fn has_changed<R: AllocGlobal + Files>(rt: &R, aside: &Aside) -> bool {
     };
     match &aside.record.last {
         Last::File(bytes) => !holds(rt, beside.as_str(), bytes.as_bytes()),
-        Last::StandIn => !fs::symlink_metadata(rt, beside.as_str()).is_ok_and(|found| aside
+        Last::StandIn(_) => !fs::symlink_metadata(rt, beside.as_str()).is_ok_and(|found| aside
             .record
             .stamp
-            .is_as_full(&Stamp::of(&found))),
+            .is_same_file(&Stamp::of(&found))),
         Last::Directory => false,
     }
 }

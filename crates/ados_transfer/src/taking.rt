@@ -47,6 +47,17 @@ pub fn take<R: AllocGlobal + Files>(
     }
 }
 
+/// The place of what words of `--take` name, as `NAME` or `NAME=PATH`, if they name one.
+pub fn taken_place(
+    alloc: Global,
+    files: &Ram,
+    assigns: &Assigns,
+    words: &str,
+) -> Result<Option<Place>, TransferFault> {
+    let (name, _) = parted(alloc, files, assigns, words)?;
+    place_of(alloc, files, assigns, name)
+}
+
 fn not_taken(alloc: Global, words: &str) -> TransferFault {
     named(alloc, words, TransferFault::CannotTake)
 }

@@ -5,7 +5,7 @@ ghost use Rattle.ados_transfer.specs.Here.{is_moved_away};
 
 use crate::account::{Account, is_substring};
 use crate::decision::Decision;
-use crate::departure::{Departure, write_entry};
+use crate::departure::{Departure, Departures, write_entry};
 use crate::faults::TransferFault;
 use crate::here::Here;
 use crate::mirror::Mirror;
@@ -71,9 +71,12 @@ impl Mirror {
     ) -> Result<(), TransferFault> {
         let (key, path) = object;
         if is_moved_away(draft, account) {
+            account.add_unwritten_entry(path, draft.entry)?;
+            if account.is_meanwhile() {
+                return Ok(());
+            }
             // It comes in again.
             self.forget(key);
-            account.add_unwritten_entry(path, draft.entry)?;
             return account.hold(path);
         }
         match write_entry(rt, path, draft) {
@@ -87,6 +90,26 @@ impl Mirror {
                 self.not_done(&error, "cannot write", key, path)
             }
         }
+    }
+
+    // A file is gone that gave no rights to group and others, and no object that is written has its bytes.
+    pub(crate) fn loses_private<R: Files>(&self, rt: &R, departures: &Departures<'_>) -> bool {
+        departures.by_key.iter().any(|(key, departure)| {
+            departure.is_gone()
+                && is_private(rt, departure.path.as_str())
+                && !self.is_moved(key.as_str(), departures)
+        })
+    }
+
+    // An object that is written has the bytes of the file with this key.
+    fn is_moved(&self, key: &str, departures: &Departures<'_>) -> bool {
+        let Some(record) = self.records.get(key) else {
+            return false;
+        };
+        departures.by_key.values().any(|departure| {
+            departure.entry.is_some_and(|entry| !entry.is_directory()
+                && record.is_file_of(entry.bytes()))
+        })
     }
 
     // The mode of the file of the folder that has the bytes of an entry: one that the Shell no longer has, since the entry may be its
@@ -173,8 +196,15 @@ impl Mirror {
         stamp: Stamp,
     ) -> Result<(), TransferFault> {
         let (key, path) = object;
+        self.reports.agree(key);
         self.keep_as(key, path, Last::of(entry)?, stamp, &self.now(rt))
     }
+}
+
+// A file is at a path whose mode gives no rights to group and others.
+fn is_private<R: Files>(rt: &R, path: &str) -> bool {
+    fs::symlink_metadata(rt, path).is_ok_and(|found| found.is_file()
+        && found.permissions().mode() & 0o077 == 0)
 }
 
 // What a file of this machine holds is in a file of the Shell that is not written, and not in the one that takes its place.

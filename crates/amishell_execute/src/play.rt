@@ -5,12 +5,18 @@ ghost use Rattle.ados_launch.specs.Agreement.{Agrees, AreOver, IsOpenTable};
 ghost use Rattle.ados_launch.specs.Deeds.{Does, DoesByRule, RunsLines};
 ghost use Rattle.ados_launch.specs.Drives.{Drives, HasDriveResult};
 ghost use Rattle.ados_launch.specs.Schedule.{first_schedule_state};
-ghost use Rattle.amishell_execute.specs.Playing.{IfDriven, PlaysAlone, drive_fault_of, may_be_cut, playing_moment};
+ghost use Rattle.amishell_execute.specs.Playing.{IfDriven, PlaysAlone, contents_through, drive_fault_of, may_be_cut, playing_moment};
 
+use crate::checks::Checks;
+use crate::deadline::Deadline;
+use crate::error_codes::ErrorCode;
 use crate::faults::Fault;
+use crate::gate::Gate;
 use crate::launcher::Bringer;
-use crate::reader::Prompter;
+use crate::reader::{AtEnd, Prompter};
 use crate::share::Share;
+use crate::teller::Teller;
+use crate::unanswered::question_asked;
 use ados_launch::{End, Session, Sink};
 use ados_transfer::{Lines, Planned};
 use ados_world::World;
@@ -20,7 +26,7 @@ use std::rt::Files;
 use std::time::Clock;
 
 /// A script that is to run.
-#[derive(Clone, Copy)]
+#[derive(Drop)]
 pub struct Script<'a> {
     /// What is brought in for it.
     pub planned: &'a [Planned],
@@ -28,6 +34,14 @@ pub struct Script<'a> {
     pub lines: &'a Lines,
     /// The most events that are taken, besides those that bring it in.
     pub turns: u64,
+    /// What is answered at the end of standard input.
+    pub at_end: AtEnd,
+    /// When no further event is taken.
+    pub deadline: Option<Deadline>,
+    /// The codes of programs that fail.
+    pub errors: &'a [ErrorCode],
+    /// How it and the scripts that it calls are checked.
+    pub checks: Checks<'a>,
 }
 
 /// Runs a script in a new world, with standard input for what asks, and writes what it prints.
@@ -41,34 +55,47 @@ pub struct Script<'a> {
 pub fn play<R: AllocGlobal + Files + Input + Eprint + Processes + Clone + Drop + Clock, K: Sink>(
     rt: &R,
     world: &mut World,
-    script: &Script<'_>,
+    script: Script<'_>,
+    teller: Teller<'_>,
     share: Option<&mut Share>,
-    writer: &mut K,
+    writer: &mut Gate<K>,
 ) -> Result<End, Fault>
     requires agrees { Agrees world.old [] }
-    requires writer { K.faults writer.old < 2 ^ 64 - 1 }
+    requires writer { K.faults writer.old.inner < 2 ^ 64 - 1 }
     // By these deeds one world leads to the other; their bytes were written, and the rule holds of them.
-    ensures does { DoesByRule world.old world.new (may_be_cut result) (K.contents writer.old) (K.contents writer.new) }
+    ensures does { DoesByRule world.old world.new (may_be_cut result) (contents_through K.contents writer.old) (contents_through K.contents writer.new) }
     // Without a shared folder the run is one of `Drive::run`.
     ensures drives { is_none share.entry ≡ true → IfDriven result
-        (PlaysAlone world.old world.new (K.contents writer.old) (K.contents writer.new)) }
+        (PlaysAlone world.old world.new (contents_through K.contents writer.old) (contents_through K.contents writer.new)) }
 {
     // This shows that the world is sane: no script in it runs on after a failure.
     let _asked = world.pending(1);
     let mut run = Run {
         rt,
         turns: script.turns.saturating_add(script.lines.events),
-        launcher: Bringer::new(rt.alloc(), rt, script.planned)?,
+        deadline: script.deadline,
+        launcher: Bringer::new(rt.alloc(), rt, script.planned, script.errors)?,
         reader: Prompter::new(
             script.planned,
             script.lines.all.as_slice(),
             script.lines.bringing,
             rt.reader(),
+            script.at_end,
         ),
+        teller,
+        checks: script.checks,
     };
     let ended = run.drive(world, share, writer);
     if run.reader.is_refused() {
         return Err(Fault::NotBrought);
+    }
+    if run.reader.is_unanswered() {
+        // Without memory to say which question it was, it is not named.
+        let asked = match question_asked(rt.alloc(), world, run.reader.last_line()) {
+            Ok(asked) => asked,
+            Err(_) => String::new(rt.alloc()),
+        };
+        return Err(Fault::Unanswered(asked));
     }
     ended
 }
@@ -78,8 +105,11 @@ pub fn play<R: AllocGlobal + Files + Input + Eprint + Processes + Clone + Drop +
 struct Run<'a, R: Processes, I: Read> {
     rt: &'a R,
     turns: u64,
+    deadline: Option<Deadline>,
+    teller: Teller<'a>,
     launcher: Bringer<'a, R>,
     reader: Prompter<'a, I>,
+    checks: Checks<'a>,
 }
 
 impl<R: AllocGlobal + Files + Eprint + Processes + Clone + Drop + Clock, I: Read> Run<'_, R, I> {
@@ -89,12 +119,12 @@ impl<R: AllocGlobal + Files + Eprint + Processes + Clone + Drop + Clock, I: Read
         &mut self,
         world: &mut World,
         share: Option<&mut Share>,
-        writer: &mut K,
+        writer: &mut Gate<K>,
     ) -> Result<End, Fault>
         requires reader { self.old.reader.faults < 2 ^ 64 - 1 }
-        requires writer { K.faults writer.old < 2 ^ 64 - 1 }
+        requires writer { K.faults writer.old.inner < 2 ^ 64 - 1 }
         requires agrees { Agrees world.old self.old.launcher.calls }
-        ensures does { DoesByRule world.old world.new (may_be_cut result) (K.contents writer.old) (K.contents writer.new) }
+        ensures does { DoesByRule world.old world.new (may_be_cut result) (contents_through K.contents writer.old) (contents_through K.contents writer.new) }
         ensures over { AreOver self.new.launcher.calls }
         ensures drives { is_none share.entry ≡ true → IfDriven result (Drives self.old.turns []
             (playing_moment K.contents K.faults K.stalls world.old self.old.reader writer.old self.old.launcher)
@@ -117,15 +147,15 @@ impl<R: AllocGlobal + Files + Eprint + Processes + Clone + Drop + Clock, I: Read
         world: &mut World,
         session: &mut Session<'_>,
         mut share: Option<&mut Share>,
-        writer: &mut K,
+        writer: &mut Gate<K>,
     ) -> Result<End, Fault>
         requires reader { self.old.reader.faults < 2 ^ 64 - 1 }
-        requires writer { K.faults writer.old < 2 ^ 64 - 1 }
+        requires writer { K.faults writer.old.inner < 2 ^ 64 - 1 }
         requires agrees { Agrees world.old self.old.launcher.calls }
         requires children { IsOpenTable session.old.children self.old.launcher.calls }
         requires begins { session.old.schedule ≡ first_schedule_state [] }
         requires held { session.old.held ≡ [] }
-        ensures does { Does world.old world.new (may_be_cut result) (K.contents writer.old) (K.contents writer.new) }
+        ensures does { Does world.old world.new (may_be_cut result) (contents_through K.contents writer.old) (contents_through K.contents writer.new) }
         ensures children { IsOpenTable session.new.children self.new.launcher.calls }
         ensures agrees { OnOk result (Agrees world.new self.new.launcher.calls) }
         ensures over { OnOk result (AreOver self.new.launcher.calls) }
@@ -138,11 +168,32 @@ impl<R: AllocGlobal + Files + Eprint + Processes + Clone + Drop + Clock, I: Read
             if !session.take(world, &mut self.launcher, &mut self.reader, writer)? {
                 return Ok(session.end(world));
             }
+            self.tell(world, session, writer)?;
         }
         Ok(session.finish(world)?)
     }
 
-    // Attends to the shared folder before an event, if there is one.
+    // Tells what happened at the last event: the command that it took, then what it printed, then the scripts that it ended.
+    fn tell<K: Sink>(
+        &mut self,
+        world: &World,
+        session: &Session<'_>,
+        writer: &mut Gate<K>,
+    ) -> Result<(), Fault>
+        requires writer { K.faults writer.old.inner < 2 ^ 64 - 1 }
+        ensures launcher { self.new.launcher ≡ self.old.launcher }
+        ensures reader { self.new.reader ≡ self.old.reader }
+        ensures contents { contents_through K.contents writer.new ≡ contents_through K.contents writer.old }
+        ensures faults { OnOk result (K.faults writer.new.inner ≡ K.faults writer.old.inner) }
+        ensures stalls { OnOk result (K.stalls writer.new.inner ≡ K.stalls writer.old.inner) }
+        ensures fault { IfErr result (λ why. drive_fault_of why ≡ None) }
+    {
+        self.teller.tell_command(self.rt, session);
+        writer.release()?;
+        Ok(self.teller.after(self.rt, world, session)?)
+    }
+
+    // Attends to the time, to the script that begins, to the shell whose event comes next, and to the shared folder, if there is one.
     fn attend(
         &mut self,
         world: &mut World,
@@ -161,6 +212,13 @@ impl<R: AllocGlobal + Files + Eprint + Processes + Clone + Drop + Clock, I: Read
         ensures alone { is_none share.old ≡ true → (is_none share.new ≡ true) × (world.new ≡ world.old)
             × (session.new ≡ session.old) × (self.new.launcher ≡ self.old.launcher) × IfErr result (λ why. drive_fault_of why ≡ None) }
     {
+        if let Some(deadline) = &self.deadline {
+            deadline.check(self.rt)?;
+        }
+        if let Some(next) = session.next(world) {
+            self.checks.attend(self.rt, world, next)?;
+            self.teller.before(self.rt, world, next)?;
+        }
         let Some(share) = share else {
             return Ok(());
         };

@@ -3,13 +3,15 @@ ghost use Rattle.std.specs.Prelude.{◌≡◌, ◌<◌, ◌^◌, ◌-◌, [], Is
 ghost use Rattle.ados_launch.specs.Agreement.{Agrees, IsOpenTable};
 ghost use Rattle.ados_launch.specs.Deeds.{RunsLines};
 
+use crate::due::Due;
 use crate::faults::{Fault, report};
 use crate::home::{Home, enter};
 use crate::launcher::{Bringer, Start};
+use crate::pace::Pace;
 use ados_launch::{Launcher, Listed, Session, SystemEnd, SystemFault, system};
-use ados_machine::Request;
+use ados_ram::Place;
 use ados_text::Text;
-use ados_transfer::{Arrival, Mirror, MirrorOptions, StartPlace, push_word};
+use ados_transfer::{Arrival, Mirror, MirrorOptions, Moment, StartPlace, push_word};
 use ados_world::World;
 use std::alloc::Global;
 use std::io::Eprint;
@@ -27,29 +29,7 @@ pub struct Share {
     home: Home,
     // What was in the folder at the beginning was brought in.
     is_filled: bool,
-}
-
-// What the next event asks for.
-enum Due {
-    // The start of a program, by this shell.
-    Start(u8),
-    // The end of the program of this shell.
-    Wait(u8),
-    // Anything else.
-    Other,
-}
-
-impl Due {
-    // What the next event asks for.
-    fn next(session: &Session<'_>, world: &World) -> Due
-        requires count { session.now.schedule.taken < 2 ^ 64 - 1 }
-    {
-        match session.request(world) {
-            Some(Request::Start(job)) => Due::Start(job.shell),
-            Some(Request::Wait(child)) => Due::Wait(*child),
-            _ => Due::Other,
-        }
-    }
+    pace: Pace,
 }
 
 impl Share {
@@ -80,7 +60,13 @@ impl Share {
             mirror,
             home,
             is_filled: false,
+            pace: Pace::new(rt),
         })
+    }
+
+    /// The directory.
+    pub fn place(&self) -> &Place {
+        self.mirror.place()
     }
 
     /// Makes the folder this process's current directory: from now on its files are found in it, whatever its name leads to.
@@ -96,7 +82,8 @@ impl Share {
     }
 
     /// Before an event: at a program's start, what changed is written to the folder; before its end is reported to the world,
-    /// what changed in the folder is brought in. `is_ready`: the lines that bring files in were given.
+    /// what changed in the folder is brought in. Now and then, and before this process may have to wait, what changed is written too.
+    /// `is_ready`: the lines that bring files in were given.
     ///
     /// At an error too the session knows which programs are open.
     pub fn attend<R: AllocGlobal + Files + Eprint + Processes + Clone + Drop + Clock>(
@@ -116,7 +103,7 @@ impl Share {
         ensures held { session.new.held ≡ session.old.held }
         ensures ran { RunsLines world.old world.new }
     {
-        self.mirror.watch(world.files());
+        self.mirror.watch(world.files())?;
         if !self.is_filled {
             if is_ready && world.wants_line() {
                 self.bring_in(rt, world, launcher, session)?;
@@ -124,31 +111,35 @@ impl Share {
             }
             return Ok(());
         }
-        match Due::next(session, world) {
+        let due = Due::next(session, world);
+        if self.pace.is_due(rt, due) {
+            self.write_out(rt, world, Moment::Meanwhile)?;
+        }
+        match due {
             Due::Start(number) => {
-                self.write_out(rt, world)?;
+                self.write_out(rt, world, Moment::Start)?;
                 launcher.set_start(self.start(rt, world, number)?);
             }
             Due::Wait(number) => {
                 launcher.await_end(number);
                 self.bring_in(rt, world, launcher, session)?;
             }
-            Due::Other => {}
+            Due::Read | Due::Input | Due::Turn => {}
         }
         Ok(())
     }
 
-    /// Writes what changed to the folder at the end, and goes back to where this process was started. `false` if something could not be written, or was not brought in.
+    /// Writes what changed to the folder at the end, and goes back to where this process was started. `false` if the two sides are not alike then.
     pub fn close<R: Env + AllocGlobal + Files + Eprint + Clone + Drop + Clock>(
         &mut self,
         rt: &R,
         world: &World,
     ) -> Result<bool, Fault> {
         if self.is_filled {
-            self.write_out(rt, world)?;
+            self.write_out(rt, world, Moment::End)?;
         }
         self.home.enter(rt)?;
-        Ok(!self.mirror.has_failed())
+        Ok(!self.mirror.differs())
     }
 
     // Brings in what changed in the folder.
@@ -180,8 +171,10 @@ impl Share {
         &mut self,
         rt: &R,
         world: &World,
+        moment: Moment,
     ) -> Result<(), Fault> {
-        self.mirror.write_out(rt, world.files())?;
+        self.mirror.write_out(rt, world.files(), moment)?;
+        self.pace.update(rt);
         self.report_lines(rt);
         Ok(())
     }

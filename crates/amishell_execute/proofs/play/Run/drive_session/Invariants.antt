@@ -1,17 +1,17 @@
 use Rattle.std.proofs.Common.{◌≡◌, ◌≤◌, true, false, is_none}
 use Rattle.ados_launch.specs.Agreement.{Agrees, IsOpenTable}
 use Rattle.ados_launch.specs.Deeds.{Does}
-use Rattle.amishell_execute.specs.Playing.{playing_moment}
+use Rattle.amishell_execute.specs.Playing.{contents_through, playing_moment}
 use Rattle.amishell_execute.proofs.Driving.{DrivenAlone}
 use Rattle.amishell_execute.proofs.play.Run.drive_session.Given as goal
 
 abbrev pub invariant-loop : goal.invariant-loop
 invariant-loop g l = record {
   reader : l.self.reader.faults ≡ l.fn.self.reader.faults;
-  writer : g.K.Sink.faults l.writer ≡ g.K.Sink.faults l.fn.writer;
+  writer : g.K.Sink.faults l.writer.inner ≡ g.K.Sink.faults l.fn.writer.inner;
   count : l.session.schedule.taken ≤ l.counter;
   agrees : Agrees l.world l.self.launcher.calls;
-  does : Does l.fn.world l.world false (g.K.Sink.contents l.fn.writer) (g.K.Sink.contents l.writer);
+  does : Does l.fn.world l.world false (contents_through g.K.Sink.contents l.fn.writer) (contents_through g.K.Sink.contents l.writer);
   children : IsOpenTable l.session.children l.self.launcher.calls;
   without_share : is_none l.fn.share ≡ true → is_none l.share ≡ true;
   alone : is_none l.fn.share ≡ true → DrivenAlone

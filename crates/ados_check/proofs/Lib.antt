@@ -1,0 +1,2 @@
+mod StrikeLemmas
+mod ReadingLemmas

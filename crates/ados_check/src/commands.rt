@@ -1,0 +1,64 @@
+//! The commands of the Shell by the words of a script, and the faults of their arguments.
+ghost use Rattle.std.specs.Prelude.{◌≡◌, Option, IfOk, IfSome};
+ghost use Rattle.ados_find.specs.Shared.{SharedState};
+ghost use Rattle.ados_find.specs.Views.{View};
+ghost use Rattle.ados_flow.specs.Execute.{fault_answer};
+ghost use Rattle.ados_flow.specs.Frames.{ScriptLine};
+ghost use Rattle.ados_machine.specs.Commands.{action_of};
+ghost use Rattle.ados_readargs.specs.Faults.{result2_of};
+
+use ados_machine::Builtin;
+use ados_readargs::ArgFault;
+use ados_resident::{DiskCommand, InternalCommand};
+use ados_shell::Commands;
+use ados_text::{NoMemory, Text};
+use std::alloc::Global;
+
+/// What a word of a script stands for.
+pub enum Word {
+    /// A command of the Shell with a template.
+    Builtin(Builtin),
+    /// Run, which has none.
+    Run,
+    /// Anything else.
+    Other,
+}
+
+impl Word {
+    /// What a word stands for, if no file, alias or entry of the resident list has its name.
+    pub fn of(word: &Text) -> Word {
+        if let Some(command) = InternalCommand::named(word) {
+            return match command.builtin() {
+                Some(builtin) => Word::Builtin(builtin),
+                None => Word::Run,
+            };
+        }
+        let name = match word.as_bytes() {
+            [b'C' | b'c', b':', name @ ..] => name,
+            name => name,
+        };
+        match DiskCommand::named(name) {
+            Some(command) => Word::Builtin(command.builtin()),
+            None => Word::Other,
+        }
+    }
+}
+
+/// The fault that a command answers for the text of its arguments, if it has one.
+#[tactic(auto, unfolding(ados_machine::specs::Commands::action_of))]
+pub fn argument_fault(
+    alloc: Global,
+    commands: &Commands,
+    command: Builtin,
+    args: &Text,
+) -> Result<Option<ArgFault>, NoMemory>
+    // Wherever it is executed with these arguments, it answers that fault, and does nothing else.
+    ensures { IfOk result (λ found. IfSome found (λ fault. (shared : SharedState) (script_line : Option ScriptLine) (view : View)
+        → action_of command shared script_line view args.now ≡ fault_answer shared (result2_of fault))) }
+{
+    match commands.template(command).fill(alloc, args.as_bytes()) {
+        Ok(_) => Ok(None),
+        Err(ArgFault::NoMemory) => Err(NoMemory),
+        Err(fault) => Ok(Some(fault)),
+    }
+}

@@ -1,0 +1,120 @@
+//! What is found in a line of a script: its number and the problem, as texts.
+
+use crate::left_out::LeftOut;
+use ados_line::LineFault;
+use ados_readargs::ArgFault;
+use ados_text::Text;
+use std::fmt;
+
+/// A problem of a line.
+#[derive(Drop)]
+pub struct Finding {
+    /// The line's number, from 1.
+    pub line: usize,
+    /// What is wrong with it.
+    pub problem: Problem,
+}
+
+/// What is wrong with a line.
+#[derive(Drop)]
+pub enum Problem {
+    /// A byte above 127 outside of a comment: the Shell reads it as `?`, which is a pattern.
+    NotAscii(u8),
+    /// A byte above 127 in the words of Echo or Ask, which print it as `?`.
+    PrintedByte(u8),
+    /// A command has options of Release 2 that the Shell leaves out, and takes for names.
+    LeftOut(LeftOut),
+    /// It has this many bytes, more than a line may have.
+    LongLine(usize),
+    /// It cannot be read.
+    Line(LineFault),
+    /// The arguments of a command, which has this template, do not fill it.
+    Arguments {
+        command: Text,
+        template: Text,
+        fault: ArgFault,
+    },
+    /// A directive is unknown, or cannot stand there, or its template is none.
+    BadDirective,
+    /// A Skip finds neither this Lab nor an EndSkip.
+    NoLab(Text),
+    /// An Else has no EndIf below it.
+    ElseWithoutEndIf,
+    /// An If has neither an Else nor an EndIf below it.
+    IfWithoutEndIf,
+    /// An EndIf has no If above it.
+    EndIfWithoutIf,
+    /// A directive in a script that has none, since its first line does not begin with a dot.
+    IdleDirective,
+    /// Neither the Shell nor, as far as is known, anybody else has a command of this name.
+    UnknownCommand(Text),
+    /// There is no file of this name for Execute.
+    NoScript(Text),
+}
+
+impl Problem {
+    /// The line may be run all the same.
+    pub fn is_harmless(&self) -> bool {
+        matches!(self, Problem::PrintedByte(_))
+    }
+
+    /// Whenever the line is taken, it fails; otherwise it may be meant as it is.
+    pub fn is_error(&self) -> bool {
+        matches!(
+            self,
+            Problem::NotAscii(_)
+                | Problem::LongLine(_)
+                | Problem::Line(_)
+                | Problem::Arguments { .. }
+                | Problem::BadDirective
+                | Problem::NoLab(_)
+                | Problem::ElseWithoutEndIf
+        )
+    }
+}
+
+impl fmt::Display for Problem {
+    fn fmt<W: fmt::Write>(&self, f: &mut fmt::Formatter<W>) -> Result<(), fmt::Error> {
+        match self {
+            Problem::NotAscii(byte) => write!(
+                f,
+                "byte 0x{byte:02x} is not ASCII (iconv -f LATIN1 -t ASCII//TRANSLIT)"
+            ),
+            Problem::PrintedByte(byte) => {
+                write!(f, "byte 0x{byte:02x} is not ASCII, and is printed as ?")
+            }
+            Problem::LeftOut(options) => write!(f, "{options}"),
+            Problem::LongLine(bytes) => write!(f, "{bytes} bytes (at most 512)"),
+            Problem::Line(fault) => write!(f, "{fault}"),
+            Problem::Arguments {
+                command,
+                template,
+                fault,
+            } => write!(f, "{}: {fault} ({})", shown(command), shown(template)),
+            Problem::BadDirective => write!(f, "bad directive"),
+            Problem::NoLab(label) => write!(f, "no Lab {}", shown(label)),
+            Problem::ElseWithoutEndIf => write!(f, "Else without EndIf"),
+            Problem::IfWithoutEndIf => write!(f, "If without EndIf"),
+            Problem::EndIfWithoutIf => write!(f, "EndIf without If"),
+            Problem::IdleDirective => {
+                write!(
+                    f,
+                    "no directive, since the first line does not begin with a dot"
+                )
+            }
+            Problem::UnknownCommand(name) => write!(f, "{}: unknown command", shown(name)),
+            Problem::NoScript(name) => write!(f, "{}: no such script", shown(name)),
+        }
+    }
+}
+
+// A text as it is shown.
+fn shown(text: &Text) -> &str {
+    std::str::from_utf8(text.as_bytes()).unwrap_or("")
+}
+
+impl fmt::Display for Finding {
+    fn fmt<W: fmt::Write>(&self, f: &mut fmt::Formatter<W>) -> Result<(), fmt::Error> {
+        write!(f, "line {}: {}", self.line, self.problem)
+    }
+}

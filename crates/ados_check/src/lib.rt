@@ -1,0 +1,20 @@
+#![tactic(auto)]
+//! What is wrong with the lines of a script, before any of them is taken.
+
+mod arguments;
+mod commands;
+mod comments;
+mod directives;
+mod findings;
+mod inspection;
+mod left_out;
+mod lines;
+mod readings;
+mod release_two;
+mod signs;
+
+pub use findings::{Finding, Problem};
+pub use inspection::inspect;
+pub use left_out::strike;
+pub use lines::check;
+pub use signs::mark;

@@ -1,0 +1,43 @@
+//! What a line is read as, whatever the variables of its shell are.
+ghost use Rattle.std.specs.Prelude.{◌≡◌, IfSome};
+ghost use Rattle.ados_text.specs.Text.{IsText};
+ghost use Rattle.ados_line.specs.Alias.{with_alias};
+ghost use Rattle.ados_line.specs.Answers.{Gives};
+ghost use Rattle.ados_line.specs.Comment.{without_comment};
+ghost use Rattle.ados_line.specs.Cut.{cut_of, expanded_of_cut};
+ghost use Rattle.ados_line.specs.Expansion.{expand_raw_line};
+ghost use Rattle.ados_line.specs.Values.{Variables};
+ghost use Rattle.ados_vars.specs.Vars.{Pairs};
+
+use crate::comments::without_comment;
+use ados_line::{Expanded, LineFault, cut};
+use ados_text::{LINE_BYTES, Text};
+use std::alloc::Global;
+
+/// What a line is read as; `None` if that depends on variables or on the output of a command: it has a `$` or a back-tick.
+///
+/// The fault is `LineTooLong` for more than 512 bytes, and otherwise that of the cut.
+#[tactic(auto, using(crate::proofs::ReadingLemmas::long_line, crate::proofs::ReadingLemmas::plain_line))]
+pub fn read_line(alloc: Global, raw: &Text) -> Option<Result<Expanded, LineFault>>
+    // Each shell reads it so that has no alias for its first word.
+    ensures { IfSome result (λ read. (aliases : Pairs) (variables : Variables) → with_alias aliases (without_comment raw.now) ≡ without_comment raw.now
+        → Gives read (expand_raw_line aliases variables raw.now)) }
+{
+    let bytes = raw.as_bytes();
+    if bytes.len() > LINE_BYTES {
+        return Some(Err(LineFault::LineTooLong));
+    }
+    let line = without_comment(bytes);
+    if line.contains(&b'$') || line.contains(&b'`') {
+        return None;
+    }
+    Some(cut_bytes(alloc, line))
+}
+
+// What a line without comment, alias, variables and back-ticks is read as.
+fn cut_bytes(alloc: Global, line: &[u8]) -> Result<Expanded, LineFault>
+    requires { IsText line.now }
+    ensures { Gives result (expanded_of_cut (cut_of line.now)) }
+{
+    cut(alloc, &Text::of_ascii(alloc, line)?)
+}

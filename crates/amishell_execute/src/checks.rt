@@ -1,0 +1,197 @@
+//! The check of each script before its first line is taken: one with a line that must not be run as it is does not run.
+ghost use Rattle.std.specs.Prelude.{◌≡◌, None, IfErr};
+ghost use Rattle.amishell_execute.specs.Playing.{drive_fault_of};
+
+use crate::faults::{Fault, report, unread_script};
+use crate::request::Options;
+use ados_check::{Finding, check, mark, strike};
+use ados_flow::{Frame, FrameKind};
+use ados_launch::Next;
+use ados_ram::Place;
+use ados_shell::Shell;
+use ados_text::{Name, NoMemory, Text, lines_of};
+use ados_transfer::read_script;
+use ados_vars::Aliases;
+use ados_world::World;
+use std::alloc::Global;
+use std::io::Eprint;
+use std::rt::Files;
+
+/// How the scripts of a run are checked.
+#[derive(Drop)]
+pub struct Checks<'a> {
+    is_lenient: bool,
+    // The script of the command line: its file on this machine, and its full path in the Shell's files.
+    file: &'a str,
+    path: Text,
+    // The full paths of the scripts of which a harmless problem was reported.
+    reported: Vec<Text>,
+}
+
+/// The bytes of the script of the command line as it is brought in. With `--lenient` what is found in its lines is reported.
+pub fn read_checked<R: AllocGlobal + Files + Eprint>(
+    rt: &R,
+    options: &Options<'_>,
+) -> Result<Vec<u8>, Fault> {
+    let alloc = rt.alloc();
+    let mut script = match read_script(rt, options.script) {
+        Ok(script) => script,
+        Err(fault) => return Err(unread_script(rt, fault)),
+    };
+    if options.ascii_marks {
+        mark(&mut script);
+    }
+    if options.strike {
+        strike(alloc, &mut script)?;
+    }
+    if options.lenient {
+        let lines = lines_of(alloc, &script)?;
+        let found = check(alloc, &Aliases::new(alloc), lines.as_slice(), &script)?;
+        let _ = report_all(rt, options.script, &found, true)?;
+    }
+    Ok(script)
+}
+
+impl<'a> Checks<'a> {
+    /// The checks that the options ask for; the script of the command line is at this place.
+    pub fn new(
+        alloc: Global,
+        options: &Options<'a>,
+        script: &Place,
+    ) -> Result<Checks<'a>, NoMemory> {
+        Ok(Checks {
+            is_lenient: options.lenient,
+            file: options.script,
+            path: script.path(alloc)?,
+            reported: Vec::new(alloc),
+        })
+    }
+
+    /// Before an event: if a shell is to take the first line of a script, all lines of that script are checked, with its arguments
+    /// in them.
+    ///
+    /// `NotRun` if one of them must not be run as it is.
+    pub fn attend<R: AllocGlobal + Eprint>(
+        &mut self,
+        rt: &R,
+        world: &World,
+        next: Next,
+    ) -> Result<(), Fault>
+        ensures { IfErr result (λ why. drive_fault_of why ≡ None) }
+    {
+        if self.is_lenient {
+            return Ok(());
+        }
+        match begun_script(world, next) {
+            Some((shell, frame)) => self.check_frame(rt, world, shell, frame),
+            None => Ok(()),
+        }
+    }
+
+    // Checks the lines of a script that begins in a shell.
+    fn check_frame<R: AllocGlobal + Eprint>(
+        &mut self,
+        rt: &R,
+        world: &World,
+        shell: &Shell,
+        frame: &Frame,
+    ) -> Result<(), Fault>
+        ensures { IfErr result (λ why. drive_fault_of why ≡ None) }
+    {
+        let FrameKind::Script { name, .. } = frame.kind() else {
+            return Ok(());
+        };
+        let alloc = rt.alloc();
+        let bytes = bytes_at(alloc, world, name)?;
+        let found = check(alloc, &shell.settings().aliases, frame.further(), bytes)?;
+        if found.is_empty() {
+            return Ok(());
+        }
+        let is_new = self.is_first_report(name)?;
+        if report_all(rt, self.shown(name), &found, is_new)? {
+            return Err(not_run(alloc, self.shown(name)));
+        }
+        Ok(())
+    }
+
+    // Harmless problems of this script were not reported yet; from now on they were.
+    fn is_first_report(&mut self, name: &Text) -> Result<bool, NoMemory> {
+        if self.reported.contains(name) {
+            return Ok(false);
+        }
+        self.reported.push(name.copy()?)?;
+        Ok(true)
+    }
+
+    // What a script is called in a report: that of the command line by its file, any other by its path in the Shell's files.
+    fn shown<'n>(&'n self, name: &'n Text) -> &'n str {
+        if self.path == *name {
+            return self.file;
+        }
+        std::str::from_utf8(name.as_bytes()).unwrap_or("")
+    }
+}
+
+// The script whose first line is taken next, and its shell.
+fn begun_script(world: &World, next: Next) -> Option<(&Shell, &Frame)> {
+    let Next::Turn(number) = next else {
+        return None;
+    };
+    let shell = world.shell(number)?;
+    let frame = shell.frames().last()?;
+    match frame.script_line() {
+        Some((_, 0)) => Some((shell, frame)),
+        _ => None,
+    }
+}
+
+// The bytes of the file at a full path; none if it is gone.
+fn bytes_at<'w>(alloc: Global, world: &'w World, path: &Text) -> Result<&'w [u8], NoMemory> {
+    Ok(match world.files().look(&place_at(alloc, path)?) {
+        Some(entry) => entry.bytes(),
+        None => &[],
+    })
+}
+
+// The place of a full path: the names after the colon, which slashes separate.
+fn place_at(alloc: Global, path: &Text) -> Result<Place, NoMemory> {
+    let bytes = path.as_bytes();
+    let names = bytes.strip_prefix(b"RAM:").unwrap_or(bytes);
+    let mut place = Place::root(alloc);
+    for name in names.split(|byte| *byte == b'/') {
+        place = place.with(Name::new(Text::from_bytes(alloc, name)?))?;
+    }
+    Ok(place)
+}
+
+// Reports what was found in a script, but harmless problems only if they are new, all of them in one line; gives whether one was
+// not harmless.
+fn report_all<R: AllocGlobal + Eprint>(
+    rt: &R,
+    name: &str,
+    found: &[Finding],
+    is_new: bool,
+) -> Result<bool, NoMemory> {
+    let mut is_refused = false;
+    let mut is_told = !is_new;
+    for one in found {
+        let is_harmless = one.problem.is_harmless();
+        if !(is_harmless && is_told) {
+            let line = format!(in rt.alloc(); "{name}: {one}")?;
+            report(rt, &line);
+        }
+        is_told = is_told || is_harmless;
+        is_refused = is_refused || !is_harmless;
+    }
+    Ok(is_refused)
+}
+
+// The fault of a script that is not run.
+fn not_run(alloc: Global, name: &str) -> Fault
+    ensures { drive_fault_of result ≡ None }
+{
+    match String::from_str(alloc, name) {
+        Ok(name) => Fault::NotRun(name),
+        Err(_) => Fault::Memory,
+    }
+}

@@ -1,0 +1,168 @@
+//! `--check`: scripts are looked at, and those that they call, and nothing runs.
+
+use crate::faults::{Fault, unread_script};
+use crate::hosts::hosts_for;
+use crate::request::Options;
+use crate::status::Status;
+use ados_check::{Finding, Problem, inspect, mark, strike};
+use ados_resident::HostEntry;
+use ados_shell::Commands;
+use ados_transfer::{last_piece, parted, read_script, step_into};
+use std::io::Write;
+use std::rt::{Env, Files};
+use std::{fs, io};
+
+// At most this many scripts are looked at.
+const SCRIPTS: usize = 1024;
+
+// The scripts that are looked at, and what is known of others.
+#[derive(Drop)]
+struct Inspector<'a> {
+    options: &'a Options<'a>,
+    hosts: Vec<HostEntry>,
+    commands: Commands,
+    // The paths of those that were found so far, and the same without links.
+    paths: Vec<String>,
+    whole: Vec<String>,
+}
+
+/// Writes a line on standard output for each thing that is found in the scripts of the command line and in those that they call;
+/// gives `Wrong` if there is an error, otherwise `Done`.
+pub fn inspect_all<R: Env + AllocGlobal + Files + Print>(
+    rt: &R,
+    options: &Options<'_>,
+) -> Result<Status, Fault> {
+    let mut inspector = Inspector {
+        options,
+        hosts: hosts_for(rt, options)?,
+        commands: Commands::new(rt.alloc())?,
+        paths: Vec::new(rt.alloc()),
+        whole: Vec::new(rt.alloc()),
+    };
+    inspector.add(rt, options.script)?;
+    for path in &options.args {
+        inspector.add(rt, path)?;
+    }
+    let mut status = Status::Done;
+    for place in 0..SCRIPTS {
+        let Some(path) = inspector.paths.get(place) else {
+            break;
+        };
+        let path = String::from_str(rt.alloc(), path.as_str())?;
+        if inspector.inspect_one(rt, path.as_str())? {
+            status = Status::Wrong;
+        }
+    }
+    Ok(status)
+}
+
+impl Inspector<'_> {
+    // A script at this path is looked at too, once.
+    fn add<R: AllocGlobal + Files>(&mut self, rt: &R, path: &str) -> Result<(), Fault> {
+        let whole = match fs::canonicalize(rt, path) {
+            Ok(whole) => String::from_str(rt.alloc(), whole.as_path().as_str())?,
+            Err(_) => String::from_str(rt.alloc(), path)?,
+        };
+        if !self.whole.contains(&whole) {
+            self.paths.push(String::from_str(rt.alloc(), path)?)?;
+            self.whole.push(whole)?;
+        }
+        Ok(())
+    }
+
+    // Looks at a script; gives whether it has an error.
+    fn inspect_one<R: AllocGlobal + Files + Print>(
+        &mut self,
+        rt: &R,
+        path: &str,
+    ) -> Result<bool, Fault> {
+        let mut script = match read_script(rt, path) {
+            Ok(script) => script,
+            Err(fault) => return Err(unread_script(rt, fault)),
+        };
+        if self.options.ascii_marks {
+            mark(&mut script);
+        }
+        if self.options.strike {
+            strike(rt.alloc(), &mut script)?;
+        }
+        let mut is_wrong = false;
+        for finding in &inspect(rt.alloc(), &self.commands, &script)? {
+            if !self.is_known(rt, &finding.problem)? {
+                write_line(rt, path, finding)?;
+                is_wrong = is_wrong || finding.problem.is_error();
+            }
+        }
+        Ok(is_wrong)
+    }
+
+    // What a problem misses is there after all; a script is looked at then.
+    fn is_known<R: AllocGlobal + Files>(
+        &mut self,
+        rt: &R,
+        problem: &Problem,
+    ) -> Result<bool, Fault> {
+        let name = match problem {
+            Problem::UnknownCommand(name) | Problem::NoScript(name) => name,
+            _ => return Ok(false),
+        };
+        let Ok(word) = std::str::from_utf8(name.as_bytes()) else {
+            return Ok(false);
+        };
+        let is_script = matches!(problem, Problem::NoScript(_));
+        if !is_script
+            && self.hosts.iter().any(|host| name
+                .as_bytes()
+                .eq_ignore_ascii_case(host.name.as_bytes()))
+        {
+            return Ok(true);
+        }
+        match self.file_of(rt, word)? {
+            Some(path) if is_script => self.add(rt, path.as_str())?,
+            Some(_) => {}
+            // Where a device leads is not known.
+            None => return Ok(word.contains(':')),
+        }
+        Ok(true)
+    }
+
+    // The file of this machine that the Shell will have under a name: in the shared folder, or brought in.
+    fn file_of<R: AllocGlobal + Files>(&self, rt: &R, name: &str) -> Result<Option<String>, Fault> {
+        if let Some(words) = self.options.share {
+            let (folder, _) = parted(rt, words);
+            let folder = if folder == "." { "" } else { folder };
+            let path = step_into(rt.alloc(), folder, name)?;
+            if fs::metadata(rt, path.as_str()).is_ok_and(|found| !found.is_dir()) {
+                return Ok(Some(path));
+            }
+        }
+        for words in &self.options.bring {
+            let (path, target) = parted(rt, words);
+            let target = target.unwrap_or(last_piece(path));
+            if is_name(name, target.strip_prefix("S:").unwrap_or(target)) {
+                return Ok(Some(String::from_str(rt.alloc(), path)?));
+            }
+        }
+        Ok(None)
+    }
+}
+
+// A name of the Shell, which S: may stand before, is this one.
+fn is_name(name: &str, other: &str) -> bool {
+    let name = name.strip_prefix("S:").unwrap_or(name);
+    name.as_bytes().eq_ignore_ascii_case(other.as_bytes())
+}
+
+// Writes the line of a finding, as a compiler does.
+fn write_line<R: AllocGlobal + Print>(rt: &R, path: &str, finding: &Finding) -> Result<(), Fault> {
+    let kind = if finding.problem.is_error() {
+        "error"
+    } else {
+        "note"
+    };
+    let line = format!(in rt.alloc(); "{path}:{}: {kind}: {}\n", finding.line, finding.problem)?;
+    match io::writer(rt).write_all(line.as_bytes()) {
+        Ok(()) => Ok(()),
+        Err(_) => Err(Fault::Write),
+    }
+}
