@@ -123,10 +123,12 @@ plays-alone turns before now (Err why) d none = by-fault (drive_fault_of why) d
         record { turns = turns; before = before; now = now; drives = d; no_calls = none; world_is = refl; last_is = refl; contents_are = refl; contents_now_are = refl }
 
 -- some may be missing
-rule-any : (is_cut : Bool) (w last : WorldState) (contents contents_now : Option (List ℕ)) → DoesByRule w last is_cut contents contents_now → DoesByRule w last true contents contents_now
-rule-any is_cut w last contents contents_now d = record { deeds = d.deeds; lead = d.lead; written = written-some is_cut contents contents_now (bytes_of_deeds d.deeds) d.written; limits = d.limits; reports = d.reports; frames = d.frames }
-
--- by the result of the run, and whether it was refused
-pub rule-refused : (is_cut : Bool) (w last : WorldState) (contents contents_now : Option (List ℕ)) (result : Result End Fault) → may_be_cut result ≡ true → DoesByRule w last is_cut contents contents_now
-    → DoesByRule w last (may_be_cut result) contents contents_now
-rule-refused is_cut w last contents contents_now result is d = rw is (rule-any is_cut w last contents contents_now d)
+pub rule_cut : (is_cut : Bool) (w last : WorldState) (contents contents_now : Option (List ℕ)) → DoesByRule w last is_cut contents contents_now → DoesByRule w last true contents contents_now
+rule_cut is_cut w last contents contents_now d = record {
+  deeds = d.deeds;
+  lead = d.lead;
+  written = written-some is_cut contents contents_now (bytes_of_deeds d.deeds) d.written;
+  limits = d.limits;
+  reports = d.reports;
+  frames = d.frames;
+}
