@@ -67,6 +67,7 @@ made-same w r r' c c' f f' s s' calls calls' is_full is_full' er ec ef es el eb 
 pub told-same : {K : Type 0} (contents : K → Option (List ℕ)) (write_faults stalls : K → ℕ) (w : WorldState) (reader reader' : PrompterView) (writer writer' : Gate K) (launcher launcher' : HostView)
     → reader' ≡ reader → launcher' ≡ launcher → contents_through contents writer' ≡ contents_through contents writer → write_faults writer'.inner ≡ write_faults writer.inner → stalls writer'.inner ≡ stalls writer.inner
     → playing_moment contents write_faults stalls w reader' writer' launcher' ≡ playing_moment contents write_faults stalls w reader writer launcher
+unfolding made
 told-same contents write_faults stalls w reader reader' writer writer' launcher launcher' er el ec ef es =
     made-same w reader.faults reader'.faults (contents_through contents writer) (contents_through contents writer') (write_faults writer.inner) (write_faults writer'.inner) (stalls writer.inner) (stalls writer'.inner)
     launcher.calls launcher'.calls launcher.is_full launcher'.is_full (ap (λ r. r.faults) er) ec ef es (ap (λ l. l.calls) el) (ap (λ l. l.is_full) el)

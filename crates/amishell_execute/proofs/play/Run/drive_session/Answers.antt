@@ -13,7 +13,7 @@ loop-init g c = record {
   agrees = c.requires.agrees;
   does = does-none _ _ _ _ refl refl;
   children = c.requires.children;
-  without_share = λ none. none;
+  without_share = search rules;
   alone = λ none. alone-none _ c.args.session.now refl c.requires.begins c.requires.held c.requires.agrees;
 }
 
