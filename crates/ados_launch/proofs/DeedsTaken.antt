@@ -1,7 +1,6 @@
 -- What a step of a session does.
-use Rattle.std.proofs.Common.{◌≡◌, ℕ, ◌+◌, List, Bool, true, false, Result, Ok, Err, take, refl}
+use Rattle.std.proofs.Common.{ℕ, List, Bool, true, false, Result, Ok, Err, refl}
 use Rattle.std.specs.Prelude.{Option}
-use Rattle.std.specs.Io.KnownBytes.{Appends}
 use Rattle.ados_machine.specs.declared.outs.Out.{Out}
 use Rattle.ados_launcher.specs.declared.calls.Call.{Call}
 use Rattle.ados_machine.specs.World.{WorldState}

@@ -51,7 +51,7 @@ pub struct Script<'a> {
 /// command whose code reaches the limit in force after it, the reports are the ends of scripts, and each frame ends once. What
 /// these events print was written, all of it and in order, except for the lines that bring in a shared folder's files; only some
 /// of it if a write failed.
-#[tactic(auto, using(crate::proofs::Pairs::kept_pair))]
+#[tactic(auto, using(crate::proofs::Pairs::kept_pair, crate::proofs::Pairs::rule_stays, crate::proofs::Driving::rule_cut))]
 pub fn play<R: AllocGlobal + Files + Input + Eprint + Processes + Clone + Drop + Clock, K: Sink>(
     rt: &R,
     world: &mut World,
@@ -194,6 +194,7 @@ impl<R: AllocGlobal + Files + Eprint + Processes + Clone + Drop + Clock, I: Read
     }
 
     // Attends to the time, to the script that begins, to the shell whose event comes next, and to the shared folder, if there is one.
+    #[tactic(auto, using(crate::proofs::Pairs::lines_stay))]
     fn attend(
         &mut self,
         world: &mut World,

@@ -1,4 +1,4 @@
-use Rattle.std.proofs.Common.{arith, rules, ap, inr, length, sym, ◌∙◌, [], subst, List, ℕ, ◌≡◌}
+use Rattle.std.proofs.Common.{arith, rules, ap, inr, length, sym, ◌∙◌, [], subst, ◌≡◌}
 use Rattle.std.proofs.lemmas.List.{length-map}
 use Rattle.ados_text.specs.Text.{to_ascii}
 use Rattle.ados_machine.specs.declared.events.Event.TheVariants.{Typed, EndOfInput}
