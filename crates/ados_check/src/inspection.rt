@@ -28,7 +28,7 @@ pub fn inspect(alloc: Global, commands: &Commands, bytes: &[u8]) -> Result<Vec<F
     if !is_dotted(bytes) {
         push_idle_directives(written.as_slice(), &mut found)?;
     }
-    match sample(alloc, written.as_slice(), bytes)? {
+    match sample_of(alloc, written.as_slice(), bytes)? {
         Sample::Unknown => {}
         Sample::Bad(finding) => found.push(finding)?,
         Sample::Lines(lines) => {
