@@ -1,14 +1,18 @@
-/* Makes system calls fail in a program, but not in those that it starts. Built by scripts/fail-each-call and put before the
+/* Makes system calls fail in a program, or runs another program before them, but not in those that it starts. It is put before the
    C library by LD_PRELOAD. FAIL_CALL names the kind of the calls: `read`, of standard input; `write`, to standard output;
-   `piece`, a read of a pipe that is not standard input; `wait`, for a process; `pipe`, the making of one; `start`, of a process.
+   `piece`, a read of a pipe that is not standard input; `wait`, for a process; `pipe`, the making of one; `start`, of a process;
+   `open`, `rename`, `link`, `unlink` (of a folder too), `mkdir`, `look`, of a path; `path`, any of these six.
    Of these the one whose number, from 1, FAIL_AT gives fails with the error FAIL_ERRNO, or if that is 0 moves no byte, and
-   so does each after it if FAIL_ON is given; if it is made, the file FAIL_MARK is created. Each read or write of the kind moves at most FAIL_BYTES bytes, if that is
+   so does each after it if FAIL_ON is given; if it is made, the file FAIL_MARK is created. Calls of a path are counted only when there is
+   the file FAIL_FROM, if that is given; and if FAIL_RUN is, they do not fail: before they are made this program runs to its end, with the kind and the path
+   as its words. Each read or write of the kind moves at most FAIL_BYTES bytes, if that is
    given. A wait that fails has waited, unless it was interrupted. */
 #define _GNU_SOURCE
 #include <dlfcn.h>
 #include <errno.h>
 #include <fcntl.h>
 #include <spawn.h>
+#include <stdarg.h>
 #include <stdlib.h>
 #include <string.h>
 #include <sys/resource.h>
@@ -34,11 +38,17 @@ __attribute__((constructor)) static void begin(void) {
 
 static int is_kind(const char *kind) { return failing && strcmp(kind, failing) == 0; }
 
+/* Counts a call, and returns whether it is the one. */
+static int is_met(void) {
+    if (++calls < at || (calls > at && !goes_on)) return 0;
+    const char *file = getenv("FAIL_MARK");
+    if (file) close(creat(file, 0600));
+    return 1;
+}
+
 /* Counts a call of this kind, and returns whether it is the one that fails. */
 static int fails(const char *kind) {
-    if (!is_kind(kind) || ++calls < at || (calls > at && !goes_on)) return 0;
-    const char *file = getenv("FAIL_MARK");
-    if (file) close(open(file, O_CREAT | O_WRONLY, 0600));
+    if (!is_kind(kind) || !is_met()) return 0;
     errno = error;
     return 1;
 }
@@ -127,3 +137,73 @@ int pipe2(int ends[2], int flags) {
 
 START(posix_spawn)
 START(posix_spawnp)
+
+/* Runs FAIL_RUN before a call, and waits for its end. */
+static void run_before(const char *run, const char *kind, const char *path) {
+    int (*next)(pid_t *, const char *, const posix_spawn_file_actions_t *, const posix_spawnattr_t *, char *const[], char *const[]) =
+        dlsym(RTLD_NEXT, "posix_spawn");
+    pid_t (*wait_for)(pid_t, int *, int) = dlsym(RTLD_NEXT, "waitpid"), child;
+    char *words[] = {(char *)run, (char *)kind, (char *)path, NULL};
+    if (next(&child, run, NULL, NULL, words, environ) == 0) wait_for(child, NULL, 0);
+}
+
+/* Counts a call of a path, runs the program that comes before it, and returns whether it fails instead. */
+static int path_fails(const char *kind, const char *path) {
+    const char *from = getenv("FAIL_FROM"), *run = getenv("FAIL_RUN");
+    int before = errno;
+    if (!is_kind("path") && !is_kind(kind)) return 0;
+    if (from && access(from, F_OK) != 0) return errno = before, 0;
+    if (!is_met()) return 0;
+    if (run) return run_before(run, kind, path), errno = before, 0;
+    errno = error;
+    return 1;
+}
+
+#define PATH(name, kind, path, parameters, words)          \
+    int name parameters {                                  \
+        static int(*next) parameters;                      \
+        if (!next) next = dlsym(RTLD_NEXT, #name);         \
+        return path_fails(kind, path) ? -1 : next words;   \
+    }
+
+/* The mode of an open, which is only given if it makes a file. */
+#define MODE(flags, mode)                                                   \
+    mode_t mode = 0;                                                        \
+    if (flags & (O_CREAT | __O_TMPFILE)) {                                  \
+        va_list rest;                                                       \
+        va_start(rest, flags);                                              \
+        mode = va_arg(rest, mode_t);                                        \
+        va_end(rest);                                                       \
+    }
+
+#define OPEN(name)                                                          \
+    int name(const char *path, int flags, ...) {                            \
+        static int (*next)(const char *, int, mode_t);                      \
+        if (!next) next = dlsym(RTLD_NEXT, #name);                          \
+        MODE(flags, mode)                                                   \
+        return path_fails("open", path) ? -1 : next(path, flags, mode);     \
+    }
+
+#define OPEN_AT(name)                                                             \
+    int name(int folder, const char *path, int flags, ...) {                      \
+        static int (*next)(int, const char *, int, mode_t);                       \
+        if (!next) next = dlsym(RTLD_NEXT, #name);                                \
+        MODE(flags, mode)                                                         \
+        return path_fails("open", path) ? -1 : next(folder, path, flags, mode);   \
+    }
+
+OPEN(open)
+OPEN(open64)
+OPEN_AT(openat)
+OPEN_AT(openat64)
+PATH(rename, "rename", old, (const char *old, const char *new), (old, new))
+PATH(renameat, "rename", old, (int from, const char *old, int to, const char *new), (from, old, to, new))
+PATH(renameat2, "rename", old, (int from, const char *old, int to, const char *new, unsigned flags), (from, old, to, new, flags))
+PATH(link, "link", old, (const char *old, const char *new), (old, new))
+PATH(linkat, "link", old, (int from, const char *old, int to, const char *new, int flags), (from, old, to, new, flags))
+PATH(unlink, "unlink", path, (const char *path), (path))
+PATH(unlinkat, "unlink", path, (int folder, const char *path, int flags), (folder, path, flags))
+PATH(rmdir, "unlink", path, (const char *path), (path))
+PATH(mkdir, "mkdir", path, (const char *path, mode_t mode), (path, mode))
+PATH(mkdirat, "mkdir", path, (int folder, const char *path, mode_t mode), (folder, path, mode))
+PATH(statx, "look", path, (int folder, const char *path, int flags, unsigned fields, struct statx *about), (folder, path, flags, fields, about))

@@ -4,12 +4,13 @@
 usage: share_losses.py PROGRAM ROOM [CHANGES [SEED]]
 
 A script and the programs that it starts move, copy, join and lengthen files, and make directories, links and names that begin with a
-dot; files become directories and directories files; files are too large for the Shell or for the limit of this run; and both sides
-take the same names. Nothing of that destroys anything: no file is deleted, and none is written over but by a longer one. So each
-line that was once in a file of the folder must be in one at each later look, under whatever name.
+dot; files and directories are moved to T: and back; files become directories and directories files; files are too large for the Shell or for
+the limit of this run, and get bits and comments; and both sides take the same names. Nothing of that destroys anything: no file is deleted, and
+none is written over but by a longer one. So each line that was once in a file of the folder must be in one at each later look, under whatever
+name. One run in four is killed; in the others no temporary file may be left at the end that is not told.
 The last line is 'N changes, M looks: ok'.
 """
-import os, random, re, resource, shutil, signal, subprocess, sys
+import os, random, re, resource, shutil, signal, subprocess, sys, time
 
 STEPS = 60
 LIMIT = 700
@@ -24,6 +25,8 @@ class Names:
     def __init__(self, random_):
         self.random, self.new = random_, list(NAMES)
         self.files, self.moved = ['a', 'b', 'c', 'p/a', 'q/b', 'big'], set()
+        # what stands in T:, and what was lengthened since a program last started
+        self.out, self.longer = [], set()
 
     def fresh(self):
         if self.random.random() < 0.1:
@@ -42,17 +45,41 @@ class Names:
         return self.random.choice([name for name in self.files if name not in self.moved] or ['z'])
 
 
+def by_way_of_memory(names):
+    """A line that moves a file or a directory to T:, or one from there: as it was when a program last started, or it is another one."""
+    if names.out and names.random.random() < 0.5:
+        old, new = names.out.pop(names.random.randrange(len(names.out))), names.fresh()
+        names.files.append(new)
+        return [f'Rename {old} {new}']
+    old, new = names.file(), f'T:m{names.random.randrange(10 ** 9)}'
+    if not names.longer and names.random.random() < 0.3:
+        old = names.random.choice(FOLDERS)
+    if old in names.longer:
+        return []
+    names.moved.add(old)
+    names.out.append(new)
+    return [f'Rename {old} {new}']
+
+
 def by_script(names, number):
     """Lines of a change by the script. It may fail: the names are those that there were without the other side."""
     token, kind = f't{number}x' + 'y' * 90, names.random.random()
+    if kind < 0.1:
+        return by_way_of_memory(names)
+    if kind < 0.15:
+        name = names.file()
+        return [names.random.choice([f'Protect {name} rwed', f'Protect {name} +wd', f'Filenote {name} note'])]
     if kind < 0.3:
         name = names.kept() if names.random.random() < 0.5 else names.fresh()
         names.files.append(name)
+        names.longer.add(name)
         return [f'Echo >>{name} {token}']
     if kind < 0.6:
         old, new = names.file(), names.fresh()
         names.moved.add(old)
         names.files.append(new)
+        if old in names.longer:
+            names.longer.add(new)
         return [f'Rename {old} {new}']
     if kind < 0.75:
         new = names.own()
@@ -126,6 +153,15 @@ def sh(lines, folder):
     subprocess.run(['sh', '-c', '\n'.join(lines)], cwd=folder, stdin=subprocess.DEVNULL, stderr=subprocess.DEVNULL)
 
 
+def await_input(pid):
+    """Waits until a process that has asked waits for the answer: what changed is written by then."""
+    idle = 0
+    while idle < 3:
+        with open(f'/proc/{pid}/stat') as file:
+            idle = idle + 1 if file.read().rsplit(')', 1)[1].split()[0] == 'S' else 0
+        time.sleep(0.002)
+
+
 def limit():
     signal.signal(signal.SIGXFSZ, signal.SIG_IGN)
     resource.setrlimit(resource.RLIMIT_FSIZE, (LIMIT, resource.RLIM_INFINITY))
@@ -148,6 +184,8 @@ def run(program, room, random_, count):
         users.append([by_user(random_, next(count)) for _ in range(random_.randint(0, 2))])
         done += len(users[-1])
         asks.append(random_.random() < 0.4)
+        if not asks[-1]:
+            names.longer.clear()
         script.append(f'Ask {len(users) - 1}?' if asks[-1] else f'act {len(users) - 1}')
     with open(os.path.join(room, 'script'), 'w') as file:
         file.write('\n'.join(script) + '\n')
@@ -157,27 +195,50 @@ def run(program, room, random_, count):
         file.write(f'#!/bin/sh\necho "$1? " | tr -d "\\n"\nuntil [ -e "{done_at}$1" ]; do sleep 0.01; done\n')
     os.chmod(act, 0o755)
     looks = Looks(folder)
-    child = subprocess.Popen([program, '--host', f'act={act}', '--share', folder, os.path.join(room, 'script')], bufsize=0,
-                             stdin=subprocess.PIPE, stdout=subprocess.PIPE, stderr=subprocess.DEVNULL, preexec_fn=limit)
+    killed_at = random_.randrange(STEPS) if random_.random() < 0.25 else None
+    with open(os.path.join(room, 'told'), 'w') as told:
+        child = subprocess.Popen([program, '--host', f'act={act}', '--share', folder, os.path.join(room, 'script')], bufsize=0,
+                                 stdin=subprocess.PIPE, stdout=subprocess.PIPE, stderr=told, preexec_fn=limit)
     for number, lines in enumerate(users):
-        said = b''
-        while not said.endswith(f'{number}? '.encode()):
-            byte = child.stdout.read(1)
-            if not byte:
-                raise SystemExit(f'the script ended before step {number}: {said[-300:].decode()}')
-            said += byte
+        await_step(child, number)
+        if asks[number]:
+            await_input(child.pid)
         looks.look(f'{room}, before step {number}')
         sh(lines, folder)
         looks.found = tokens(folder)
-        if asks[number]:
+        if number == killed_at:
+            child.send_signal(random_.choice([signal.SIGKILL, signal.SIGTERM, signal.SIGINT, signal.SIGHUP]))
+        if asks[number] and number != killed_at:
             child.stdin.write(b'n\n')
-        else:
-            open(done_at + str(number), 'w').close()
+        open(done_at + str(number), 'w').close()
+        if number == killed_at:
+            break
     child.stdin.close()
     child.stdout.read()
     child.wait()
     looks.look(f'{room}, at the end')
+    if killed_at is None:
+        nothing_is_left(room, folder)
     return done, looks.looks
+
+
+def await_step(child, number):
+    """Reads what the script prints up to a step."""
+    said = b''
+    while not said.endswith(f'{number}? '.encode()):
+        byte = child.stdout.read(1)
+        if not byte:
+            raise SystemExit(f'the script ended before step {number}: {said[-300:].decode()}: FAILED')
+        said += byte
+
+
+def nothing_is_left(room, folder):
+    """Looks for temporary files that were not told."""
+    with open(os.path.join(room, 'told')) as file:
+        told = file.read()
+    left = [name for _, _, files in os.walk(folder) for name in files if name.startswith('.amishell-execute.') and name not in told]
+    if left:
+        raise SystemExit(f'{room}: {left} is left: FAILED')
 
 
 def main():

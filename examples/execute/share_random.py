@@ -6,10 +6,11 @@ usage: share_random.py PROGRAM ROOM [CHANGES [SEED]]
 A script changes files and directories, starts a program, which changes some too, and asks, and meanwhile others are changed. The
 model says what must stand: what one side changed comes to the other; where both changed this machine's stands; what the Shell
 changed and this machine deleted is written again; what is not as it was at the last time is never deleted; and nothing is deleted
-while something that the Shell has is not written, or after it gave way. share_losses.py tries what the model leaves out.
+while something that the Shell has is not written, or after it gave way. What changed is written before a question too. What the script
+moves to T: stays here until it comes in again elsewhere. share_losses.py tries what the model leaves out.
 The last line is 'N changes, M starts: ok'.
 """
-import os, random, shutil, subprocess, sys
+import os, random, shutil, subprocess, sys, time
 
 STEPS = 120
 FILES = ['a', 'b', 'c', 'd', 'p/a', 'p/b', 'q/a', 'q/b', 'r/a']
@@ -21,11 +22,15 @@ def below(side, folder):
     return [path for path in side if path.startswith(folder + '/')]
 
 
+class Unsure(Exception):
+    """The model does not say what comes now: the plan is made anew."""
+
+
 class Model:
-    """What stands in the Shell, on this machine, and at the last time on both."""
+    """What stands in the Shell, on this machine, and at the last time on both; and what stands in T:."""
 
     def __init__(self):
-        self.shell, self.machine, self.last = {}, {}, {}
+        self.shell, self.machine, self.last, self.out = {}, {}, {}, {}
         self.told = set()
 
     def of(self, path):
@@ -38,9 +43,39 @@ class Model:
         else:
             side[path] = value
 
-    def write_out(self):
+    def move(self, random_):
+        """A line that moves a file to T:, whose bytes no other has and which stands on both sides, or one from there; or None."""
+        if self.out and random_.random() < 0.6:
+            free = [path for path in FILES if path not in self.shell and ('/' not in path or path.split('/')[0] in self.shell)]
+            if not free:
+                return None
+            name, path = random_.choice(sorted(self.out)), random_.choice(free)
+            self.shell[path] = self.out.pop(name)
+            return f'Rename T:{name} {path}'
+        all_texts = [text for side in (self.shell, self.machine, self.out) for text in side.values()]
+        files = [path for path, text in self.shell.items()
+                 if text == self.machine.get(path) == self.last.get(path) and text != FOLDER and all_texts.count(text) == 2]
+        if not files:
+            return None
+        path, name = random_.choice(files), f't{len(self.out)}{random_.randrange(10 ** 6)}'
+        self.out[name] = self.shell.pop(path)
+        return f'Rename {path} T:{name}'
+
+    def is_held(self, path):
+        """Whether what stood here is in T: alone."""
+        text = self.last.get(path)
+        if text not in self.out.values() or self.machine.get(path) != text:
+            return False
+        others = [one for one, value in self.machine.items() if one != path and value == text]
+        if any(self.last.get(one) != text for one in others):
+            # the Shell does not know yet that there is another
+            raise Unsure
+        return not others
+
+    def write_out(self, meanwhile=False):
         """What is new is written first, then what changed, unless it writes over what was moved to one that could not be written; then
-        what is gone is deleted, the deepest first, unless something could not be written."""
+        what is gone is deleted, the deepest first, unless something could not be written. Meanwhile, at a question, what is not deleted
+        waits."""
         paths = sorted(set(self.shell) | set(self.last))
         new, owes, unwritten = set(self.shell) - set(self.last), False, []
         for path in ([p for p in paths if p in new] + [p for p in paths if p in self.shell and p not in new]
@@ -48,14 +83,22 @@ class Model:
             shell, machine, last = self.of(path)
             if shell == last:
                 continue
+            if self.is_held(path):
+                if shell != GONE or owes:
+                    raise Unsure
+                continue
+            if shell == GONE and machine == FOLDER and any(self.is_held(one) for one in below(self.machine, path)):
+                raise Unsure
             if shell == GONE and machine == last and owes:
                 # it comes in again: its bytes may be in what is not written
-                self.put(self.last, path, GONE)
+                if not meanwhile:
+                    self.put(self.last, path, GONE)
             elif shell == GONE and machine == FOLDER and below(self.machine, path):
                 self.put(self.last, path, GONE)
             elif machine == last and machine != FOLDER and machine not in shell and any(machine in text for text in unwritten):
                 # it comes in again too
-                self.put(self.last, path, GONE)
+                if not meanwhile:
+                    self.put(self.last, path, GONE)
                 unwritten.append(shell)
             elif machine in (last, shell, GONE):
                 # a folder that was deleted on this machine is made again for what is in it
@@ -123,6 +166,14 @@ def change(random_, side, number):
     if path not in side:
         side[path] = FOLDER
         return f'MakeDir {path}', f'mkdir {path}'
+    if kind < 0.86:
+        free = [other for other in FOLDERS if other not in side]
+        if not free:
+            return None
+        other = random_.choice(free)
+        for one in [path, *below(side, path)]:
+            side[other + one[len(path):]] = side.pop(one)
+        return f'Rename {path} {other}', f'mv {path} {other}'
     if kind < 0.9:
         return None
     for one in below(side, path):
@@ -156,8 +207,11 @@ def plan(random_, count):
     for _ in range(STEPS):
         lines = changes(random_, model.shell, 3, count)
         script += [line for line, _ in lines]
+        move = model.move(random_) if random_.random() < 0.2 else None
+        script += [move] if move else []
         done += len(lines)
         if random_.random() < 0.4:
+            model.write_out(meanwhile=True)
             lines = changes(random_, model.machine, 2, count)
             script.append(f'Ask {len(asks)}?')
             asks.append([line for _, line in lines])
@@ -190,8 +244,26 @@ def await_prompt(pipe, number):
         said += byte
 
 
+def sure_plan(random_, count):
+    """A plan of which the model knows all."""
+    while True:
+        try:
+            return plan(random_, count)
+        except Unsure:
+            pass
+
+
+def await_input(pid):
+    """Waits until a process that has asked waits for the answer: what changed is written by then."""
+    idle = 0
+    while idle < 3:
+        with open(f'/proc/{pid}/stat') as file:
+            idle = idle + 1 if file.read().rsplit(')', 1)[1].split()[0] == 'S' else 0
+        time.sleep(0.002)
+
+
 def run(program, room, random_, count):
-    first, script, acts, asks, wanted, told, done = plan(random_, count)
+    first, script, acts, asks, wanted, told, done = sure_plan(random_, count)
     shutil.rmtree(room, ignore_errors=True)
     for name in ('shared', 'acts', 'seen'):
         os.makedirs(os.path.join(room, name))
@@ -211,7 +283,11 @@ def run(program, room, random_, count):
                                  stdin=subprocess.PIPE, stdout=subprocess.PIPE, stderr=faults, bufsize=0)
         for number, lines in enumerate(asks):
             await_prompt(child.stdout, number)
-            sh(lines, folder)
+            await_input(child.pid)
+            try:
+                sh(lines, folder)
+            except subprocess.CalledProcessError:
+                raise SystemExit(f'question {number} in {room}: what the script changed before is not there: {lines}: FAILED')
             child.stdin.write(b'n\n')
         child.stdin.close()
         child.stdout.read()

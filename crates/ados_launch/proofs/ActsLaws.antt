@@ -1,5 +1,5 @@
 -- What leads from a sane world to another moves the frames of each shell by its trace; and so each script ends where the rule says.
-use Rattle.std.proofs.Common.{◌≡◌, ℕ, List, [], ◌∷◌, ◌++◌, Ok, refl, ap, append-nil}
+use Rattle.std.proofs.Common.{◌≡◌, ℕ, Bool, Option, List, [], ◌∷◌, ◌++◌, Ok, refl, ap, append-nil}
 use Rattle.ados_machine.specs.declared.events.Event.{Event}
 use Rattle.ados_machine.specs.declared.outs.Out.{Out}
 use Rattle.ados_machine.specs.Limits.{IsSane}
@@ -17,8 +17,10 @@ use Rattle.ados_machine.proofs.Shells.{own-append}
 use Rattle.ados_machine.proofs.StepMoves.{step-moves}
 use Rattle.ados_machine.proofs.Traces.{moves-append, moves-limits}
 use Rattle.ados_world.proofs.OpenedLemmas.{opened-moves, opened-sane}
-use Rattle.ados_launch.specs.Laws.{ActsObeyTheRule, ReachableWorldsAreLedToByRule}
-use Rattle.ados_launch.specs.Leads.{Act, Takes, Opens, ActsLead, IsReachable, opening_items, trace_of_acts, ActsReportEnds, LeadsByRule}
+use Rattle.ados_launch.specs.Deeds.{Does, DoesByRule, acts_of_deeds}
+use Rattle.ados_launch.specs.Laws.{ActsObeyTheRule, DeedsObeyTheRule}
+use Rattle.ados_launch.specs.Leads.{Act, Takes, Opens, ActsLead, opening_items, trace_of_acts, ActsReportEnds}
+use Rattle.ados_launch.proofs.Deeding.{acts-lead}
 
 -- the world after an event of an act
 abbrev after : WorldState → Event → Out → WorldState
@@ -66,10 +68,11 @@ acts-obey w acts last led sane = (
   λ k. shell-goes (standing_at w k) (own k (trace_of_acts w acts)) (standing_at last k) (acts-move w acts last led sane k).follows,
 )
 
-pub leads-by-rule : (w last : WorldState) → IsReachable w last → IsSane w → LeadsByRule w last
-leads-by-rule w last reached sane =
-    let obey = acts-obey w reached.0 last reached.1 sane in
-    record { acts = reached.0; lead = reached.1; limits = obey.0; reports = obey.1; frames = obey.2 }
+pub does-by-rule : (w last : WorldState) (is_cut : Bool) (contents contents_now : Option (List ℕ)) → Does w last is_cut contents contents_now → IsSane w → DoesByRule w last is_cut contents contents_now
+does-by-rule w last is_cut contents contents_now d sane =
+    let obey = acts-obey w (acts_of_deeds d.deeds) last (acts-lead w last d.deeds d.lead) sane in
+    record { deeds = d.deeds; lead = d.lead; written = d.written; limits = obey.0; reports = obey.1; frames = obey.2 }
 
-pub reachable-by-rule : ReachableWorldsAreLedToByRule
-reachable-by-rule w last reached sane = (leads-by-rule w last reached sane, acts-sane w reached.0 last reached.1 sane)
+pub deeds-obey : DeedsObeyTheRule
+deeds-obey w last is_cut contents contents_now d sane =
+    (does-by-rule w last is_cut contents contents_now d sane, acts-sane w (acts_of_deeds d.deeds) last (acts-lead w last d.deeds d.lead) sane)

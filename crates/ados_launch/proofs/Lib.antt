@@ -20,9 +20,10 @@ pub mod Outcomes
 pub mod AloneLemmas
 pub mod AloneRuns
 pub mod NewPair
-pub mod Leading
-pub mod LeadingAlone
 pub mod Requests
 pub mod ActsLaws
+pub mod Deeding
+pub mod DeedsAlone
+pub mod DeedsTaken
 pub mod Stepping
 pub mod LinesOver

@@ -3,6 +3,7 @@ use Rattle.std.proofs.Common.{◌≡◌, ℕ, ◌+◌, ◌<◌, ◌≤◌, List,
 use Rattle.std.specs.Prelude.{IsErrAnd}
 use Rattle.std.specs.Io.KnownBytes.{Appends}
 use Rattle.ados_machine.specs.declared.events.BreakAt.{BreakAt}
+use Rattle.ados_machine.specs.declared.outs.Out.{Out}
 use Rattle.ados_machine.specs.World.{codes_at}
 use Rattle.ados_launcher.specs.declared.calls.Call.{Call}
 use Rattle.ados_launch.specs.declared.driver.End.{End}
@@ -80,9 +81,9 @@ stops-read turns n breaks before mid now schedule rest held d few here stays wor
   writes_well = writes;
 }
 
-pub stops-write : (turns n m : ℕ) (breaks : List BreakAt) (before mid now : Moment) (schedule : ScheduleState) (rest later : Option (List ℕ)) (next : Next) (out : List ℕ) → Driven before mid breaks n schedule rest → n < turns
+pub stops-write : (turns n m : ℕ) (breaks : List BreakAt) (before mid now : Moment) (schedule : ScheduleState) (rest later : Option (List ℕ)) (next : Next) (out : Out) → Driven before mid breaks n schedule rest → n < turns
     → scheduled_next schedule mid.world ≡ Some next → (mid.is_full ≡ true → now.is_full ≡ true) → TakesNextItem mid.world rest now.is_full mid.calls next now.world later now.calls out → Agrees now.world now.calls
-    → m < length out → Appends mid.contents now.contents (take m out) → ReadsWell before now
+    → m < length out.bytes → Appends mid.contents now.contents (take m out.bytes) → ReadsWell before now
     → ((now.write_faults ≡ before.write_faults + 1) × (now.stalls ≡ before.stalls)) ⊎ ((now.write_faults ≡ before.write_faults) × (now.stalls ≡ one_more before.stalls))
     → StopsAtWrite turns breaks before now
 stops-write turns n m breaks before mid now schedule rest later next out d few here stays t agrees some front reads cause = record {

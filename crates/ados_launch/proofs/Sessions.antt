@@ -5,6 +5,7 @@ use Rattle.std.proofs.Math.Seq.{take-append-add}
 use Rattle.std.proofs.lemmas.List.{take_all}
 use Rattle.std.specs.Io.KnownBytes.{Appends}
 use Rattle.ados_machine.specs.declared.events.BreakAt.{BreakAt}
+use Rattle.ados_machine.specs.declared.outs.Out.{Out}
 use Rattle.ados_machine.specs.World.{WorldState}
 use Rattle.ados_launcher.specs.declared.calls.Call.{Call}
 use Rattle.ados_launch.specs.declared.driver.End.{End}
@@ -47,7 +48,7 @@ pub calls-more : (calls mid now listed more : List Call) → mid ≡ calls ++ li
 calls-more calls mid now listed more e f = f ∙ (ap (λ xs. xs ++ more) e ∙ append_assoc calls listed more)
 
 -- one more was taken
-session-more : (before mid now : Moment) (breaks : List BreakAt) (n : ℕ) (schedule : ScheduleState) (rest later : Option (List ℕ)) (next : Next) (out : List ℕ)
+session-more : (before mid now : Moment) (breaks : List BreakAt) (n : ℕ) (schedule : ScheduleState) (rest later : Option (List ℕ)) (next : Next) (out : Out)
     → (d : Driven before mid breaks n schedule rest) → scheduled_next schedule mid.world ≡ Some next → (mid.is_full ≡ true → now.is_full ≡ true)
     → (t : TakesNextItem mid.world rest now.is_full mid.calls next now.world later now.calls out) → Agrees now.world now.calls
     → Session before.world before.left breaks before.calls now.is_full (d.listed ++ t.listed) (d.taken ++ t.item ∷ []) now.world
@@ -62,9 +63,9 @@ session-more before mid now breaks n schedule rest later next out d here stays t
       (subst (λ world. Agrees world now.calls) t.takes.world_is agrees);
 }
 
-pub driven-more : (before mid now : Moment) (breaks : List BreakAt) (n : ℕ) (schedule after : ScheduleState) (rest later : Option (List ℕ)) (next : Next) (out : List ℕ)
+pub driven-more : (before mid now : Moment) (breaks : List BreakAt) (n : ℕ) (schedule after : ScheduleState) (rest later : Option (List ℕ)) (next : Next) (out : Out)
     → Driven before mid breaks n schedule rest → scheduled_next schedule mid.world ≡ Some next → (mid.is_full ≡ true → now.is_full ≡ true)
-    → TakesNextItem mid.world rest now.is_full mid.calls next now.world later now.calls out → Agrees now.world now.calls → Appends mid.contents now.contents out → after ≡ following_schedule_state schedule mid.world next
+    → TakesNextItem mid.world rest now.is_full mid.calls next now.world later now.calls out → Agrees now.world now.calls → Appends mid.contents now.contents out.bytes → after ≡ following_schedule_state schedule mid.world next
     → Driven before now breaks (n + 1) after later
 driven-more before mid now breaks n schedule after rest later next out d here stays t agrees grown is = record {
   taken = d.taken ++ t.item ∷ [];
@@ -74,14 +75,14 @@ driven-more before mid now breaks n schedule after rest later next out d here st
   schedule_is = is ∙ (ap (following_schedule_state schedule mid.world) (sym t.next_is) ∙ (ap (λ s. following_schedule_state s mid.world (next_of t.item)) d.schedule_is
       ∙ sym (standing-more (first_schedule_state breaks) before.world d.taken mid.world t.item d.session.run)));
   left_is = λ bytes e. (t.takes.lines (rest_after_items bytes d.taken) (d.left_is bytes e)).1 ∙ ap Some (sym (left-more bytes d.taken t.item));
-  written = rw written-more (Appends-trans before.contents mid.contents now.contents (written_bytes d.taken) (bytes_of t.item) d.written (rw t.takes.bytes_are at grown));
+  written = rw written-more (Appends-trans before.contents mid.contents now.contents (written_bytes d.taken) (bytes_of t.item) d.written (rw t.takes.out_is at grown));
   calls_are = calls-more before.calls mid.calls now.calls d.listed t.listed d.calls_are t.calls_are;
 }
 
 -- a prefix of the last one's bytes was written
-pub driven-cut : (before mid now : Moment) (breaks : List BreakAt) (n m : ℕ) (schedule : ScheduleState) (rest later : Option (List ℕ)) (next : Next) (out : List ℕ)
+pub driven-cut : (before mid now : Moment) (breaks : List BreakAt) (n m : ℕ) (schedule : ScheduleState) (rest later : Option (List ℕ)) (next : Next) (out : Out)
     → Driven before mid breaks n schedule rest → scheduled_next schedule mid.world ≡ Some next → (mid.is_full ≡ true → now.is_full ≡ true)
-    → TakesNextItem mid.world rest now.is_full mid.calls next now.world later now.calls out → Agrees now.world now.calls → m < length out → Appends mid.contents now.contents (take m out)
+    → TakesNextItem mid.world rest now.is_full mid.calls next now.world later now.calls out → Agrees now.world now.calls → m < length out.bytes → Appends mid.contents now.contents (take m out.bytes)
     → CutSessionProgress before now breaks (n + 1)
 driven-cut before mid now breaks n m schedule rest later next out d here stays t agrees some front = record {
   taken = d.taken;
@@ -90,8 +91,8 @@ driven-cut before mid now breaks n m schedule rest later next out d here stays t
   count_is = ap (λ i. i + 1) d.count_is;
   session = session-more before mid now breaks n schedule rest later next out d here stays t agrees;
   length_written = m;
-  cut = rw t.takes.bytes_are at some;
-  written = Appends-trans before.contents mid.contents now.contents (written_bytes d.taken) (take m (bytes_of t.item)) d.written (rw t.takes.bytes_are at front);
+  cut = rw t.takes.out_is at some;
+  written = Appends-trans before.contents mid.contents now.contents (written_bytes d.taken) (take m (bytes_of t.item)) d.written (rw t.takes.out_is at front);
   calls_are = calls-more before.calls mid.calls now.calls d.listed t.listed d.calls_are t.calls_are;
 }
 

@@ -42,7 +42,7 @@ takes-by was now before after (Err Turns) P is read memory write turns = turns i
 pub driven-step : (before mid now : Moment) (breaks : List BreakAt) (n : ℕ) (was next : SessionState) → Driven before mid breaks n was.schedule (bytes_ahead was.held mid.left)
     → TakesOne was next mid now → (mid.is_full ≡ true → now.is_full ≡ true) → Agrees now.world now.calls → Driven before now breaks (n + 1) next.schedule (bytes_ahead next.held now.left)
 driven-step before mid now breaks n was next d t stays agrees =
-    driven-more before mid now breaks n was.schedule next.schedule (bytes_ahead was.held mid.left) (bytes_ahead next.held now.left) t.next t.bytes
+    driven-more before mid now breaks n was.schedule next.schedule (bytes_ahead was.held mid.left) (bytes_ahead next.held now.left) t.next t.out
     d t.next_is stays t.takes agrees t.written t.schedule_is
 
 -- no more was taken: the drive stops as the step did
@@ -58,7 +58,7 @@ stops-by turns n breaks before mid now was next d few in_round stays less reads 
     s.not_taken.world_is s.not_taken.contents_are s.lacks.calls_are s.lacks.dropped_is less s.lacks.unread (s.lacks.reads_well ∙ reads)
     (s.not_taken.writes_well.0 ∙ writes.0, s.not_taken.writes_well.1 ∙ writes.1)
 stops-by turns n breaks before mid now was next d few in_round stays less reads writes Write s =
-    stops-write turns n s.length_written breaks before mid now was.schedule (bytes_ahead was.held mid.left) (bytes_ahead next.held now.left) s.next s.bytes d few
+    stops-write turns n s.length_written breaks before mid now was.schedule (bytes_ahead was.held mid.left) (bytes_ahead next.held now.left) s.next s.out d few
     s.next_is stays s.takes s.agrees s.cut s.written (s.reads_well ∙ reads) (rw (writes.0, writes.1) at s.cause)
 stops-by turns n breaks before mid now was next d few in_round stays less reads writes Turns s = absurd s
 

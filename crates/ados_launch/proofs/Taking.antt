@@ -1,5 +1,5 @@
 -- What an event that was taken is in a session.
-use Rattle.std.proofs.Common.{◌≡◌, ℕ, ◌-◌, ◌≤◌, List, [], Bool, true, false, not, Option, Some, Result, Ok, Err, OnOk, nat_lt, refl, ap, sym, subst, ◌∙◌, append-nil, arith, inl, inr}
+use Rattle.std.proofs.Common.{◌≡◌, ℕ, ◌-◌, ◌≤◌, List, [], ◌++◌, Bool, true, false, not, Option, Some, None, Result, Ok, Err, OnOk, nat_lt, refl, ap, sym, subst, ◌∙◌, append-nil, arith, inl, inr}
 use Rattle.std.specs.Prelude.{if◌then◌else◌}
 use Rattle.std.proofs.lemmas.Bool.{cases_Bool, not-true}
 use Rattle.std.proofs.lemmas.Grind.{common_steps}
@@ -12,18 +12,18 @@ use Rattle.ados_machine.specs.declared.requests.Request.{Request}
 use Rattle.ados_machine.specs.declared.requests.Request.TheVariants.{Start, Read, Wait}
 use Rattle.ados_machine.specs.Children.{answers_start, fits}
 use Rattle.ados_machine.specs.World.{WorldState, pending_of}
-use Rattle.ados_machine.specs.Step.{step_of}
+use Rattle.ados_machine.specs.Step.{event_out, step_of}
 use Rattle.ados_machine.specs.Runs.{IsResponse, resulting_world}
 use Rattle.ados_launcher.specs.declared.calls.Call.{Call}
 use Rattle.ados_launch.specs.declared.lines.LineKind.{LineKind}
-use Rattle.ados_launch.specs.declared.lines.LineKind.TheVariants.{End, Overlong, Short}
+use Rattle.ados_launch.specs.declared.lines.LineKind.TheVariants.{End, Long, Overlong, Short}
 use Rattle.ados_launch.specs.declared.rounds.Due.{Due}
 use Rattle.ados_launch.specs.declared.schedule.Next as found
 use Rattle.ados_launch.specs.declared.schedule.Next.TheVariants.{Break as BreakFound, Due as DueFound}
 use Rattle.ados_launch.specs.Asked.{LauncherAnswers, IsAsked, IsTaken, Lists}
 use Rattle.ados_launch.specs.Intake.{LacksMemory, TakesLineOrEnd, TakesNextItem}
 use Rattle.ados_launch.specs.Lines.{BeginsOverlong, IfKnown, TakesLine, line_of, rest_of, kind_of}
-use Rattle.ados_launch.specs.Taken.{TakenItem, Given, LongLine, IsNext, IsOfReader, rest_after_item, text_of}
+use Rattle.ados_launch.specs.Taken.{TakenItem, Given, LongLine, output_of, IsNext, IsOfReader, rest_after_item, text_of}
 use Rattle.ados_launch.specs.Rounds.{asks_read_or_wait, asks_start, has_event}
 use Rattle.ados_launch.specs.NoFurther.{TakesPart}
 use Rattle.ados_launch.specs.Schedule.{AtBreak, AtFurther, AtLine, AtStart, AtTurn, Next, next_at, next_of, next_of_event}
@@ -43,9 +43,9 @@ same-place next one other p q = sym (ap place-found p) ∙ ap place-found q
 pub took-line : (w now : WorldState) (left rest : Option (List ℕ)) (event : Event) (out : Out)
     → IsResponse event (Ok out) (step_of w event) → now ≡ resulting_world w (Ok out) (step_of w event) → IsOfReader (Given event out)
     → IfKnown left (λ bytes. IsNext bytes (Given event out) × (rest ≡ Some (rest_after_item bytes (Given event out))))
-    → TakesLineOrEnd w left now rest out.bytes
+    → TakesLineOrEnd w left now rest out
 took-line w now left rest event out answer world of_reader lines =
-    (Given event out, of_reader, record { accepted = answer; world_is = world; lines = lines; bytes_are = refl })
+    (Given event out, of_reader, record { accepted = answer; world_is = world; lines = lines; out_is = refl })
 
 read-place : (item : TakenItem) → IsOfReader item → next_of item ≡ AtLine
 read-place (Given (Typed line) out) h = refl
@@ -64,9 +64,9 @@ read-asks is_full w (Given (Break k kind) out) h = absurd h
 read-asks is_full w LongLine h = refl
 
 -- at place 0 a line is taken, and nothing is asked of the launcher
-pub took-at-lines : {X E : Type 0} (w now : WorldState) (left rest : Option (List ℕ)) (is_full : Bool) (calls : List Call) (place : ℕ) (bytes : List ℕ) (result : Result X E) → place ≡ 0
-    → OnOk result (TakesLineOrEnd w left now rest bytes) → OnOk result (TakesNextItem w left is_full calls (next_at place) now rest calls bytes)
-took-at-lines w now left rest is_full calls place bytes (Ok done) at t = record {
+pub took-at-lines : {X E : Type 0} (w now : WorldState) (left rest : Option (List ℕ)) (is_full : Bool) (calls : List Call) (place : ℕ) (out : Out) (result : Result X E) → place ≡ 0
+    → OnOk result (TakesLineOrEnd w left now rest out) → OnOk result (TakesNextItem w left is_full calls (next_at place) now rest calls out)
+took-at-lines w now left rest is_full calls place out (Ok done) at t = record {
   item = t.0;
   listed = [];
   next_is = read-place t.0 t.1 ∙ ap next_at (sym at);
@@ -75,7 +75,7 @@ took-at-lines w now left rest is_full calls place bytes (Ok done) at t = record 
   asked = read-asks is_full w t.0 t.1;
   when_full = λ full. tt;
 }
-took-at-lines w now left rest is_full calls place bytes (Err fault) at t = tt
+took-at-lines w now left rest is_full calls place out (Err fault) at t = tt
 
 turn-at : (place : ℕ) → 1 ≤ place → place ≤ 20 → AtTurn place ≡ next_at place
 turn-at place low high = grind (arith, common_steps)
@@ -83,12 +83,12 @@ turn-at place low high = grind (arith, common_steps)
 -- the turn of a shell
 pub took-at-turn : (w now : WorldState) (left : Option (List ℕ)) (is_full : Bool) (calls : List Call) (place : ℕ) (out : Out)
     → 1 ≤ place → place ≤ 20 → IsResponse (Turn place) (Ok out) (step_of w (Turn place)) → now ≡ resulting_world w (Ok out) (step_of w (Turn place))
-    → TakesNextItem w left is_full calls (next_at place) now left calls out.bytes
+    → TakesNextItem w left is_full calls (next_at place) now left calls out
 took-at-turn w now left is_full calls place out low high answer world = record {
   item = Given (Turn place) out;
   listed = [];
   next_is = turn-at place low high;
-  takes = record { accepted = answer; world_is = world; lines = λ bytes e. (tt, e); bytes_are = refl };
+  takes = record { accepted = answer; world_is = world; lines = λ bytes e. (tt, e); out_is = refl };
   calls_are = sym (append-nil calls);
   asked = refl;
   when_full = λ full. tt;
@@ -97,12 +97,12 @@ took-at-turn w now left is_full calls place out low high answer world = record {
 -- a break of a shell
 pub took-at-break : (w now : WorldState) (left : Option (List ℕ)) (is_full : Bool) (calls : List Call) (k : ℕ) (kind : BreakKind) (out : Out)
     → IsResponse (Break k kind) (Ok out) (step_of w (Break k kind)) → now ≡ resulting_world w (Ok out) (step_of w (Break k kind))
-    → TakesNextItem w left is_full calls (AtBreak k kind) now left calls out.bytes
+    → TakesNextItem w left is_full calls (AtBreak k kind) now left calls out
 took-at-break w now left is_full calls k kind out answer world = record {
   item = Given (Break k kind) out;
   listed = [];
   next_is = refl;
-  takes = record { accepted = answer; world_is = world; lines = λ bytes e. (tt, e); bytes_are = refl };
+  takes = record { accepted = answer; world_is = world; lines = λ bytes e. (tt, e); out_is = refl };
   calls_are = sym (append-nil calls);
   asked = refl;
   when_full = λ full. tt;
@@ -186,12 +186,12 @@ lacks-answer w faults left was_full is_full calls calls_now place outcome late d
 -- a launcher's answer
 pub took-at-answer : (w now : WorldState) (left : Option (List ℕ)) (was_full is_full : Bool) (calls calls_now : List Call) (place : ℕ) (out : Out)
     → 21 ≤ place → has_event w place ≡ true → LauncherAnswers w (shell_at_place place) was_full is_full calls calls_now (IsTaken w (shell_at_place place) now out)
-    → TakesNextItem w left is_full calls (next_at place) now left calls_now out.bytes
+    → TakesNextItem w left is_full calls (next_at place) now left calls_now out
 took-at-answer w now left was_full is_full calls calls_now place out late due a = record {
   item = Given (Answer (shell_at_place place) a.reply) out;
   listed = a.asks.listed;
   next_is = answer-at w place a.request a.reply late due a.pending_is a.asks.lists.0;
-  takes = record { accepted = a.led_to.0; world_is = a.led_to.1; lines = λ bytes e. (tt, e); bytes_are = refl };
+  takes = record { accepted = a.led_to.0; world_is = a.led_to.1; lines = λ bytes e. (tt, e); out_is = refl };
   calls_are = a.asks.calls_are;
   asked = rw a.pending_is a.asks.lists;
   when_full = a.asks.when_full;
@@ -204,6 +204,17 @@ pub next-short : (bytes : List ℕ) (kind : LineKind) (kept : List ℕ) (now : O
     → ((kind_of bytes ≡ Short) × (text ≡ text_of (line_of bytes))) × (now ≡ Some (rest_of bytes))
 next-short bytes kind kept now text slice t e said same =
     ((sym t.kind_is ∙ e, said ∙ ap text_of (same ∙ t.kept_is e)), t.now_is (λ k. cc))
+
+pub next-long : (bytes : List ℕ) (kind : LineKind) (kept : List ℕ) (now : Option (List ℕ)) → TakesLine bytes kind kept now → kind ≡ Long → (kind_of bytes ≡ Long) × (now ≡ Some (rest_of bytes))
+next-long bytes kind kept now t e = (sym t.kind_is ∙ e, t.now_is (λ k. cc))
+
+-- a text was put in the place of a long line
+pub took-long : (w : WorldState) (left rest : Option (List ℕ)) (out : Out) → IfKnown left (λ bytes. (kind_of bytes ≡ Long) × (rest ≡ Some (rest_of bytes))) → out ≡ output_of LongLine
+    → TakesLineOrEnd w left w rest out
+took-long w left rest out lines is = (LongLine, tt, record { accepted = tt; world_is = refl; lines = lines; out_is = is })
+
+pub long-out : (out : Out) (printed text : List ℕ) → out ≡ event_out [] None [] → printed ≡ out.bytes ++ text → event_out printed out.request out.reports ≡ event_out text None []
+long-out out printed text none grown = rw grown (rw none refl)
 
 -- as many bytes of an overlong line were taken as show that it is one
 pub next-overlong : (bytes : List ℕ) (kind : LineKind) (kept : List ℕ) (now : Option (List ℕ)) → TakesLine bytes kind kept now → kind ≡ Overlong → BeginsOverlong bytes now

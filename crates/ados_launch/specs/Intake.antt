@@ -1,5 +1,6 @@
 -- What taking one event gives.
 use Rattle.std.specs.Prelude.{◌≡◌, ◌++◌, ℕ, List, Bool, true, Option, Some}
+use Rattle.ados_machine.specs.declared.outs.Out.{Out}
 use Rattle.ados_machine.specs.World.{WorldState}
 use Rattle.ados_launcher.specs.declared.calls.Call.{Call}
 use Rattle.ados_launch.specs.Asked.{AreNoStarts, IsAsked}
@@ -7,25 +8,25 @@ use Rattle.ados_launch.specs.Lines.{IfKnown, IsUnreadable}
 use Rattle.ados_launch.specs.NoFurther.{TakesPartAt}
 use Rattle.ados_launch.specs.Schedule.{AtLine, Next, next_of}
 use Rattle.ados_launch.specs.Session.{AreDropped}
-use Rattle.ados_launch.specs.Taken.{TakenItem, bytes_of, rest_after_item, world_after_item, IsAccepted, IsNext, IsOfReader}
+use Rattle.ados_launch.specs.Taken.{TakenItem, output_of, rest_after_item, world_after_item, IsAccepted, IsNext, IsOfReader}
 
--- One thing was taken: the world after it, what is left to read, and the bytes that are to be written.
-pub record Takes (w : WorldState) (left : Option (List ℕ)) (item : TakenItem) (now : WorldState) (rest : Option (List ℕ)) (bytes : List ℕ) : Type 0 where
+-- One thing was taken: the world after it, what is left to read, and what it gave.
+pub record Takes (w : WorldState) (left : Option (List ℕ)) (item : TakenItem) (now : WorldState) (rest : Option (List ℕ)) (out : Out) : Type 0 where
   pub accepted : IsAccepted w item
   pub world_is : now ≡ world_after_item w item
   pub lines : IfKnown left (λ known. IsNext known item × (rest ≡ Some (rest_after_item known item)))
-  pub bytes_are : bytes ≡ bytes_of item
+  pub out_is : out ≡ output_of item
 
 -- A line was taken, or the end of the input.
-abbrev pub TakesLineOrEnd : WorldState → Option (List ℕ) → WorldState → Option (List ℕ) → List ℕ → Type 0
-TakesLineOrEnd w left now rest bytes = (item : TakenItem) × IsOfReader item × Takes w left item now rest bytes
+abbrev pub TakesLineOrEnd : WorldState → Option (List ℕ) → WorldState → Option (List ℕ) → Out → Type 0
+TakesLineOrEnd w left now rest out = (item : TakenItem) × IsOfReader item × Takes w left item now rest out
 
 -- What came next was taken, and this was asked of the launcher for it.
-pub record TakesNextItem (w : WorldState) (left : Option (List ℕ)) (is_full : Bool) (calls : List Call) (next : Next) (now : WorldState) (rest : Option (List ℕ)) (calls_now : List Call) (bytes : List ℕ) : Type 0 where
+pub record TakesNextItem (w : WorldState) (left : Option (List ℕ)) (is_full : Bool) (calls : List Call) (next : Next) (now : WorldState) (rest : Option (List ℕ)) (calls_now : List Call) (out : Out) : Type 0 where
   pub item : TakenItem
   pub listed : List Call
   pub next_is : next_of item ≡ next
-  pub takes : Takes w left item now rest bytes
+  pub takes : Takes w left item now rest out
   pub calls_are : calls_now ≡ calls ++ listed
   pub asked : IsAsked is_full w item listed
   pub when_full : is_full ≡ true → AreNoStarts listed

@@ -8,7 +8,8 @@ use Rattle.ados_machine.specs.Stacks.{FramesHold}
 use Rattle.ados_launcher.specs.declared.calls.Call.{Call}
 use Rattle.ados_launch.specs.Agreement.{Agrees}
 use Rattle.ados_launch.specs.Asked.{AreNoStarts}
-use Rattle.ados_launch.specs.Leads.{Act, ActsLead, IsReachable, ActsObeyLimits, ActsReportEnds, ActsEndFramesOnce, LeadsByRule}
+use Rattle.ados_launch.specs.Deeds.{Does, DoesByRule}
+use Rattle.ados_launch.specs.Leads.{Act, ActsLead, ActsObeyLimits, ActsReportEnds, ActsEndFramesOnce}
 use Rattle.ados_launch.specs.Taken.{TakenItem, taken_events, taken_outs}
 use Rattle.ados_launch.specs.Session.{Session}
 
@@ -47,6 +48,7 @@ abbrev pub ActsObeyTheRule : Type 0
 ActsObeyTheRule = (w : WorldState) (acts : List Act) (last : WorldState) → ActsLead w acts last → IsSane w →
     ActsObeyLimits w acts × ActsReportEnds w acts × ActsEndFramesOnce w acts last
 
--- a world that is sane leads by the rule to each that is reachable from it, and that one is sane
-abbrev pub ReachableWorldsAreLedToByRule : Type 0
-ReachableWorldsAreLedToByRule = (w last : WorldState) → IsReachable w last → IsSane w → LeadsByRule w last × IsSane last
+-- the same of the deeds of a session, lines that run alone included; and the last world is sane
+abbrev pub DeedsObeyTheRule : Type 0
+DeedsObeyTheRule = (w last : WorldState) (is_cut : Bool) (contents contents_now : Option (List ℕ)) →
+    Does w last is_cut contents contents_now → IsSane w → DoesByRule w last is_cut contents contents_now × IsSane last

@@ -47,10 +47,6 @@ trace_of_acts w (Takes event out ∷ acts) =
     items_after (Ok out) (step_of w event) ++ trace_of_acts (resulting_world w (Ok out) (step_of w event)) acts
 trace_of_acts w (Opens k line ∷ acts) = opening_items k ++ trace_of_acts (world_with_opened w k (line ∷ [])) acts
 
--- there are such acts
-abbrev pub IsReachable : WorldState → WorldState → Type 0
-IsReachable w last = (acts : List Act) × ActsLead w acts last
-
 -- in all that they did, openings of shells included, in each shell each script ends early exactly at its first command whose code
 -- reaches the limit in force after it
 abbrev pub ActsObeyLimits : WorldState → List Act → Type 0
@@ -63,11 +59,3 @@ ActsReportEnds w acts = all_reports (outs_of_acts acts) ≡ ends_in (trace_of_ac
 -- in each shell the frames go through their trace as a stack, and each ends at most once
 abbrev pub ActsEndFramesOnce : WorldState → List Act → WorldState → Type 0
 ActsEndFramesOnce w acts last = (k : ℕ) → ShellGoes (standing_at w k) (own k (trace_of_acts w acts)) (standing_at last k)
-
--- One world leads to another by acts in all of which the scripts end where the rule says.
-pub record LeadsByRule (w last : WorldState) : Type 0 where
-  pub acts : List Act
-  pub lead : ActsLead w acts last
-  pub limits : ActsObeyLimits w acts
-  pub reports : ActsReportEnds w acts
-  pub frames : ActsEndFramesOnce w acts last

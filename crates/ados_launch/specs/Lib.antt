@@ -1,6 +1,7 @@
 pub mod Agreement
 pub mod Alone
 pub mod Asked
+pub mod Deeds
 pub mod Drives
 pub mod Faults
 pub mod Intake

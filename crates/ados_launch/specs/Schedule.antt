@@ -8,6 +8,8 @@ use Rattle.ados_machine.specs.declared.events.Event.TheVariants.{Typed, EndOfInp
 use Rattle.ados_machine.specs.declared.events.BreakKind.{BreakKind}
 use Rattle.ados_machine.specs.Children.{answers_start}
 use Rattle.ados_machine.specs.World.{WorldState, numbered_shell}
+use Rattle.ados_launch.specs.declared.next.Next as due
+use Rattle.ados_launch.specs.declared.next.Next.TheVariants.{Line as LineDue, Turn as TurnDue, Start as StartDue, Further as FurtherDue}
 use Rattle.ados_launch.specs.declared.rounds.Round.{Round}
 use Rattle.ados_launch.specs.declared.schedule.Next as found
 use Rattle.ados_launch.specs.declared.schedule.Next.TheVariants.{Break as BreakFound, Due as DueFound}
@@ -32,6 +34,21 @@ pub data Next : Type 0 where
   AtTurn : (shell : ℕ) → Next
   AtStart : (shell : ℕ) → Next
   AtFurther : (shell : ℕ) → Next
+
+-- the same as a session gives it, which names no break
+abbrev pub next_named : due.Next → Next
+next_named LineDue = AtLine
+next_named (TurnDue shell) = AtTurn shell
+next_named (StartDue shell) = AtStart shell
+next_named (FurtherDue shell) = AtFurther shell
+
+abbrev pub unless_break : Option Next → Option Next
+unless_break None = None
+unless_break (Some (AtBreak shell kind)) = None
+unless_break (Some AtLine) = Some AtLine
+unless_break (Some (AtTurn shell)) = Some (AtTurn shell)
+unless_break (Some (AtStart shell)) = Some (AtStart shell)
+unless_break (Some (AtFurther shell)) = Some (AtFurther shell)
 
 -- what is due at a place of a round, and the place of that
 abbrev pub next_at : ℕ → Next

@@ -1,6 +1,8 @@
 -- Steps of a session that is driven event by event: what one leaves, by its result.
 use Rattle.std.specs.Prelude.{◌≡◌, ◌⊎◌, ◌+◌, ◌<◌, ℕ, List, Bool, true, false, Option, Some, None, Result, Ok, Err, length, take}
 use Rattle.std.specs.Io.KnownBytes.{Appends}
+use Rattle.ados_machine.specs.declared.outs.EndReport.{EndReport}
+use Rattle.ados_machine.specs.declared.outs.Out.{Out}
 use Rattle.ados_machine.specs.declared.requests.Request.{Request}
 use Rattle.ados_machine.specs.World.{WorldState, pending_of}
 use Rattle.ados_launch.specs.declared.faults.DriveFault.{DriveFault}
@@ -13,11 +15,13 @@ use Rattle.ados_launch.specs.Lines.{bytes_ahead}
 use Rattle.ados_launch.specs.Schedule.{Next, AtBreak, AtLine, AtTurn, AtStart, AtFurther, ScheduleState, scheduled_next, following_schedule_state}
 use Rattle.ados_launch.specs.Session.{Moment}
 
--- the state of a session: its schedule, the bytes that were read ahead, and which children are open, by number
+-- the state of a session: its schedule, the bytes that were read ahead, which children are open, by number, and the scripts that
+-- ended at the last event
 pub record SessionState : Type 0 where
   pub schedule : ScheduleState
   pub held : List ℕ
   pub children : List Bool
+  pub reports : List EndReport
 
 -- what the next event asks of the launcher
 abbrev pub next_request : WorldState → Option Next → Option Request
@@ -32,10 +36,11 @@ next_request w None = None
 pub record TakesOne (was now : SessionState) (before after : Moment) : Type 0 where
   pub next : Next
   pub next_is : scheduled_next was.schedule before.world ≡ Some next
-  pub bytes : List ℕ
-  pub takes : TakesNextItem before.world (bytes_ahead was.held before.left) after.is_full before.calls next after.world (bytes_ahead now.held after.left) after.calls bytes
+  pub out : Out
+  pub takes : TakesNextItem before.world (bytes_ahead was.held before.left) after.is_full before.calls next after.world (bytes_ahead now.held after.left) after.calls out
   pub schedule_is : now.schedule ≡ following_schedule_state was.schedule before.world next
-  pub written : Appends before.contents after.contents bytes
+  pub written : Appends before.contents after.contents out.bytes
+  pub reports_are : now.reports ≡ out.reports
   pub reads_well : ReadsWell before after
   pub writes_well : WritesWell before after
 
@@ -46,6 +51,7 @@ pub record TakesNothing (was now : SessionState) (before after : Moment) : Type 
   pub round_is : now.schedule.round ≡ was.schedule.round
   pub taken_is : now.schedule.taken ≡ was.schedule.taken
   pub held_is : now.held ≡ was.held
+  pub reports_are : now.reports ≡ was.reports
 
 -- What comes next was not taken, and so nothing was written.
 pub record TakesNotNext (before after : Moment) : Type 0 where
@@ -71,16 +77,28 @@ pub record StopsWithoutMemory (was now : SessionState) (before after : Moment) :
 pub record StopsUnwritten (was now : SessionState) (before after : Moment) : Type 0 where
   pub next : Next
   pub next_is : scheduled_next was.schedule before.world ≡ Some next
-  pub bytes : List ℕ
-  pub takes : TakesNextItem before.world (bytes_ahead was.held before.left) after.is_full before.calls next after.world (bytes_ahead now.held after.left) after.calls bytes
+  pub out : Out
+  pub takes : TakesNextItem before.world (bytes_ahead was.held before.left) after.is_full before.calls next after.world (bytes_ahead now.held after.left) after.calls out
   pub agrees : Agrees after.world after.calls
   pub length_written : ℕ
-  pub cut : length_written < length bytes
-  pub written : Appends before.contents after.contents (take length_written bytes)
+  pub cut : length_written < length out.bytes
+  pub written : Appends before.contents after.contents (take length_written out.bytes)
+  pub reports_are : now.reports ≡ out.reports
   -- it alone failed, or wrote nothing
   pub cause : ((after.write_faults ≡ before.write_faults + 1) × (after.stalls ≡ before.stalls))
       ⊎ ((after.write_faults ≡ before.write_faults) × (after.stalls ≡ one_more before.stalls))
   pub reads_well : ReadsWell before after
+
+-- the writer failed, or wrote nothing
+abbrev pub is_write : DriveFault → Bool
+is_write Read = false
+is_write Write = true
+is_write Turns = false
+is_write Memory = false
+
+abbrev pub is_write_fault : {T : Type 0} → Result T DriveFault → Bool
+is_write_fault (Ok value) = false
+is_write_fault (Err fault) = is_write fault
 
 -- the result of a step
 abbrev pub HasTakeResult : SessionState → SessionState → Moment → Moment → Result Bool DriveFault → Type 0

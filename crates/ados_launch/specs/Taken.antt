@@ -1,12 +1,12 @@
 -- What a run takes: events, each with what it gave, and lines that are too long for the machine.
-use Rattle.std.specs.Prelude.{◌≡◌, ℕ, List, [], ◌∷◌, ◌++◌, Result, Ok, map, codes}
+use Rattle.std.specs.Prelude.{◌≡◌, ℕ, List, [], ◌∷◌, ◌++◌, None, Result, Ok, map, codes}
 use Rattle.ados_text.specs.Text.{to_ascii}
 use Rattle.ados_machine.specs.declared.events.Event.{Event}
 use Rattle.ados_machine.specs.declared.events.Event.TheVariants.{Typed, EndOfInput, Turn, Answer, Break}
 use Rattle.ados_machine.specs.declared.outs.Out.{Out}
 use Rattle.ados_machine.specs.declared.refusals.Refusal.{Refusal}
 use Rattle.ados_machine.specs.World.{WorldState}
-use Rattle.ados_machine.specs.Step.{step_of}
+use Rattle.ados_machine.specs.Step.{event_out, step_of}
 use Rattle.ados_machine.specs.Runs.{IsResponse, resulting_world}
 use Rattle.ados_launch.specs.declared.lines.LineKind.TheVariants.{End, Short, Long}
 use Rattle.ados_launch.specs.Lines.{line_of, rest_of, kind_of}
@@ -32,10 +32,14 @@ taken_outs (LongLine ∷ taken) = taken_outs taken
 abbrev pub long_line_text : List ℕ
 long_line_text = codes "Line too long" ++ 10 ∷ []
 
--- what is written for it: what its event prints, or the text of a long line
+-- what it gave: what its event gave, or the text of a long line
+abbrev pub output_of : TakenItem → Out
+output_of (Given event out) = out
+output_of LongLine = event_out long_line_text None []
+
+-- what is written for it
 abbrev pub bytes_of : TakenItem → List ℕ
-bytes_of (Given event out) = out.bytes
-bytes_of LongLine = long_line_text
+bytes_of item = (output_of item).bytes
 
 -- what is written for all that was taken, in order
 abbrev pub written_bytes : List TakenItem → List ℕ

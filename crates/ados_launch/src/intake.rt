@@ -2,6 +2,7 @@
 ghost use Rattle.std.specs.Prelude.{◌≡◌, ◌<◌, ◌^◌, ◌-◌, ℕ, [], true, false, get_or, length, OnOk, OnErr, IsErrOf};
 ghost use Rattle.ados_machine.specs.Limits.{IsSane};
 ghost use Rattle.ados_machine.specs.World.{pending_of, wants_line};
+ghost use Rattle.ados_shell.specs.Drafts.{out_of};
 ghost use Rattle.ados_launch.specs.Agreement.{Agrees, IsOpenTable};
 ghost use Rattle.ados_launch.specs.Intake.{FailsToRead, LacksMemory, TakesLineOrEnd, TakesNextItem};
 ghost use Rattle.ados_launch.specs.Lines.{bytes_ahead, IsUnreadable, IfKnown};
@@ -66,7 +67,7 @@ impl Intake {
         requires agrees { Agrees world.old (L.calls launcher.old) }
         requires children { IsOpenTable self.old.children (L.calls launcher.old) }
         ensures took { OnOk result (TakesNextItem world.old (bytes_ahead self.old.held (S.left reader.old)) (L.is_full launcher.new) (L.calls launcher.old) (found_next next)
-            world.new (bytes_ahead self.new.held (S.left reader.new)) (L.calls launcher.new) self.new.draft.printed.items) }
+            world.new (bytes_ahead self.new.held (S.left reader.new)) (L.calls launcher.new) (out_of self.new.draft)) }
         ensures agrees { OnOk result (Agrees world.new (L.calls launcher.new)) }
         ensures honest { OnOk result (S.faults reader.new ≡ S.faults reader.old) }
         ensures err { OnErr result (world.new ≡ world.old) }
@@ -100,7 +101,7 @@ impl Intake {
         requires reader { S.faults reader.old < 2 ^ 64 - 1 }
         requires due { wants_line world.old ≡ true }
         ensures took { OnOk result
-            (TakesLineOrEnd world.old (bytes_ahead self.old.held (S.left reader.old)) world.new (bytes_ahead self.new.held (S.left reader.new)) self.new.draft.printed.items) }
+            (TakesLineOrEnd world.old (bytes_ahead self.old.held (S.left reader.old)) world.new (bytes_ahead self.new.held (S.left reader.new)) (out_of self.new.draft)) }
         ensures children { self.new.children ≡ self.old.children }
         ensures few { length self.old.held < 4096 → length self.new.held < 4096 }
         ensures honest { OnOk result (S.faults reader.new ≡ S.faults reader.old) }

@@ -1,5 +1,5 @@
 // The laws of the machine, for what a driver takes.
-ghost use Rattle.ados_launch.specs.Laws.{NewPairsAgree, SessionsAreUnique, SessionsObeyLimits, SessionsReportEnds, SessionsEndFramesOnce, ActsObeyTheRule, ReachableWorldsAreLedToByRule};
+ghost use Rattle.ados_launch.specs.Laws.{NewPairsAgree, SessionsAreUnique, SessionsObeyLimits, SessionsReportEnds, SessionsEndFramesOnce, ActsObeyTheRule, DeedsObeyTheRule};
 
 use ados_machine::{
     each_end_is_reported_once, each_frame_ends_once, scripts_end_where_the_rule_says,
@@ -32,9 +32,9 @@ pub fn sessions_are_unique()
 /// In all that leads from one world to another, events of which the machine accepts each and shells that are opened for lines,
 /// from a world in which no script runs on after a failure: in every shell each script ends early exactly at its first command
 /// whose code reaches the limit in force after it; the reports are the ends of scripts, one each and in order; and each frame
-/// ends once, by the name under which it began. So it is of a session between whose events lines run alone
-/// ([`Session`](crate::Session), [`system`](crate::system)), of which [`IsReachable`] says that there are such acts.
+/// ends once, by the name under which it began. So it is of the deeds of a session between whose events lines run alone
+/// ([`Session`](crate::Session), [`system`](crate::system)).
 pub fn acts_obey_the_rule()
     ensures acts { ActsObeyTheRule }
-    ensures worlds { ReachableWorldsAreLedToByRule }
+    ensures deeds { DeedsObeyTheRule }
 {}

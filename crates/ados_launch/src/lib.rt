@@ -31,3 +31,4 @@ pub use faults::DriveFault;
 pub use laws::{acts_obey_the_rule, new_pairs_agree, sessions_are_unique, sessions_obey_the_laws};
 pub use next::Next;
 pub use session::Session;
+pub use written::{WriteFault, write_whole};

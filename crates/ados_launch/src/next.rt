@@ -1,4 +1,7 @@
 // What comes next in a session.
+ghost use Rattle.std.specs.Prelude.{◌≡◌, ◌<◌};
+ghost use Rattle.ados_launch.specs.Schedule.{next_at, next_named};
+
 use crate::events::shell_answered;
 
 /// What comes next in a session, if it is no break.
@@ -18,6 +21,7 @@ impl Next {
     // What comes at a place of a round.
     pub fn at(place: u8) -> Next
         requires { place < 61 }
+        ensures { next_named result ≡ next_at place }
     {
         match place {
             0 => Next::Line,

@@ -1,16 +1,16 @@
 // A world that is driven event by event.
-ghost use Rattle.std.specs.Prelude.{◌≡◌, ◌<◌, ◌^◌, ◌-◌, ◌+◌, ◌≤◌, ℕ, List, [], true, false, get_or, is_none, IfOk, OnOk, OnErr, IsErrOf, length};
+ghost use Rattle.std.specs.Prelude.{◌≡◌, ◌<◌, ◌^◌, ◌-◌, ◌+◌, ◌≤◌, ℕ, List, [], true, false, get_or, is_none, option_map, IfOk, OnOk, OnErr, IsErrOf, length};
 ghost use Rattle.std.specs.Option.{option_copied};
 ghost use Rattle.ados_machine.specs.Limits.{IsSane};
 ghost use Rattle.ados_machine.specs.World.{codes_at, pending_of};
 ghost use Rattle.ados_launch.specs.Agreement.{Agrees, AreOver, IsOpenTable, WaitsForOpen};
 ghost use Rattle.ados_launcher.specs.declared.calls.Call.{Call};
 ghost use Rattle.ados_launch.specs.Alone.{AgreesAfterLine};
-ghost use Rattle.ados_launch.specs.Leads.{IsReachable};
+ghost use Rattle.ados_launch.specs.Deeds.{Does};
 ghost use Rattle.ados_launch.specs.Rounds.{asks_read_or_wait, due_place};
-ghost use Rattle.ados_launch.specs.Schedule.{first_schedule_state, scheduled_next};
+ghost use Rattle.ados_launch.specs.Schedule.{first_schedule_state, next_named, scheduled_next, unless_break};
 ghost use Rattle.ados_launch.specs.Session.{moment_of};
-ghost use Rattle.ados_launch.specs.Steps.{HasTakeResult, next_request};
+ghost use Rattle.ados_launch.specs.Steps.{HasTakeResult, is_write_fault, next_request};
 
 use crate::alone::{SystemEnd, SystemFault};
 use crate::children::{children_after_line, wait_for_open};
@@ -44,7 +44,7 @@ impl<'a> Model for Session<'a> {
 
     ghost Value = { SessionState };
 
-    ghost view = { λ s. record { schedule = s.schedule; held = s.intake.held; children = s.intake.children } };
+    ghost view = { λ s. record { schedule = s.schedule; held = s.intake.held; children = s.intake.children; reports = s.intake.draft.reports.items } };
 
     ghost invariant = { λ s. (s.schedule.round.place ≤ 61) × (length s.intake.held < 4096) };
 }
@@ -64,14 +64,18 @@ impl<'a> Session<'a> {
     }
 
     /// What comes next; `None` if nothing does, or a break.
+    #[tactic(auto, using(crate::proofs::Requests::next_none, crate::proofs::Requests::next_some))]
     pub fn next(&self, world: &World) -> Option<Next>
         requires count { self.now.schedule.taken < 2 ^ 64 - 1 }
+        ensures { option_map next_named result ≡ unless_break (scheduled_next self.now.schedule world.now) }
     {
         Some(Next::at(self.schedule.place(world)?))
     }
 
     /// The scripts that ended at the last event, innermost first.
-    pub fn reports(&self) -> &[EndReport] {
+    pub fn reports(&self) -> &[EndReport]
+        ensures { result.now ≡ self.now.reports }
+    {
         self.intake.draft.reports.as_slice()
     }
 
@@ -112,8 +116,8 @@ impl<'a> Session<'a> {
             result }
         // Nothing comes.
         ensures over { IfOk result (λ is_taken. is_taken ≡ false → (reader.new ≡ reader.old) × (writer.new ≡ writer.old)) }
-        // However it ends, what happened is that the machine accepted an event, or nothing.
-        ensures leads { IsReachable world.old world.new }
+        // However it ends, what happened is that one thing was taken, or nothing, and its bytes were written.
+        ensures does { Does world.old world.new (is_write_fault result) (K.contents writer.old) (K.contents writer.new) }
         ensures stays { L.is_full launcher.old ≡ true → L.is_full launcher.new ≡ true }
         ensures agrees { OnOk result (Agrees world.new (L.calls launcher.new)) }
         ensures children { IsOpenTable self.new.children (L.calls launcher.new) }
@@ -138,6 +142,7 @@ impl<'a> Session<'a> {
         ensures children { (calls : List Call) → AgreesAfterLine world.now ran.now calls → IsOpenTable self.new.children calls }
         ensures schedule { self.new.schedule ≡ self.old.schedule }
         ensures held { self.new.held ≡ self.old.held }
+        ensures reports { self.new.reports ≡ self.old.reports }
     {
         self.intake.children = children_after_line(world, ran);
     }

@@ -36,13 +36,14 @@ use Rattle.ados_machine.specs.InUse.{entry_seen}
 use Rattle.ados_machine.specs.Lines.{with_search_used, found_completion, program_completion}
 use Rattle.ados_machine.specs.Next.{stands_for, frames_at}
 use Rattle.ados_machine.specs.Opening.{OpenedOutput, line_output}
-use Rattle.ados_machine.specs.Programs.{host_program, program_found, StartsAskForTheirProgram, StartsUseTheirEntry, fault_while, fault_in, fault_of_shell, FirstFaultsStay}
+use Rattle.ados_machine.specs.Programs.{host_program, program_found, StartsAskForTheirProgram, StartsUseTheirEntry, fault_while, fault_in, fault_of_shell, FirstFaultsStay, PiecesArePrinted}
 use Rattle.ados_machine.specs.Requests.{request_of}
 use Rattle.ados_machine.specs.Shells.{ShellState, seen_of, phase_entry}
 use Rattle.ados_machine.specs.Sinks.{Sink}
 use Rattle.ados_machine.specs.Step.{Accepted, shell_of_turn, is_done, shell_after_turn, moved_at_turn, turn_taken, start, course_without_flag, step_of}
 use Rattle.ados_machine.specs.World.{numbered_shell, request_of_shell}
 use Rattle.ados_machine.proofs.GivenLemmas.{idle-request}
+use Rattle.ados_machine.proofs.Loops.{runs-not-over}
 use Rattle.ados_machine.proofs.Lasting.{Watch, SeenAfter, Keeps, seen_by, is_held, step-keeps}
 use Rattle.ados_machine.proofs.Marks.{marked-same, next-same}
 use Rattle.ados_machine.proofs.NextLemmas.{turns}
@@ -230,3 +231,11 @@ first-faults-stay w event world out items is k before after =
     let keeps : Keeps first_faults w (Accepted world out items) = rw is at (step-keeps first_faults w event) in
     faults-same (numbered_shell world k)
     ∙ (keeps k (sym (faulty-same (numbered_shell w k)) ∙ before) (sym (faulty-same (numbered_shell world k)) ∙ after) ∙ sym (faults-same (numbered_shell w k)))
+
+pub pieces-printed : PiecesArePrinted
+pieces-printed w k shell child bytes world out items awaits plain well console accepted =
+    let same = rw (runs-not-over w k shell awaits.runs, awaits.runs, awaits.waits, console) at accepted in
+    elim (cases_Bool (is_piece bytes)) [
+      | inl e ↦ (let taken = rw (e, well, plain) at same in cc)
+      | inr e ↦ (let refused = rw e at same in cc)
+    ]

@@ -22,7 +22,8 @@ use Rattle.ados_machine.proofs.DirectStates.{AgreesBy, ended, breaking}
 use Rattle.ados_machine.proofs.Direct.{agrees}
 use Rattle.ados_machine.proofs.Places.{set-set}
 use Rattle.ados_machine.proofs.Systems.{none_below, free-two, opened-stands}
-use Rattle.ados_machine.proofs.Lonely.{Fold, Same, Stands, ended-at, event-same, stands-at, took_world}
+use Rattle.ados_machine.proofs.LoneWorlds.{Stands, ended-at, stands-at, took_world}
+use Rattle.ados_machine.proofs.Lonely.{Fold, Same, event-same}
 
 pub onto-ends : (k : ℕ) (log : List TraceItem) (reports : List EndReport) → reports_onto (reports_of k log) reports ≡ with_ends k log reports
 onto-ends k [] reports = refl

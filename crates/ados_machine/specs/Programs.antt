@@ -1,6 +1,6 @@
 -- Programs: the resident entry from which a program is started, and its first fault.
 use Rattle.std.specs.Prelude.{◌≡◌, ℕ, List, Bool, true, Option, Some, None, is_some}
-use Rattle.ados_text.specs.Text.{Text}
+use Rattle.ados_text.specs.Text.{Bytes, Text}
 use Rattle.ados_text.specs.declared.codes.Result2.{Result2}
 use Rattle.ados_items.specs.Items.{words_of}
 use Rattle.ados_line.specs.declared.lines.Line.{Line}
@@ -10,15 +10,19 @@ use Rattle.ados_machine.specs.declared.requests.Request.TheVariants.{Start}
 use Rattle.ados_find.specs.declared.search.Found.TheVariants as found
 use Rattle.ados_resident.specs.declared.programs.Program.TheVariants.{Disk, Host}
 use Rattle.ados_resident.specs.declared.residents.Resident.{Resident}
-use Rattle.ados_machine.specs.declared.events.Event.TheVariants.{Turn}
+use Rattle.ados_machine.specs.declared.answers.Answer.TheVariants.{«Bytes» as Piece}
+use Rattle.ados_machine.specs.declared.events.Event.TheVariants.{Turn, Answer}
 use Rattle.ados_machine.specs.declared.outs.Out.{Out}
+use Rattle.ados_machine.specs.declared.phases.Child.{Child}
 use Rattle.ados_machine.specs.declared.phases.Wait.{Wait}
 use Rattle.ados_machine.specs.declared.phases.Wait.TheVariants.{ForAnswer, ForLines, ForStart, ForPiece, ForEnd}
+use Rattle.ados_machine.specs.Codes.{Awaits}
 use Rattle.ados_machine.specs.InUse.{StaysWhile, has_request, resident_name_of}
 use Rattle.ados_machine.specs.Items.{TraceItem}
 use Rattle.ados_machine.specs.Next.{TakesLine, stands_for}
 use Rattle.ados_machine.specs.Phases.{Phase, Ready, GoingOn, Waiting}
 use Rattle.ados_machine.specs.Shells.{ShellState}
+use Rattle.ados_machine.specs.Sinks.{Console, newest_sink}
 use Rattle.ados_machine.specs.Step.{Accepted, step_of}
 use Rattle.ados_machine.specs.World.{WorldState, numbered_shell}
 
@@ -78,3 +82,10 @@ has_fault w k = is_some (fault_of w k)
 -- the first fault stays as long as the program runs
 abbrev pub FirstFaultsStay : Type 0
 FirstFaultsStay = StaysWhile has_fault fault_of
+
+-- a piece of a program's output is printed as it is, and once, if the program has no fault and its output goes to the console
+abbrev pub PiecesArePrinted : Type 0
+PiecesArePrinted =
+    (w : WorldState) (k : ℕ) (shell : ShellState) (child : Child) (bytes : Bytes) (world : WorldState) (out : Out) (items : List (ℕ × TraceItem)) →
+    Awaits w k shell (ForPiece child) → child.output ≡ None → child.fault ≡ None → newest_sink shell.frames ≡ Console →
+    step_of w (Answer k (Piece bytes)) ≡ Accepted world out items → out.bytes ≡ bytes

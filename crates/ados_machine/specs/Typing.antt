@@ -1,5 +1,5 @@
 -- Typing: which typed lines are taken in.
-use Rattle.std.specs.Prelude.{◌≡◌, ◌≤◌, ◌<◌, ℕ, [], ◌∷◌, ◌++◌, length, false, None}
+use Rattle.std.specs.Prelude.{◌≡◌, ◌≤◌, ◌<◌, [], ◌∷◌, ◌++◌, length, false, None}
 use Rattle.ados_text.specs.Text.{Text}
 use Rattle.ados_line.specs.Cut.{line_limit}
 use Rattle.ados_machine.specs.declared.events.Event.TheVariants.{Typed}

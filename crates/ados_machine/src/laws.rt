@@ -1,6 +1,7 @@
 //! The laws: what holds of every run, by the definitions alone.
 
 ghost use Rattle.ados_machine.specs.Alone.{AloneIsARun, AloneMeansWhole};
+ghost use Rattle.ados_machine.specs.Begun.{ShellsBeginByTheirMakers};
 ghost use Rattle.ados_machine.specs.Binding.{EventsBindOnlyWhatTheyUsed};
 ghost use Rattle.ados_machine.specs.Bound.{UsedDefersAreBound};
 ghost use Rattle.ados_machine.specs.Broken.{BreaksByCMark, BreaksByDFlag, BreaksUseUpTheFlag, CommandsUseUpTheFlag};
@@ -15,8 +16,10 @@ ghost use Rattle.ados_machine.specs.Given.{
 };
 ghost use Rattle.ados_machine.specs.InUse.{EntriesStayInUse, IdleShellsUseNoEntry, OutputsStayOpen, StartsOpenOutputs};
 ghost use Rattle.ados_machine.specs.Kept.{EventsKeepAllCodes, FreshWorldsHaveAllCodes, LastCodesStay};
+ghost use Rattle.ados_machine.specs.Manual.{ElsesLeadPastTheirBlock, IfsLeadPastTheirBlock, SkipsLeadPastTheirLabel, WordsAreLookedUpInOrder};
 ghost use Rattle.ados_machine.specs.Plain.{EnabledCommandsAreFound, EffectsAreRecorded, EffectsArePrinted, FailAtSetsTheLimit, SubstitutionsKeepTheirOutput, DirectoriesAreCarried};
-ghost use Rattle.ados_machine.specs.Programs.{StartsAskForTheirProgram, StartsUseTheirEntry, FirstFaultsStay};
+ghost use Rattle.ados_machine.specs.Programs.{StartsAskForTheirProgram, StartsUseTheirEntry, FirstFaultsStay, PiecesArePrinted};
+ghost use Rattle.ados_machine.specs.Redirected.{OpenOutputsAreInUse};
 ghost use Rattle.ados_machine.specs.Reports.{ReportsTellLastRecords};
 ghost use Rattle.ados_machine.specs.Laws.{
   ScriptsEndWhereTheRuleSays,
@@ -187,8 +190,9 @@ pub fn scripts_end_early_at_their_first()
     ensures same { EarlyAndBackIsToObey }
 {}
 
-/// What a command returns, by numbers: a command that is not known 10 and 205, as is told on the console; a line with a fault 20 and its number; a program
-/// by its exit status, unless there was a fault before, which is then returned with 20; and a start that failed 20 and the reason.
+/// What a command returns, by numbers: a command that is not known 10 and 205, as is told on the console; a line with a fault 20 and
+/// its number; a program by its exit status, unless there was a fault before, which is then returned with 20; and a start that failed
+/// 20 and the reason.
 pub fn commands_return_their_codes()
     ensures unknown { UnknownCommandsFail }
     ensures told { UnknownCommandsAreTold }
@@ -200,8 +204,8 @@ pub fn commands_return_their_codes()
 
 /// A plain line of one of the shell's own commands does what the command's row says. An enabled internal command is found by its
 /// name; its record has the codes of its effect and the limit that it sets, so FailAt n is recorded with 0 and the limit n; what
-/// it puts out on the console comes first of what its event prints, and what it puts out in a command substitution goes into the line of that; and if it renames an object, the current directories of the
-/// other shells move along.
+/// it puts out on the console comes first of what its event prints, and what it puts out in a command substitution goes into the
+/// line of that; and if it renames an object, the current directories of the other shells move along.
 pub fn commands_do_their_rows()
     ensures found { EnabledCommandsAreFound }
     ensures recorded { EffectsAreRecorded }
@@ -211,12 +215,14 @@ pub fn commands_do_their_rows()
     ensures carried { DirectoriesAreCarried }
 {}
 
-/// A line whose word stands for a program asks for its start with the words of its arguments. If the program is on the resident list it puts that entry in use if it asks for the program's start; and the
-/// fault of a program that came first stays as long as the program runs.
+/// A line whose word stands for a program asks for its start with the words of its arguments. If the program is on the resident list,
+/// that entry is in use from then on. The fault of a program that came first stays as long as the program runs. A piece of its output
+/// is printed as it is, and once, if there was no fault and the output goes to the console.
 pub fn programs_keep_entry_and_fault()
     ensures asked { StartsAskForTheirProgram }
     ensures entry { StartsUseTheirEntry }
     ensures fault { FirstFaultsStay }
+    ensures printed { PiecesArePrinted }
 {}
 
 /// A break by D flags its shell, and one by C marks its program if that is to start or is read; neither does anything else. A turn
@@ -248,4 +254,25 @@ pub fn used_defers_are_bound()
 pub fn typed_lines_wait()
     ensures taken { LinesAreTakenIn }
     ensures full { FullQueuesTakeNoLine }
+{}
+
+/// A redirection does not open a file again that is an open output, be it of the shell itself or of another one: its command returns
+/// 20 and 202, and is not executed.
+pub fn open_outputs_are_in_use()
+    ensures { OpenOutputsAreInUse }
+{}
+
+/// A shell that Run makes begins at the lowest free number, in its maker's directory, with copies of its settings, and with the text
+/// after Run as its one command, at the limit 10.
+pub fn shells_begin_by_their_makers()
+    ensures { ShellsBeginByTheirMakers }
+{}
+
+/// Where an If that fails, an Else and a Skip lead, and what a word stands for, is what a reference manual says: the lines after it are
+/// passed over one by one, each If opens a block and each EndIf closes one; a word is looked up in one place after another.
+pub fn jumps_and_search_are_as_in_the_manual()
+    ensures ifs { IfsLeadPastTheirBlock }
+    ensures elses { ElsesLeadPastTheirBlock }
+    ensures skips { SkipsLeadPastTheirLabel }
+    ensures words { WordsAreLookedUpInOrder }
 {}

@@ -8,7 +8,9 @@ mod faults;
 mod hosts;
 mod parts;
 mod recordings;
+mod version;
 
 pub use faults::FileFault;
 pub use hosts::{HOSTS_BYTES, read_hosts};
 pub use recordings::{Recording, read_recording};
+pub use version::VERSION;

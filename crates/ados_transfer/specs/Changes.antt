@@ -18,18 +18,18 @@ use Rattle.ados_transfer.specs.declared.records.Last.{Last}
 use Rattle.ados_transfer.specs.declared.records.Last.TheVariants.{Directory, File, StandIn}
 use Rattle.ados_transfer.specs.Mirror.{is_same_stamp}
 use Rattle.ados_transfer.specs.Records.{has_key}
-use Rattle.ados_transfer.specs.StandIns.{is_stand_in}
+use Rattle.ados_transfer.specs.StandIns.{is_stand_in_of}
 
--- a stand-in is there
-abbrev pub has_stand_in : Option Entry → Bool
-has_stand_in None = false
-has_stand_in (Some entry) = is_stand_in entry
+-- the stand-in that has this comment is there
+abbrev pub has_stand_in : Option Entry → Bytes → Bool
+has_stand_in None comment = false
+has_stand_in (Some entry) comment = is_stand_in_of entry comment
 
 -- what is there has the stamp of the last comparison; of a file a later change might have left the same one
 abbrev pub has_last_stamp : Files → Record → Seen → Last → Kind → Bool
 has_last_stamp files object seen Directory Folder = true
 has_last_stamp files object seen (File bytes) (AnyFile is_executable) = not object.is_fresh && is_same_stamp object.stamp seen.stamp
-has_last_stamp files object seen StandIn (AnyFile is_executable) = is_same_stamp object.stamp seen.stamp && has_stand_in (map.get files (key_of object.place))
+has_last_stamp files object seen (StandIn comment) (AnyFile is_executable) = is_same_stamp object.stamp seen.stamp && has_stand_in (map.get files (key_of object.place)) comment
 has_last_stamp files object seen _ _ = false
 
 -- it is neither a file nor a folder

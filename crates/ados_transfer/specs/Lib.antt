@@ -3,6 +3,7 @@ pub mod Planned
 pub mod Mirror
 pub mod Paths
 pub mod StandIns
+pub mod Stamps
 pub mod Account
 pub mod Here
 pub mod Records

@@ -9,7 +9,8 @@ use Rattle.ados_transfer.specs.declared.decision.State.TheVariants.{Absent, Dire
 use Rattle.ados_transfer.specs.declared.decision.Decision.{Decision}
 use Rattle.ados_transfer.specs.declared.decision.Decision.TheVariants.{Keep, Bring, Write, Conflict}
 use Rattle.ados_transfer.specs.declared.decision.Removal.{Removal}
-use Rattle.ados_transfer.specs.declared.decision.Removal.TheVariants.{Forget, Delete, Hold, Leave, Conflict as Stays}
+use Rattle.ados_transfer.specs.declared.decision.Terms.{Terms}
+use Rattle.ados_transfer.specs.declared.decision.Removal.TheVariants.{Forget, Delete, Hold, Wait, Leave, Conflict as Stays}
 
 -- the two are the same time
 abbrev pub is_same_time : Time → Time → Bool
@@ -57,14 +58,15 @@ decision last here there may_delete =
     (if is_same_state there last then Bring else
     (if may_write last here there may_delete then Write else Conflict))
 
--- how an object of this machine is removed, given what is done with it: one that would be written over is deleted, unless it is gone
--- already, or something that the Shell has could not be written (`has_unwritten`), and may have its bytes
-abbrev pub removal_of : Decision → Bool → Bool → Removal
-removal_of Keep gone has_unwritten = if gone then Forget else Leave
-removal_of Bring gone has_unwritten = Leave
-removal_of Write gone has_unwritten = if gone then Forget else (if has_unwritten then Hold else Delete)
-removal_of Conflict gone has_unwritten = Stays
+-- How an object of this machine is removed, given what is done with it: one that would be written over is deleted, unless it is gone
+-- already. If its bytes would then be only in memory (`is_last_copy`) it waits; and it stays if something that the Shell has could not be
+-- written (`has_unwritten`), and may have its bytes.
+abbrev pub removal_of : Decision → Bool → Terms → Removal
+removal_of Keep gone terms = if gone then Forget else Leave
+removal_of Bring gone terms = Leave
+removal_of Write gone terms = if gone then Forget else (if terms.is_last_copy then Wait else (if terms.has_unwritten then Hold else Delete))
+removal_of Conflict gone terms = Stays
 
 -- the same, if the Shell's object is gone or of another kind
-abbrev pub removal : State → State → State → Bool → Bool → Removal
-removal last here there may_delete has_unwritten = removal_of (decision last here there may_delete) (is_absent here) has_unwritten
+abbrev pub removal : State → State → State → Terms → Removal
+removal last here there terms = removal_of (decision last here there terms.may_delete) (is_absent here) terms

@@ -13,7 +13,7 @@ use Rattle.ados_ram.specs.Place.{key_of}
 use Rattle.ados_transfer.specs.declared.records.Record.{Record}
 use Rattle.ados_transfer.specs.declared.records.Last.{Last}
 use Rattle.ados_transfer.specs.declared.records.Last.TheVariants.{Directory, File, StandIn}
-use Rattle.ados_transfer.specs.StandIns.{is_stand_in}
+use Rattle.ados_transfer.specs.StandIns.{is_stand_in, is_stand_in_of}
 
 -- an object with this key is one of them
 abbrev pub has_key : {A X : Type 0} → BTreeMap (String A) X → Bytes → Bool
@@ -27,11 +27,11 @@ Sets old new key value = (q : Bytes) → get_by_text new q ≡ update bytes_eq (
 abbrev pub OthersStay : {A X : Type 0} → BTreeMap (String A) X → BTreeMap (String A) X → Bytes → Type 0
 OthersStay old new key = (q : Bytes) → bytes_eq key q ≡ false → get_by_text new q ≡ get_by_text old q
 
--- an entry is what an object was at the last comparison
+-- an entry is what an object was at the last comparison; a stand-in is no file of the Shell's own
 abbrev pub is_last : Last → Entry → Bool
 is_last Directory entry = is_directory entry
-is_last (File bytes) entry = not (is_directory entry) && bytes_eq (bytes_of entry) bytes
-is_last StandIn entry = is_stand_in entry
+is_last (File bytes) entry = not (is_directory entry) && (bytes_eq (bytes_of entry) bytes && not (is_stand_in entry))
+is_last (StandIn comment) entry = is_stand_in_of entry comment
 
 -- the Shell has what an object was at the last comparison
 abbrev pub is_kept : Last → Option Entry → Bool

@@ -9,11 +9,26 @@ use crate::records::Record;
 use ados_ram::{Body, Entry, FileBytes};
 use std::alloc::Global;
 
+/// When the folder is brought up to date.
+#[derive(Clone, Copy, PartialEq, Eq)]
+pub enum Moment {
+    /// While the script goes on. What is not written now may be written later: nothing is given up for it.
+    Meanwhile,
+    /// Before a program starts.
+    Start,
+    /// When the script has ended.
+    End,
+}
+
 /// What the Shell has and could not be written to the folder, what is not deleted there because of it, and what was moved aside there.
 #[derive(Drop)]
 pub struct Account {
     /// Where memory comes from.
     pub alloc: Global,
+    /// When the update is made.
+    pub moment: Moment,
+    /// The paths of what the Shell has under names that are left out.
+    pub left_out: Vec<String>,
     /// The path of the first object that could not be written.
     pub unwritten: Option<String>,
     /// The contents of the files that could not be written.
@@ -24,6 +39,10 @@ pub struct Account {
     pub more: usize,
     /// What was moved out of the way.
     pub aside: Vec<Aside>,
+    /// The paths at which some of that stays.
+    pub kept: Vec<String>,
+    /// A file that is gone gave no rights to group and others: a new one may have bytes of it, and gives none either.
+    pub is_private: bool,
 }
 
 /// An object of the folder that was moved out of the way of another one.
@@ -41,15 +60,33 @@ pub struct Aside {
 
 impl Account {
     /// Nothing is open.
-    pub fn new(alloc: Global) -> Account {
+    pub fn new(alloc: Global, moment: Moment) -> Account {
         Account {
             alloc,
+            moment,
+            left_out: Vec::new(alloc),
             unwritten: None,
             bytes: Vec::new(alloc),
             held: None,
             more: 0,
             aside: Vec::new(alloc),
+            kept: Vec::new(alloc),
+            is_private: false,
         }
+    }
+
+    /// The script goes on: what is not written may be written later.
+    pub fn is_meanwhile(&self) -> bool {
+        self.moment == Moment::Meanwhile
+    }
+
+    /// Notes that the Shell holds an object whose name is left out. A directory has no bytes that could be lost.
+    pub fn add_left_out(&mut self, path: String, entry: &Entry) -> Result<(), TransferFault> {
+        if !entry.is_directory() {
+            self.add_unwritten_entry(path.as_str(), entry)?;
+        }
+        self.left_out.push(path)?;
+        Ok(())
     }
 
     /// Something that the Shell holds is not written: nothing is to be deleted.

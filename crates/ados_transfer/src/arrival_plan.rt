@@ -116,7 +116,9 @@ impl<'a> ArrivalPlan<'a> {
     ) -> Result<(), TransferFault> {
         let entry = self.look(key, place);
         if place.path(self.alloc)?.as_bytes().len() > PATH_LIMIT {
-            return mirror.report_once("bad name for the Shell, left alone", seen.path.as_str());
+            return mirror
+                .reports
+                .report_once("bad name for the Shell, left alone", seen.path.as_str());
         }
         let Some(stamp) = here.stamp() else {
             return Ok(());
@@ -133,8 +135,9 @@ impl<'a> ArrivalPlan<'a> {
             lines.add_file(place, entry, is_script)?;
             Coming::File(Octets::from_vec(bytes))
         } else {
-            lines.add_stand_in(place, entry, stamp.size)?;
-            Coming::StandIn
+            let comment = mirror.stand_ins.next_comment(stamp.size)?;
+            lines.add_stand_in(place, entry, &comment)?;
+            Coming::StandIn(comment)
         };
         self.room.put(coming.size(), entry);
         let arrival = Arrival::new(self.alloc, (key, seen.path.as_str()), coming, stamp)?;
@@ -205,7 +208,10 @@ impl<'a> ArrivalPlan<'a> {
                 Ok(())
             }
             Err(TransferFault::LongLine(_)) => {
-                mirror.report_once("bad name for the Shell, left alone", arrival.path.as_str())
+                mirror.reports.report_once(
+                    "bad name for the Shell, left alone",
+                    arrival.path.as_str(),
+                )
             }
             Err(fault) => Err(fault),
         }

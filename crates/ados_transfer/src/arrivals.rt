@@ -8,13 +8,15 @@ ghost use Rattle.ados_transfer.specs.Changes.{has_changed, has_last_stamp, has_s
 ghost use Rattle.ados_transfer.specs.Records.{OthersStay, has_key};
 
 use crate::arrival_plan::ArrivalPlan;
+use crate::below::{Below, is_gone};
 use crate::faults::TransferFault;
 use crate::folders::{Kind, Look, Seen};
 use crate::mirror::Mirror;
 use crate::records::{Last, Record};
 use crate::share_lines::ShareLines;
 use crate::stamps::Stamp;
-use crate::stand_ins::{Watch, is_stand_in};
+use crate::stand_ins::is_stand_in_of;
+use crate::watches::Watch;
 use ados_ram::{Body, Entry, Ram};
 use ados_text::{NoMemory, Octets, Text};
 use std::alloc::Global;
@@ -45,8 +47,8 @@ pub enum Coming {
     Directory,
     /// A file of these bytes.
     File(Octets),
-    /// The stand-in of a file that is too large for the Shell.
-    StandIn,
+    /// The stand-in, with this comment, of a file that is too large for the Shell.
+    StandIn(Text),
 }
 
 impl Coming {
@@ -54,7 +56,7 @@ impl Coming {
     pub fn size(&self) -> usize {
         match self {
             Coming::File(bytes) => bytes.as_bytes().len(),
-            Coming::Nothing | Coming::Directory | Coming::StandIn => 0,
+            Coming::Nothing | Coming::Directory | Coming::StandIn(_) => 0,
         }
     }
 
@@ -62,7 +64,7 @@ impl Coming {
     fn output(&self, alloc: Global) -> Result<Option<Octets>, NoMemory> {
         match self {
             Coming::File(bytes) => Ok(Some(bytes.copy()?)),
-            Coming::StandIn => Ok(Some(Octets::from_vec(Vec::new(alloc)))),
+            Coming::StandIn(_) => Ok(Some(Octets::from_vec(Vec::new(alloc)))),
             Coming::Nothing | Coming::Directory => Ok(None),
         }
     }
@@ -100,13 +102,16 @@ impl Mirror {
 
     /// What changed in the folder since the last comparison, in an order in which it can come in; the first time everything. If both
     /// sides changed, this machine's version comes in, and a line reports it. If both are alike there is no arrival.
+    ///
+    /// `DoesNotFit` if the first time there is no room for all names, unless a part is enough; `CannotRead` if there are too many folders.
     pub fn arrivals<R: AllocGlobal + Files + Clock + Clone + Drop>(
         &mut self,
         rt: &R,
         files: &Ram,
     ) -> Result<Vec<Arrival>, TransferFault> {
-        self.begin_look();
-        if self.is_elsewhere(rt) {
+        self.reports.begin_look();
+        let rt = &Below::new(rt);
+        if is_gone(rt) {
             self.report_unread("", "")?;
             return Ok(Vec::new(self.alloc));
         }
@@ -115,8 +120,9 @@ impl Mirror {
             self.report_unread(unread.key.as_str(), unread.path.as_str())?;
         }
         for line in &look.lines {
-            self.report_line(line.clone()?)?;
+            self.reports.report_line(line.clone()?)?;
         }
+        let is_first = self.begins(&look, files)?;
         let changes = self.changes(&look, files)?;
         if changes.is_empty() {
             return Ok(Vec::new(self.alloc));
@@ -131,7 +137,11 @@ impl Mirror {
             }
         }
         self.hold_deletions(files)?;
-        Ok(plan.into_arrivals())
+        let arrivals = plan.into_arrivals();
+        if is_first {
+            self.report_stand_ins(&arrivals)?;
+        }
+        Ok(arrivals)
     }
 
     /// Checks whether the files have what an arrival, whose lines were run, was to bring in, and keeps that as the last state.
@@ -146,11 +156,9 @@ impl Mirror {
             return Ok(());
         }
         let Some(last) = last_of(&arrival, entry)? else {
-            return self.fail(
-                arrival.key.as_str(),
-                "cannot bring in",
-                arrival.path.as_str(),
-            );
+            return self
+                .reports
+                .report_absent(arrival.key.as_str(), arrival.path.as_str());
         };
         let record = Record {
             path: arrival.path,
@@ -219,19 +227,19 @@ fn has_last_stamp(record: &Record, seen: &Seen, files: &Ram) -> bool
         (Last::File(_), Kind::File { .. }) => {
             !record.is_fresh && record.stamp.is_same(&seen.stamp)
         }
-        (Last::StandIn, Kind::File { .. }) => {
-            record.stamp.is_same(&seen.stamp) && has_stand_in(files.look(&record.place))
+        (Last::StandIn(comment), Kind::File { .. }) => {
+            record.stamp.is_same(&seen.stamp) && has_stand_in(files.look(&record.place), comment)
         }
         _ => false,
     }
 }
 
-// A stand-in is there.
-fn has_stand_in(entry: Option<&Entry>) -> bool
-    ensures { result ≡ has_stand_in (option_copied entry.entry) }
+// The stand-in with this comment is there.
+fn has_stand_in(entry: Option<&Entry>, comment: &Text) -> bool
+    ensures { result ≡ has_stand_in (option_copied entry.entry) comment.now }
 {
     match entry {
-        Some(entry) => is_stand_in(entry),
+        Some(entry) => is_stand_in_of(entry, comment),
         None => false,
     }
 }
@@ -243,7 +251,9 @@ fn last_of(arrival: &Arrival, entry: Option<&Entry>) -> Result<Option<Last>, Tra
     };
     match (&arrival.coming, &entry.body) {
         (Coming::Directory, Body::Directory) => Ok(Some(Last::Directory)),
-        (Coming::StandIn, _) if is_stand_in(entry) => Ok(Some(Last::StandIn)),
+        (Coming::StandIn(comment), _) if is_stand_in_of(entry, comment) => {
+            Ok(Some(Last::StandIn(comment.copy()?)))
+        }
         (Coming::File(planned), Body::File(bytes)) if bytes.as_bytes() == planned.as_bytes() => {
             Ok(Some(Last::File(bytes.clone()?)))
         }

@@ -14,7 +14,11 @@ use std::{fs, io};
 // A walk looks at this many files and folders at most: the Shell holds 1,024 at most.
 const WALK: usize = 4096;
 
-/// Adds what words of `--bring` name, as `PATH` or `PATH=NAME`, to what is brought in.
+// A name of the Shell's files has at most this many bytes.
+const NAME_BYTES: usize = 30;
+
+/// Adds what words of `--bring` name, as `PATH` or `PATH=NAME`, to what is brought in. Devices and pipes are no files: `CannotRead` if
+/// PATH is one, and one that is in a folder is left out, with a line.
 pub fn bring<R: AllocGlobal + Files + Clone + Drop>(
     rt: &R,
     files: &Ram,
@@ -22,8 +26,9 @@ pub fn bring<R: AllocGlobal + Files + Clone + Drop>(
     plan: &mut Plan,
 ) -> Result<(), TransferFault> {
     let (path, name) = parted(rt, words);
-    let Ok(found) = fs::metadata(rt, path) else {
-        return Err(named(rt.alloc(), path, TransferFault::CannotRead));
+    let found = match fs::metadata(rt, path) {
+        Ok(found) if found.is_dir() || found.is_file() => found,
+        _ => return Err(named(rt.alloc(), path, TransferFault::CannotRead)),
     };
     let place = target(rt, path, name, found.is_dir())?;
     walk(rt, files, path, place, plan)
@@ -35,7 +40,8 @@ pub fn read_script<R: AllocGlobal + Files>(rt: &R, path: &str) -> Result<Vec<u8>
     Ok(shell_script(rt.alloc(), bytes.as_slice())?)
 }
 
-/// Adds a script of this machine with these bytes to what is brought in, as a file in S:, and gives its place.
+/// Adds a script of this machine with these bytes to what is brought in, as a file in S:, and gives its place. Where its name is none
+/// of the Shell's files, it has a similar one there.
 pub fn bring_script<R: AllocGlobal + Files>(
     rt: &R,
     files: &Ram,
@@ -45,9 +51,28 @@ pub fn bring_script<R: AllocGlobal + Files>(
 ) -> Result<Place, TransferFault> {
     let alloc = rt.alloc();
     let own = base_name(rt, path)?;
-    let place = place_in(alloc, "S:")?.with(name_of(alloc, own.as_str(), path)?)?;
+    let name = similar_name(alloc, own.as_str())?;
+    let place = place_in(alloc, "S:")?.with(name_of(alloc, name.as_str(), path)?)?;
     plan.add_file(files, place.copy()?, file_of(script, false), path)?;
     Ok(place)
+}
+
+// A name of this machine as one of the Shell's files: its first 30 bytes, with `_` for each that no such name has.
+fn similar_name(alloc: Global, own: &str) -> Result<String, TransferFault> {
+    let mut name = String::new(alloc);
+    for byte in own.as_bytes().iter().take(NAME_BYTES) {
+        name.push(if is_name_sign(*byte) {
+            char::from(*byte)
+        } else {
+            '_'
+        })?;
+    }
+    Ok(name)
+}
+
+// A name of the Shell's files may have this byte.
+fn is_name_sign(byte: u8) -> bool {
+    matches!(byte, b' '..=b'~') && byte != b':' && byte != b'/'
 }
 
 /// The path and the name of `PATH=NAME`. A path that exists is taken as a whole.
@@ -114,6 +139,9 @@ fn add_one<R: AllocGlobal + Files + Clone + Drop>(
     if found.is_dir() {
         push_children(rt, path.as_str(), &place, left)?;
         return plan.add_directory(files, place, path.as_str());
+    }
+    if !found.is_file() {
+        return plan.leave(path.as_str());
     }
     let is_script = found.permissions().mode() & 0o111 != 0;
     let bytes = read_file(rt, path.as_str())?;

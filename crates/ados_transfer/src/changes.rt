@@ -37,8 +37,8 @@ impl Mirror {
         let gone = (key, record.path.as_str());
         let arrival = Arrival::new(self.alloc, gone, Coming::Nothing, Stamp::NONE)?;
         if decision == Decision::Conflict {
-            self.report_kept(key, arrival.path.as_str(), false)?;
-            self.overrule(arrival.path.as_str(), entry.is_some() && !is_foreign)?;
+            self.reports.report_kept(key, arrival.path.as_str(), false)?;
+            self.overrule(key, arrival.path.as_str(), entry.is_some() && !is_foreign)?;
         }
         let is_forgotten = match (decision, entry) {
             (Decision::Conflict, _) if is_foreign => false,
@@ -48,7 +48,7 @@ impl Mirror {
             }
             (Decision::Keep, _) => true,
             // What the Shell changed is new there: it is written again.
-            (Decision::Write, Some(_)) => !self.is_failing(key),
+            (Decision::Write, Some(_)) => !self.reports.is_failing(key),
             _ => false,
         };
         if is_absent && is_forgotten {
@@ -64,7 +64,7 @@ impl Mirror {
         seen: Option<&Seen>,
     ) -> Result<Here, TransferFault> {
         match seen {
-            Some(seen) => Here::look(rt, self.folder.as_str(), seen.path.as_str()),
+            Some(seen) => Here::look(rt, seen.path.as_str()),
             None => Ok(Here::Absent),
         }
     }
@@ -80,9 +80,9 @@ impl Mirror {
         let place = self.place_of(seen.path.as_str())?;
         let entry = plan.look(key, &place);
         if entry.is_none() && plan.is_full() && !self.records.contains_key(key) {
-            return self.report_full(seen.path.as_str());
+            return self.reports.report_full(seen.path.as_str());
         }
-        let here = Here::look(rt, self.folder.as_str(), seen.path.as_str())?;
+        let here = Here::look(rt, seen.path.as_str())?;
         if here.is_unread() {
             return self.report_unread(key, seen.path.as_str());
         }
@@ -92,15 +92,17 @@ impl Mirror {
         }
         let is_stand_in = record.is_some_and(Record::is_stand_in);
         match here.decision(record, entry) {
-            Decision::Keep => self.keep_alike(plan, key, seen, &here, entry),
-            Decision::Write => self.keep_stamp(plan, key, seen, &here),
+            Decision::Keep => return self.keep_alike(plan, key, seen, &here, entry),
+            Decision::Write => return self.keep_stamp(plan, key, seen, &here),
             Decision::Conflict => {
-                self.report_kept(key, seen.path.as_str(), is_stand_in)?;
-                self.overrule(seen.path.as_str(), entry.is_some())?;
-                plan.add_object(self, key, seen, here, &place)
+                self.reports
+                    .report_kept(key, seen.path.as_str(), is_stand_in)?;
+                self.overrule(key, seen.path.as_str(), entry.is_some())?;
             }
-            Decision::Bring => plan.add_object(self, key, seen, here, &place),
+            Decision::Bring => {}
         }
+        self.release(key, &place)?;
+        plan.add_object(self, key, seen, here, &place)
     }
 
     // Keeps the path and the stamp of an object in whose place the Shell's is to be written.
@@ -140,7 +142,7 @@ impl Mirror {
             (Here::File { .. }, Body::File(bytes)) if !is_stand_in(entry) => {
                 Last::File(bytes.clone()?)
             }
-            (_, Body::File(_)) if is_stand_in(entry) => Last::StandIn,
+            (_, Body::File(_)) if is_stand_in(entry) => Last::StandIn(entry.comment.copy()?),
             _ => return Ok(()),
         };
         self.keep_as(key, seen.path.as_str(), last, stamp, plan.now())
@@ -151,7 +153,7 @@ impl Mirror {
 fn is_of_kind(record: &Record, kind: Kind) -> bool {
     match (&record.last, kind) {
         (Last::Directory, Kind::Directory) => true,
-        (Last::File(_) | Last::StandIn, Kind::File { .. }) => true,
+        (Last::File(_) | Last::StandIn(_), Kind::File { .. }) => true,
         _ => false,
     }
 }

@@ -41,10 +41,24 @@ pub enum Removal {
     Delete,
     /// It would be deleted, but something that the Shell holds is not written yet: its bytes may have been moved there.
     Hold,
+    /// It would be deleted, but then its bytes would be only in memory: it waits.
+    Wait,
     /// It changed, or is not to be touched: it stays.
     Conflict,
     /// Nothing: the Shell has what it had.
     Leave,
+}
+
+/// What else decides whether an object of this machine is deleted.
+#[derive(Clone, Copy)]
+pub struct Terms {
+    /// A file that is too large for the Shell may be deleted.
+    pub may_delete: bool,
+    /// Something that the Shell has is not written.
+    pub has_unwritten: bool,
+    /// Its bytes are in a file of the Shell that is not shared, and in no other file of the folder; or it is a folder in which
+    /// something waits.
+    pub is_last_copy: bool,
 }
 
 impl State<'_> {
@@ -99,24 +113,24 @@ pub fn decide(last: &State<'_>, here: &State<'_>, there: &State<'_>, may_delete:
     }
 }
 
-/// How an object of this machine is removed if the Shell's is gone or of another kind; `has_unwritten` says that something which the Shell
-/// has could not be written.
+/// How an object of this machine is removed if the Shell's is gone or of another kind.
 pub fn decide_removal(
     last: &State<'_>,
     here: &State<'_>,
     there: &State<'_>,
-    may_delete: bool,
-    has_unwritten: bool,
+    terms: Terms,
 ) -> Removal
     // Nothing is deleted while anything that the Shell has is unwritten.
-    ensures nothing_unwritten { result ≡ Removal.Delete → has_unwritten ≡ false }
+    ensures nothing_unwritten { result ≡ Removal.Delete → terms.has_unwritten ≡ false }
+    // Nothing is deleted whose bytes would then be only in memory.
+    ensures last_copy { result ≡ Removal.Delete → terms.is_last_copy ≡ false }
     // What is deleted is there, and is what was there at the last comparison.
     ensures safe { result ≡ Removal.Delete → (is_absent here.now ≡ false) × (is_same_state here.now last.now ≡ true) }
     // A file that is too large for the Shell is deleted only if the Shell's is gone, and if that is allowed.
-    ensures large { result ≡ Removal.Delete → is_large here.now ≡ true → (is_absent there.now ≡ true) × (may_delete ≡ true) }
-    ensures removal { result ≡ removal last.now here.now there.now may_delete has_unwritten }
+    ensures large { result ≡ Removal.Delete → is_large here.now ≡ true → (is_absent there.now ≡ true) × (terms.may_delete ≡ true) }
+    ensures removal { result ≡ removal last.now here.now there.now terms }
 {
-    match decide(last, here, there, may_delete) {
+    match decide(last, here, there, terms.may_delete) {
         Decision::Keep => forget_if(here.is_absent()),
         Decision::Bring => Removal::Leave,
         Decision::Conflict => Removal::Conflict,
@@ -124,7 +138,9 @@ pub fn decide_removal(
             if here.is_absent() {
                 return Removal::Forget;
             }
-            if has_unwritten {
+            if terms.is_last_copy {
+                Removal::Wait
+            } else if terms.has_unwritten {
                 Removal::Hold
             } else {
                 Removal::Delete

@@ -1,5 +1,5 @@
 //! One object of the Shell's files on its way to the folder of a share.
-ghost use Rattle.std.specs.Prelude.{◌≡◌, ◌||◌, IfOk, OnOk, string_bytes};
+ghost use Rattle.std.specs.Prelude.{◌≡◌, [], ◌||◌, IfOk, OnOk, string_bytes};
 ghost use Rattle.std.specs.BTreeMap.{IsEmpty};
 ghost use Rattle.std.specs.Str.{bytes_eq};
 ghost use Rattle.ados_text.specs.Text.{Bytes};
@@ -9,7 +9,6 @@ ghost use Rattle.ados_transfer.specs.Records.{has_key};
 use crate::faults::TransferFault;
 use crate::folders::{is_descendant, is_unshared};
 use crate::here::Here;
-use crate::paths::step_into;
 use crate::placing::{Draft, place_whole};
 use crate::records::{Last, Record};
 use crate::stamps::Stamp;
@@ -34,6 +33,8 @@ pub struct Departure<'a> {
     pub changes_kind: bool,
     /// It changes its kind so, or is below an object that does.
     pub is_within_kind_change: bool,
+    /// If it is a file that is to be deleted, the path of one with its bytes that the Shell has outside of the directory.
+    pub copy: Option<String>,
 }
 
 impl<'a> Departure<'a> {
@@ -47,6 +48,7 @@ impl<'a> Departure<'a> {
             is_new: false,
             changes_kind,
             is_within_kind_change: changes_kind,
+            copy: None,
         })
     }
 
@@ -58,7 +60,13 @@ impl<'a> Departure<'a> {
             is_new: true,
             changes_kind: false,
             is_within_kind_change: false,
+            copy: None,
         }
+    }
+
+    /// What was there is gone, or of another kind.
+    pub fn is_gone(&self) -> bool {
+        !self.is_new && (self.entry.is_none() || self.changes_kind)
     }
 }
 
@@ -121,11 +129,10 @@ pub fn is_key_left_out(key: &str, all: bool) -> bool {
 /// there since.
 pub fn write_entry<R: AllocGlobal + Files>(
     rt: &R,
-    root: &str,
     path: &str,
     draft: &Draft<'_>,
 ) -> io::Result<Option<Stamp>> {
-    let (folder, name) = way(rt, root, path)?;
+    let (folder, name) = way(rt, path)?;
     if draft.entry.is_directory() {
         let made = enter(rt, folder.as_str(), name)?;
         return Ok(Some(Stamp::of(&fs::symlink_metadata(rt, made.as_str())?)));
@@ -138,13 +145,8 @@ pub fn write_entry<R: AllocGlobal + Files>(
 }
 
 /// Deletes a file or an empty folder that was looked at; `false` if something else came to be there since.
-pub fn remove<R: AllocGlobal + Files>(
-    rt: &R,
-    root: &str,
-    path: &str,
-    here: &Here,
-) -> io::Result<bool> {
-    let whole = own_path(rt, root, path)?;
+pub fn remove<R: AllocGlobal + Files>(rt: &R, path: &str, here: &Here) -> io::Result<bool> {
+    let whole = own_path(rt, path)?;
     if here.is_directory() {
         fs::remove_dir(rt, whole.as_str())?;
         return Ok(true);
@@ -160,11 +162,10 @@ pub fn remove<R: AllocGlobal + Files>(
 /// path where the file is then, and the mode; nothing if something else came to be there since.
 pub fn move_aside<R: AllocGlobal + Files>(
     rt: &R,
-    root: &str,
     path: &str,
     here: &Here,
 ) -> io::Result<Option<(Option<String>, u32)>> {
-    let whole = own_path(rt, root, path)?;
+    let whole = own_path(rt, path)?;
     let mode = fs::symlink_metadata(rt, whole.as_str())?
         .permissions()
         .mode()
@@ -176,7 +177,7 @@ pub fn move_aside<R: AllocGlobal + Files>(
     if !is_still(rt, whole.as_str(), here)? {
         return Ok(None);
     }
-    let (beside, file) = open_beside(rt, root, 0o600)?;
+    let (beside, file) = open_beside(rt, "", 0o600)?;
     drop(file);
     match fs::rename(rt, whole.as_str(), beside.as_str()) {
         Ok(()) => Ok(Some((Some(beside), mode))),
@@ -187,12 +188,12 @@ pub fn move_aside<R: AllocGlobal + Files>(
     }
 }
 
-/// The whole path of an object below a folder, and in no other. Folders on the way are made; one that is a link is refused.
+/// The path of an object below the folder of the share, and in no other. Folders on the way are made; one that is a link is refused.
 #[tactic(auto, using(crate::proofs::PathLemmas::below_step))]
-pub fn own_path<R: AllocGlobal + Files>(rt: &R, root: &str, path: &str) -> io::Result<String>
-    ensures { IfOk result (λ path. IsBelow root.now (string_bytes path)) }
+pub fn own_path<R: AllocGlobal + Files>(rt: &R, path: &str) -> io::Result<String>
+    ensures { IfOk result (λ path. IsBelow [] (string_bytes path)) }
 {
-    let (folder, name) = way(rt, root, path)?;
+    let (folder, name) = way(rt, path)?;
     let whole = path_of(rt.alloc(), folder.as_str(), name)?;
     Ok(whole)
 }
@@ -204,14 +205,10 @@ fn is_still<R: Files>(rt: &R, path: &str, here: &Here) -> io::Result<bool> {
 
 // The folder of a path's last name, and that name. Folders on the way are made; one that is a link is refused.
 #[tactic(auto, using(crate::proofs::PathLemmas::below_itself, crate::proofs::PathLemmas::below_step))]
-fn way<'a, R: AllocGlobal + Files>(
-    rt: &R,
-    root: &str,
-    path: &'a str,
-) -> io::Result<(String, &'a str)>
-    ensures { IfOk result (λ way. IsBelow root.now (string_bytes way.0)) }
+fn way<'a, R: AllocGlobal + Files>(rt: &R, path: &'a str) -> io::Result<(String, &'a str)>
+    ensures { IfOk result (λ way. IsBelow [] (string_bytes way.0)) }
 {
-    let mut folder = String::from_str(rt.alloc(), root)?;
+    let mut folder = String::new(rt.alloc());
     let Some((above, name)) = path.rsplit_once('/') else {
         return Ok((folder, path));
     };

@@ -4,7 +4,8 @@ ghost use Rattle.std.specs.List.{list_any};
 ghost use Rattle.ados_text.specs.Text.{Bytes};
 ghost use Rattle.ados_transfer.specs.Records.{has_key, has_left};
 
-use crate::account::Account;
+use crate::account::{Account, Moment};
+use crate::below::{Below, is_gone};
 use crate::departure::{Departure, Departures, is_key_left_out};
 use crate::faults::TransferFault;
 use crate::mirror::Mirror;
@@ -17,31 +18,42 @@ impl Mirror {
     /// Writes to the folder what changed below the directory since the last comparison: first what is new, then what changed,
     /// then what is of another kind now, and what needs its place. At last what is gone is deleted, the deepest first. While
     /// anything that the Shell holds below the directory is not written, nothing is deleted: it may have been moved there, and
-    /// one line reports it. With `dry` the changes are only reported.
+    /// one line reports it, unless the script goes on meanwhile. With `dry` the changes are only reported.
     ///
     /// What can't be written or deleted is reported and left. The only error is that an allocation fails.
     pub fn write_out<R: AllocGlobal + Files + Clock>(
         &mut self,
         rt: &R,
         files: &Ram,
+        moment: Moment,
     ) -> Result<(), TransferFault> {
         if !files.look(&self.place).is_some_and(Entry::is_directory) {
+            if moment == Moment::Meanwhile {
+                return Ok(());
+            }
             let path = self.spelled(self.place.names())?;
             let path = format!(in self.alloc; "RAM:{path}")?;
-            return self.fail(
+            return self.reports.fail(
                 "",
                 "nothing is written, since there is no directory",
                 path.as_str(),
             );
         }
-        if self.is_elsewhere(rt) {
+        let rt = &Below::new(rt);
+        if is_gone(rt) {
             let folder = self.folder.clone()?;
-            return self.fail("", "cannot write", folder.as_str());
+            return self.reports.fail("", "cannot write", folder.as_str());
         }
         self.forget("");
-        self.spare_moved(files)?;
-        let mut account = Account::new(self.alloc);
-        let departures = self.departures(files, &mut account)?;
+        if moment == Moment::End {
+            self.forgive_deleted(files)?;
+        }
+        self.watch(files)?;
+        let mut account = Account::new(self.alloc, moment);
+        let asides = self.begin_moves(rt, files, &mut account)?;
+        let mut departures = self.departures(files, &mut account)?;
+        self.find_copies(files, &mut departures)?;
+        account.is_private = self.loses_private(rt, &departures);
         for is_new in [true, false] {
             for (key, departure) in &departures.by_key {
                 if departure.is_new == is_new && !departure.is_within_kind_change {
@@ -50,17 +62,68 @@ impl Mirror {
             }
         }
         self.change_kinds(rt, files, &departures, &mut account)?;
-        for (key, departure) in departures.by_key.iter().rev() {
-            if departure.entry.is_none() && !departure.is_within_kind_change {
-                self.delete_here(rt, key.as_str(), departure, &mut account)?;
-            }
+        self.delete_gone(rt, files, &departures, &mut account)?;
+        if self.finish_moves(rt, files, asides, &mut account)? {
+            self.delete_gone(rt, files, &departures, &mut account)?;
         }
+        if moment == Moment::End {
+            self.report_waiting(files)?;
+        }
+        self.report_temporaries(rt, &account)?;
         self.report_account(&account)
     }
 
+    // Deletes what is gone, the deepest first. By now a large file may have got the name.
+    fn delete_gone<R: AllocGlobal + Files>(
+        &mut self,
+        rt: &R,
+        files: &Ram,
+        departures: &Departures<'_>,
+        account: &mut Account,
+    ) -> Result<(), TransferFault> {
+        for (key, departure) in departures.by_key.iter().rev() {
+            let is_there = self
+                .records
+                .get(key.as_str())
+                .is_some_and(|record| record.is_kept(files.look(&record.place)));
+            if departure.entry.is_none() && !departure.is_within_kind_change && !is_there {
+                self.delete_here(rt, key.as_str(), departure, account)?;
+            }
+        }
+        Ok(())
+    }
+
+    // What was not written, and what the script deleted since, is no longer missed.
+    fn forgive_deleted(&mut self, files: &Ram) -> Result<(), TransferFault> {
+        for key in &self.reports.missed()? {
+            let is_there = files.look(&self.place_of(key.as_str())?).is_some();
+            if !is_there && !self.records.contains_key(key.as_str()) {
+                self.reports.settle(key.as_str());
+                self.reports.agree(key.as_str());
+            }
+        }
+        Ok(())
+    }
+
     // Makes way for what is of another kind now, and writes what needs the place. What is moved aside for it is deleted only if all of
-    // it is written, otherwise it gets its place back.
+    // it is written and nothing changed aside, otherwise it gets its place back.
     fn change_kinds<R: AllocGlobal + Files + Clock>(
+        &mut self,
+        rt: &R,
+        files: &Ram,
+        departures: &Departures<'_>,
+        account: &mut Account,
+    ) -> Result<(), TransferFault> {
+        let written = self.exchange_kinds(rt, files, departures, account);
+        let is_written = written.is_ok()
+            && self.heed_changes_aside(rt, departures, account).is_ok();
+        let finished = self.finish_kind_changes(rt, account, is_written);
+        written?;
+        finished
+    }
+
+    // Moves aside what is in the way, and writes what needs the place.
+    fn exchange_kinds<R: AllocGlobal + Files + Clock>(
         &mut self,
         rt: &R,
         files: &Ram,
@@ -79,7 +142,7 @@ impl Mirror {
                 self.write_here(rt, files, key.as_str(), departure, account)?;
             }
         }
-        self.finish_kind_changes(rt, account)
+        Ok(())
     }
 
     // The objects whose state in the Shell's files differs from the last comparison. A file whose name is left out is never written: that
@@ -136,8 +199,22 @@ impl Mirror {
             let path = self.path_of(written.relative_names(&self.place))?;
             if !is_key_left_out(key.as_str(), self.options.all) {
                 departures.add(key, Departure::new(path, entry))?;
-            } else if !entry.is_directory() {
-                account.add_unwritten_entry(path.as_str(), entry)?;
+            } else {
+                account.add_left_out(path, entry)?;
+            }
+        }
+        Ok(())
+    }
+
+    // Reports each temporary file that could not be removed.
+    fn report_temporaries<R: AllocGlobal + Files>(
+        &mut self,
+        rt: &Below<'_, R>,
+        account: &Account,
+    ) -> Result<(), TransferFault> {
+        for path in &rt.temporaries()? {
+            if !account.kept.contains(path) {
+                self.reports.report("temporary file left", path.as_str())?;
             }
         }
         Ok(())
@@ -145,9 +222,19 @@ impl Mirror {
 
     // Reports what is not deleted.
     pub(crate) fn report_account(&mut self, account: &Account) -> Result<(), TransferFault> {
+        if account.is_meanwhile() {
+            return Ok(());
+        }
         self.is_holding = account.is_holding();
+        self.is_lacking = account.has_unwritten() || !account.left_out.is_empty();
+        if account.moment == Moment::End {
+            for path in &account.left_out {
+                self.reports
+                    .report_once("not written, since its name is not shared", path.as_str())?;
+            }
+        }
         match account.line()? {
-            Some(line) => self.report_line(line),
+            Some(line) => self.reports.report_line(line),
             None => Ok(()),
         }
     }

@@ -1,3 +1,4 @@
+use crate::fit::Need;
 use ados_text::NoMemory;
 use std::alloc::{AllocError, AllocFailed, Global};
 use thiserror::Error;
@@ -41,6 +42,9 @@ pub enum TransferFault {
     /// The directory of a share is a file, or files are in it at the beginning.
     #[error("no empty directory for the share: {0}")]
     NoPlace(String),
+    /// The folder of a share has more files and folders than the Shell's files can hold.
+    #[error("{0}")]
+    DoesNotFit(Need),
     /// There was no memory.
     #[error("out of memory")]
     NoMemory,

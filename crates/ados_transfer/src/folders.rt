@@ -11,7 +11,7 @@ use crate::here::is_nothing;
 use crate::paths::{name_of, step_into};
 use crate::records::Records;
 use crate::stamps::Stamp;
-use crate::writing::BESIDE;
+use crate::writing::{BESIDE, joined};
 use std::alloc::{AllocError, Global};
 use std::collections::BTreeMap;
 use std::fs::Metadata;
@@ -73,8 +73,8 @@ pub struct Look {
 }
 
 impl Look {
-    /// Looks at everything in a folder. Names that begin with a dot are left out unless `all`. If two names differ only in case,
-    /// the one of the records is taken, otherwise the first.
+    /// Looks at everything below the folder of a share, which lines call `folder`. Names that begin with a dot are left out unless
+    /// `all`. If two names differ only in case, the one of the records is taken, otherwise the first.
     pub fn new<R: AllocGlobal + Files + Clone + Drop>(
         rt: &R,
         folder: &str,
@@ -126,8 +126,7 @@ impl Look {
     ) -> Result<Vec<String>, TransferFault> {
         let alloc = rt.alloc();
         let mut folders = Vec::new(alloc);
-        let whole = step_into(alloc, folder, path)?;
-        let names = match self.read_names(rt, whole.as_str(), all) {
+        let names = match self.read_names(rt, folder, path, all) {
             Ok(names) => names,
             Err(error) if error.kind() == ErrorKind::OutOfMemory => {
                 return Err(TransferFault::NoMemory);
@@ -146,7 +145,7 @@ impl Look {
         }
         for (named, is_chosen) in below.into_iter().zip(chosen) {
             if is_chosen {
-                self.add(rt, folder, named, &mut folders)?;
+                self.add(rt, named, &mut folders)?;
             } else {
                 self.report(
                     alloc,
@@ -162,18 +161,20 @@ impl Look {
     fn read_names<R: AllocGlobal + Files + Clone + Drop>(
         &mut self,
         rt: &R,
-        whole: &str,
+        folder: &str,
+        path: &str,
         all: bool,
     ) -> io::Result<Vec<String>> {
         let mut names = Vec::new(rt.alloc());
-        for entry in fs::read_dir(rt, whole)? {
+        for entry in fs::read_dir(rt, path)? {
             match entry {
                 Ok(entry) if is_unshared(entry.file_name(), all) => {}
                 Ok(entry) => names.push(String::from_str(rt.alloc(), entry.file_name())?)?,
                 Err(error) if error.kind() == ErrorKind::InvalidFilename => {
-                    let folder = whole.trim_end_matches('/');
+                    let whole = joined(rt.alloc(), folder, path)?;
+                    let whole = whole.as_str().trim_end_matches('/');
                     let line = format!(in rt.alloc();
-                        "bad name for the Shell, left alone: one in {folder}"
+                        "bad name for the Shell, left alone: one in {whole}"
                     )?;
                     self.lines.push(line)?;
                 }
@@ -210,13 +211,11 @@ impl Look {
     fn add<R: AllocGlobal + Files>(
         &mut self,
         rt: &R,
-        folder: &str,
         named: Named,
         folders: &mut Vec<String>,
     ) -> Result<(), TransferFault> {
         let alloc = rt.alloc();
-        let whole = step_into(alloc, folder, named.path.as_str())?;
-        let found = match fs::symlink_metadata(rt, whole.as_str()) {
+        let found = match fs::symlink_metadata(rt, named.path.as_str()) {
             Ok(found) => found,
             Err(error) if is_nothing(error.kind()) => return Ok(()),
             Err(_) => return self.add_unread(alloc, named.path.as_str()),

@@ -5,7 +5,6 @@ ghost use Rattle.ados_transfer.specs.Here.{has_stamp, stamp_of};
 use crate::bringing::bytes_of;
 use crate::decision::{Decision, State, decide};
 use crate::faults::TransferFault;
-use crate::paths::step_into;
 use crate::records::{Record, state_there};
 use crate::stamps::Stamp;
 use ados_ram::{Entry, FILE_LIMIT};
@@ -39,14 +38,9 @@ pub enum Here {
 }
 
 impl Here {
-    /// Looks at what is at a path below a folder; a link is not followed.
-    pub fn look<R: AllocGlobal + Files>(
-        rt: &R,
-        folder: &str,
-        path: &str,
-    ) -> Result<Here, TransferFault> {
-        let whole = step_into(rt.alloc(), folder, path)?;
-        let found = match fs::symlink_metadata(rt, whole.as_str()) {
+    /// Looks at what is at a path below the folder; a link is not followed.
+    pub fn look<R: AllocGlobal + Files>(rt: &R, path: &str) -> Result<Here, TransferFault> {
+        let found = match fs::symlink_metadata(rt, path) {
             Ok(found) => found,
             Err(error) if is_nothing(error.kind()) => return Ok(Here::Absent),
             Err(_) => return Ok(Here::Unread),
@@ -61,7 +55,7 @@ impl Here {
         if found.len() > FILE_LIMIT as u64 {
             return Ok(Here::Large(stamp));
         }
-        match bytes_of(rt, whole.as_str(), FILE_LIMIT) {
+        match bytes_of(rt, path, FILE_LIMIT) {
             Ok(bytes) if bytes.len() <= FILE_LIMIT => Ok(Here::File {
                 bytes,
                 stamp,

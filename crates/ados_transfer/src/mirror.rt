@@ -6,13 +6,16 @@ ghost use Rattle.ados_transfer.specs.Records.{Sets};
 
 use crate::bringing::parted;
 use crate::faults::{TransferFault, named};
+use crate::last_copies::Waiting;
 use crate::paths::{is_free, place_in};
 use crate::records::{Last, Record, Records};
+use crate::reports::Reports;
 use crate::stamps::Stamp;
-use crate::stand_ins::Watch;
+use crate::stand_ins::StandIns;
+use crate::watches::Watch;
 use ados_ram::{Place, Ram};
 use std::alloc::Global;
-use std::collections::{BTreeMap, BTreeSet};
+use std::collections::BTreeMap;
 use std::fs;
 use std::rt::Files;
 use std::time::{Clock, SystemTime};
@@ -25,6 +28,8 @@ const DIRECTORY: &str = "RAM:Work";
 pub struct MirrorOptions {
     /// Names that begin with a dot are shared too.
     pub all: bool,
+    /// The folder may have more files and folders than the Shell's files can hold.
+    pub part: bool,
     /// Nothing of this machine is changed; changes are only reported.
     pub dry: bool,
 }
@@ -33,26 +38,21 @@ pub struct MirrorOptions {
 #[derive(Drop)]
 pub struct Mirror {
     pub(crate) alloc: Global,
-    // The folder's whole path.
+    // The folder's whole path, for lines: what it leads to by now has no effect.
     pub(crate) folder: String,
     pub(crate) place: Place,
     pub(crate) options: MirrorOptions,
     pub(crate) records: Records,
-    // A file has a stand-in, or had one.
-    pub(crate) has_stand_ins: bool,
-    // The lines that are to be reported, and those that are reported only once in a run.
-    lines: Vec<String>,
-    reported: BTreeSet<String>,
-    // The keys of those for which this machine's object stays, and of those that could not be written or brought in.
-    reported_kept: BTreeSet<String>,
-    failing: BTreeSet<String>,
-    // The keys of those that could not be read at the last look, and at the one before.
-    unread: BTreeSet<String>,
-    unread_before: BTreeSet<String>,
-    // The Shell's files had no place for an object.
-    is_full: bool,
+    pub(crate) stand_ins: StandIns,
+    // What is not deleted, since only the Shell has its bytes beside.
+    pub(crate) waiting: Waiting,
+    pub(crate) reports: Reports,
+    // The folder was looked at.
+    pub(crate) has_begun: bool,
     // At the last comparison something was not deleted, since not everything was written.
     pub(crate) is_holding: bool,
+    // At the last comparison the Shell had something that was not written.
+    pub(crate) is_lacking: bool,
     // The first object of the Shell that gave way to this machine's at this look.
     pub(crate) overruled: Option<String>,
 }
@@ -90,17 +90,19 @@ impl Mirror {
             place,
             options,
             records: BTreeMap::new(alloc),
-            has_stand_ins: false,
-            lines: Vec::new(alloc),
-            reported: BTreeSet::new(alloc),
-            reported_kept: BTreeSet::new(alloc),
-            failing: BTreeSet::new(alloc),
-            unread: BTreeSet::new(alloc),
-            unread_before: BTreeSet::new(alloc),
-            is_full: false,
+            stand_ins: StandIns::new(alloc),
+            waiting: Waiting::new(alloc),
+            reports: Reports::new(alloc),
+            has_begun: false,
             is_holding: false,
+            is_lacking: false,
             overruled: None,
         })
+    }
+
+    /// The folder's whole path at the beginning.
+    pub fn folder(&self) -> &str {
+        self.folder.as_str()
     }
 
     /// The directory.
@@ -110,13 +112,18 @@ impl Mirror {
 
     /// The lines to report since the last call.
     pub fn take_lines(&mut self) -> Vec<String> {
-        std::mem::replace(&mut self.lines, Vec::new(self.alloc))
+        self.reports.take_lines()
     }
 
-    /// Something could not be read, written or brought in, and has not been since, or something is not deleted because of that: the
-    /// two sides are not alike.
-    pub fn has_failed(&self) -> bool {
-        self.is_holding || !self.failing.is_empty() || !self.unread.is_empty()
+    /// The two sides are not alike: something could not be read, written or brought in, and has not been since, or something is not
+    /// deleted because of that, or since its bytes would be only in memory; or the script changed something that the folder does not have
+    /// as the script left it.
+    pub fn differs(&self) -> bool {
+        self.is_holding
+            || self.is_lacking
+            || self.stand_ins.differ()
+            || !self.waiting.is_empty()
+            || self.reports.has_failed()
     }
 
     // Keeps an object as it is on both sides now.
@@ -124,10 +131,10 @@ impl Mirror {
         ensures kept { OnOk result (Sets self.old.records self.new.records (string_bytes key) (Some «record»)) }
         ensures once { IsOrdered string_cmp self.new.records }
     {
-        self.has_stand_ins = self.has_stand_ins || record.is_stand_in();
-        self.settled(key.as_str());
+        let noted = self.stand_ins.note(key.as_str(), record.is_stand_in());
+        self.reports.settle(key.as_str());
         self.records.insert(key, record)?;
-        Ok(())
+        Ok(noted?)
     }
 
     // Keeps an object as it is on both sides now, with this stamp.
@@ -155,119 +162,33 @@ impl Mirror {
         ensures forgotten { Sets self.old.records self.new.records key.now None }
         ensures once { IsOrdered string_cmp self.new.records }
     {
-        self.settled(key);
+        self.reports.settle(key);
+        self.stand_ins.leave_out(key);
         self.records.remove(key);
     }
 
-    // The two sides no longer differ at this key.
-    fn settled(&mut self, key: &str)
-        ensures { self.new.records ≡ self.old.records }
-    {
-        self.reported_kept.remove(key);
-        self.failing.remove(key);
-    }
-
-    // Reports a line about an object.
-    pub(crate) fn report(&mut self, text: &str, path: &str) -> Result<(), TransferFault>
-        ensures { self.new.records ≡ self.old.records }
-    {
-        self.lines.push(format!(in self.alloc; "{text}: {path}")?)?;
-        Ok(())
-    }
-
-    // Reports a line about an object once in a run.
-    pub(crate) fn report_once(&mut self, text: &str, path: &str) -> Result<(), TransferFault> {
-        self.report_line(format!(in self.alloc; "{text}: {path}")?)
-    }
-
-    // Reports a line once in a run.
-    pub(crate) fn report_line(&mut self, line: String) -> Result<(), TransferFault> {
-        if self.reported.insert(line.clone()?)? {
-            self.lines.push(line)?;
-        }
-        Ok(())
-    }
-
-    // Reports that this machine's object stays, once until that is settled.
-    pub(crate) fn report_kept(
+    // Notes that an object gives way to this machine's, if the Shell has one.
+    pub(crate) fn overrule(
         &mut self,
         key: &str,
         path: &str,
-        is_stand_in: bool,
+        is_there: bool,
     ) -> Result<(), TransferFault> {
-        let text = if is_stand_in {
-            "kept, since the Shell can't hold it"
-        } else {
-            "both changed, kept this machine's"
-        };
-        self.report_stays(key, text, path)
-    }
-
-    // Notes that an object gives way to this machine's, if the Shell has one.
-    pub(crate) fn overrule(&mut self, path: &str, is_there: bool) -> Result<(), TransferFault> {
+        if is_there {
+            self.reports.add_lost(key)?;
+        }
         if is_there && self.overruled.is_none() {
             self.overruled = Some(String::from_str(self.alloc, path)?);
         }
         Ok(())
     }
 
-    // Reports that a folder stays, since more is in it than the Shell knows, once until that is settled.
-    pub(crate) fn report_not_empty(&mut self, key: &str, path: &str) -> Result<(), TransferFault> {
-        self.report_stays(key, "kept, since it is not empty", path)
-    }
-
-    // Reports by this line that this machine's object stays, once until that is settled.
-    fn report_stays(&mut self, key: &str, text: &str, path: &str) -> Result<(), TransferFault> {
-        if self
-            .reported_kept
-            .insert(String::from_str(self.alloc, key)?)?
-        {
-            self.report(text, path)?;
-        }
-        Ok(())
-    }
-
-    // Reports the first object for which the Shell's files have no place.
-    pub(crate) fn report_full(&mut self, path: &str) -> Result<(), TransferFault> {
-        if self.is_full {
-            return Ok(());
-        }
-        self.is_full = true;
-        self.report("more than 1024 files and folders, left alone from", path)
-    }
-
-    // An object could not be written or brought in, and has not been since.
-    pub(crate) fn is_failing(&self, key: &str) -> bool {
-        self.failing.contains(key)
-    }
-
-    // Reports that something failed, once until that is settled.
-    pub(crate) fn fail(&mut self, key: &str, text: &str, path: &str) -> Result<(), TransferFault>
-        ensures { self.new.records ≡ self.old.records }
-    {
-        if self.failing.insert(String::from_str(self.alloc, key)?)? {
-            self.report(text, path)?;
-        }
-        Ok(())
-    }
-
-    // Begins a look: nothing is known yet of what cannot be read.
-    pub(crate) fn begin_look(&mut self) {
-        self.unread_before = std::mem::replace(&mut self.unread, BTreeSet::new(self.alloc));
-    }
-
-    // Reports that an object cannot be read, unless that was so at the look before.
+    // Reports that an object cannot be read, unless that was so at the look before; without a path it is the folder.
     pub(crate) fn report_unread(&mut self, key: &str, path: &str) -> Result<(), TransferFault> {
-        let is_new = self.unread.insert(String::from_str(self.alloc, key)?)?;
-        if !is_new || self.unread_before.contains(key) {
-            return Ok(());
-        }
         if path.is_empty() {
-            let line = format!(in self.alloc; "cannot read: {}", self.folder.as_str())?;
-            self.lines.push(line)?;
-            return Ok(());
+            return self.reports.report_unread(key, self.folder.as_str());
         }
-        self.report("cannot read", path)
+        self.reports.report_unread(key, path)
     }
 
     // The time; if the clock can't be read, one that is before all others.

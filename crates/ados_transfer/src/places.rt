@@ -6,8 +6,7 @@ use crate::mirror::Mirror;
 use crate::paths::step_into;
 use ados_ram::Place;
 use ados_text::{Name, Text};
-use std::fs;
-use std::rt::Files;
+use std::alloc::Global;
 
 impl Mirror {
     // The key of a place, the empty one for the directory itself; none outside it.
@@ -21,11 +20,7 @@ impl Mirror {
 
     // The place of a key or of a path below the directory.
     pub(crate) fn place_of(&self, path: &str) -> Result<Place, TransferFault> {
-        let mut place = self.place.copy()?;
-        for name in path.split('/') {
-            place = place.with(Name::new(Text::from_bytes(self.alloc, name.as_bytes())?))?;
-        }
-        Ok(place)
+        place_below(self.alloc, &self.place, path)
     }
 
     // Names as a path of this machine.
@@ -53,12 +48,13 @@ impl Mirror {
         }
         Ok(path)
     }
+}
 
-    // By now a link is on the way to the folder: its path leads elsewhere, where nothing is shared.
-    pub(crate) fn is_elsewhere<R: AllocGlobal + Files>(&self, rt: &R) -> bool {
-        match fs::canonicalize(rt, self.folder.as_str()) {
-            Ok(whole) => whole.as_path().as_str() != self.folder.as_str(),
-            Err(_) => false,
-        }
+/// The place of a key or of a path below a directory.
+pub fn place_below(alloc: Global, directory: &Place, path: &str) -> Result<Place, TransferFault> {
+    let mut place = directory.copy()?;
+    for name in path.split('/') {
+        place = place.with(Name::new(Text::from_bytes(alloc, name.as_bytes())?))?;
     }
+    Ok(place)
 }

@@ -7,10 +7,15 @@ use crate::bringing::bytes_of;
 use crate::here::Here;
 use crate::writing::{Manner, link_beside, write_beside};
 use ados_ram::Entry;
-use std::io::ErrorKind;
-use std::os::unix::fs::MetadataExt;
+use std::io::{Error, ErrorKind};
+use std::os::unix::fs::{MetadataExt, PermissionsExt};
 use std::rt::Files;
 use std::{fs, io};
+
+// The bit of a folder's mode by which only owners remove what is in it, and the user who always does.
+const STICKY: u32 = 0o1000;
+
+const SUPERUSER: u32 = 0;
 
 /// What an object of the folder is to become.
 #[derive(Clone, Copy)]
@@ -89,6 +94,9 @@ fn place_over<R: AllocGlobal + Files>(
     target: &str,
     bytes: &[u8],
 ) -> io::Result<bool> {
+    if is_bound(rt, folder, beside, target)? {
+        return Err(Error::from(ErrorKind::PermissionDenied));
+    }
     let Some(kept) = link_beside(rt, folder, target)? else {
         if !holds(rt, target, bytes) {
             return Ok(false);
@@ -101,6 +109,18 @@ fn place_over<R: AllocGlobal + Files>(
         return Ok(false);
     }
     exchange(rt, kept.as_str(), (beside, target), bytes)
+}
+
+// A sticky folder keeps another owner's file in its place: it cannot be replaced, and a second name of it could not be removed.
+fn is_bound<R: Files>(rt: &R, folder: &str, beside: &str, target: &str) -> io::Result<bool> {
+    let folder = if folder.is_empty() { "." } else { folder };
+    let folder = fs::symlink_metadata(rt, folder)?;
+    if folder.permissions().mode() & STICKY == 0 {
+        return Ok(false);
+    }
+    let own = fs::symlink_metadata(rt, beside)?.uid();
+    let owner = fs::symlink_metadata(rt, target)?.uid();
+    Ok(own != SUPERUSER && own != folder.uid() && own != owner)
 }
 
 // Gives the first file the name of the second, whose other name is `kept`; if that was changed before, it gets its name back.
@@ -123,8 +143,8 @@ fn exchange<R: AllocGlobal + Files>(
     Ok(false)
 }
 
-// A file holds these bytes.
-fn holds<R: AllocGlobal + Files>(rt: &R, path: &str, bytes: &[u8]) -> bool {
+/// A file holds these bytes.
+pub fn holds<R: AllocGlobal + Files>(rt: &R, path: &str, bytes: &[u8]) -> bool {
     if !fs::symlink_metadata(rt, path).is_ok_and(|found| found.is_file()) {
         return false;
     }

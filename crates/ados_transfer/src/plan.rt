@@ -14,6 +14,8 @@ pub struct Plan {
     alloc: Global,
     planned: Vec<Planned>,
     room: Room,
+    // A line for each object that is left out.
+    lines: Vec<String>,
 }
 
 impl Plan {
@@ -23,6 +25,7 @@ impl Plan {
             alloc,
             planned: Vec::new(alloc),
             room: Room::new(alloc, files)?,
+            lines: Vec::new(alloc),
         })
     }
 
@@ -31,6 +34,17 @@ impl Plan {
         self.planned.as_slice()
     }
 
+    /// The lines that report what is left out.
+    pub fn lines(&self) -> &[String] {
+        self.lines.as_slice()
+    }
+
+    /// Leaves out an object that is neither a file nor a folder.
+    pub fn leave(&mut self, path: &str) -> Result<(), TransferFault> {
+        let line = format!(in self.alloc; "no file or folder, left alone: {path}")?;
+        self.lines.push(line)?;
+        Ok(())
+    }
     /// Adds a directory, if it is not there; a fault names `path`.
     pub fn add_directory(
         &mut self,
@@ -95,7 +109,12 @@ impl Plan {
             return Err(named(self.alloc, path, TransferFault::ManyObjects));
         }
         self.room.put(size, None);
-        self.planned.push(Planned { place, content })?;
+        let path = String::from_str(self.alloc, path)?;
+        self.planned.push(Planned {
+            place,
+            content,
+            path,
+        })?;
         Ok(())
     }
 }

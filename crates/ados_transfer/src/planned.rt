@@ -14,6 +14,8 @@ pub struct Planned {
     pub place: Place,
     /// What is to be there.
     pub content: Content,
+    /// The path of this machine from which it comes.
+    pub path: String,
 }
 
 /// A directory or a file.

@@ -7,9 +7,10 @@ ghost use Rattle.ados_transfer.specs.StandIns.{own_entry};
 
 use crate::decision::State;
 use crate::stamps::Stamp;
-use crate::stand_ins::{Watch, is_stand_in, own_entry};
+use crate::stand_ins::{is_stand_in, is_stand_in_of, own_entry};
+use crate::watches::Watch;
 use ados_ram::{Body, Entry, FileBytes, Place};
-use ados_text::NoMemory;
+use ados_text::{NoMemory, Text};
 use std::collections::BTreeMap;
 
 /// What an object was at the last comparison.
@@ -19,12 +20,12 @@ pub enum Last {
     Directory,
     /// A file of these bytes on both sides, which the Shell's files share.
     File(FileBytes),
-    /// A file that is too large for the Shell, and its stand-in.
-    StandIn,
+    /// A file that is too large for the Shell, and the comment of its stand-in, which no other object has.
+    StandIn(Text),
 }
 
 impl Last {
-    /// What an entry is.
+    /// What an entry is that is no stand-in.
     pub fn of(entry: &Entry) -> Result<Last, NoMemory> {
         match &entry.body {
             Body::Directory => Ok(Last::Directory),
@@ -38,7 +39,7 @@ impl Last {
 pub struct Record {
     /// Its path below the folder, in the spelling of this machine.
     pub path: String,
-    /// Its place in the Shell's files.
+    /// Its place in the Shell's files; that of a stand-in is elsewhere once it was moved.
     pub place: Place,
     /// What it was.
     pub last: Last,
@@ -46,7 +47,7 @@ pub struct Record {
     pub stamp: Stamp,
     /// A later change might leave the same stamp.
     pub is_fresh: bool,
-    /// What was seen of it in the Shell's files, if it is empty there.
+    /// What was seen of its stand-in, if it has one.
     pub watch: Watch,
 }
 
@@ -56,14 +57,16 @@ impl Record {
         match &self.last {
             Last::Directory => State::Directory,
             Last::File(bytes) => State::File(bytes.as_bytes()),
-            Last::StandIn => State::Large(self.stamp),
+            Last::StandIn(_) => State::Large(self.stamp),
         }
     }
 
     /// What the Shell has in its place.
     pub fn state_there<'a>(&self, entry: Option<&'a Entry>) -> State<'a> {
         match (&self.last, entry) {
-            (Last::StandIn, Some(entry)) if is_stand_in(entry) => State::Large(self.stamp),
+            (Last::StandIn(comment), Some(entry)) if is_stand_in_of(entry, comment) => {
+                State::Large(self.stamp)
+            }
             (_, entry) => state_there(entry),
         }
     }
@@ -77,8 +80,10 @@ impl Record {
         };
         match &self.last {
             Last::Directory => entry.is_directory(),
-            Last::File(bytes) => !entry.is_directory() && entry.bytes() == bytes.as_bytes(),
-            Last::StandIn => is_stand_in(entry),
+            Last::File(bytes) => {
+                !entry.is_directory() && entry.bytes() == bytes.as_bytes() && !is_stand_in(entry)
+            }
+            Last::StandIn(comment) => is_stand_in_of(entry, comment),
         }
     }
 
@@ -94,13 +99,13 @@ impl Record {
     pub fn is_file_of(&self, bytes: &[u8]) -> bool {
         match &self.last {
             Last::File(last) => last.as_bytes() == bytes,
-            Last::Directory | Last::StandIn => false,
+            Last::Directory | Last::StandIn(_) => false,
         }
     }
 
     /// It is a file that is too large for the Shell.
     pub fn is_stand_in(&self) -> bool {
-        matches!(self.last, Last::StandIn)
+        matches!(self.last, Last::StandIn(_))
     }
 }
 

@@ -1,11 +1,12 @@
 //! How an object of the folder of a share that is gone in the Shell's files, or of another kind there, is deleted.
 
-use crate::account::{Account, Aside};
-use crate::decision::{Removal, decide_removal};
+use crate::account::{Account, Aside, Moment};
+use crate::decision::{Removal, Terms, decide_removal};
 use crate::departure::{Departure, move_aside, own_path, remove};
 use crate::faults::TransferFault;
 use crate::here::Here;
 use crate::mirror::Mirror;
+use crate::paths::step_into;
 use crate::placing::place_new;
 use crate::records::Record;
 use crate::stamps::Stamp;
@@ -27,28 +28,39 @@ impl Mirror {
         account: &mut Account,
     ) -> Result<(), TransferFault> {
         let path = departure.path.as_str();
+        let is_last_copy = self.is_last_copy(rt, key, departure)?;
         let Some(record) = self.records.get(key) else {
             return Ok(());
         };
-        let here = Here::look(rt, self.folder.as_str(), path)?;
+        let here = Here::look(rt, path)?;
         let is_large = record.is_stand_in();
+        let terms = Terms {
+            may_delete: record.watch.may_delete(),
+            has_unwritten: account.has_unwritten(),
+            is_last_copy,
+        };
         let removal = decide_removal(
             &record.state(),
             &here.state(Some(record)),
             &record.state_there(departure.entry),
-            record.watch.may_delete(),
-            account.has_unwritten(),
+            terms,
         );
         match removal {
             Removal::Forget => {
                 self.forget(key);
+                self.reports.agree(key);
                 Ok(())
             }
             Removal::Delete => self.delete(rt, key, departure, &here, account),
+            Removal::Hold if account.is_meanwhile() => Ok(()),
             Removal::Hold => {
                 // It comes in again: later its bytes may be nowhere else.
                 self.forget(key);
                 account.hold(path)
+            }
+            Removal::Wait => {
+                add_unwritten_within_kind_change(departure, account)?;
+                self.wait(key, departure)
             }
             Removal::Conflict => {
                 add_unwritten_within_kind_change(departure, account)?;
@@ -69,12 +81,12 @@ impl Mirror {
     ) -> Result<(), TransferFault> {
         let path = departure.path.as_str();
         if self.options.dry {
-            return self.report_once("would delete", path);
+            return self.reports.report_once("would delete", path);
         }
         let is_done = if departure.is_within_kind_change {
             self.set_aside(rt, key, path, here, account)
         } else {
-            remove(rt, self.folder.as_str(), path, here)
+            remove(rt, path, here)
         };
         if !matches!(is_done, Ok(true)) {
             add_unwritten_within_kind_change(departure, account)?;
@@ -82,12 +94,13 @@ impl Mirror {
         match is_done {
             Ok(true) => {
                 self.forget(key);
+                self.reports.agree(key);
                 Ok(())
             }
-            Ok(false) => self.report_kept(key, path, false),
+            Ok(false) => self.reports.report_kept(key, path, false),
             Err(error) if error.kind() == ErrorKind::DirectoryNotEmpty => {
                 self.forget(key);
-                self.report_not_empty(key, path)
+                self.reports.report_not_empty(key, path)
             }
             Err(error) => self.not_done(&error, "cannot delete", key, path),
         }
@@ -99,7 +112,7 @@ impl Mirror {
         let Some(path) = self.overruled.take() else {
             return Ok(());
         };
-        let mut account = Account::new(self.alloc);
+        let mut account = Account::new(self.alloc, Moment::Start);
         account.add_unwritten(path.as_str())?;
         let mut keys = Vec::new(self.alloc);
         for (key, record) in &self.records {
@@ -123,7 +136,7 @@ impl Mirror {
         here: &Here,
         account: &mut Account,
     ) -> io::Result<bool> {
-        let Some((beside, mode)) = move_aside(rt, self.folder.as_str(), path, here)? else {
+        let Some((beside, mode)) = move_aside(rt, path, here)? else {
             return Ok(false);
         };
         let Some((key, record)) = self.records.remove_entry(key) else {
@@ -146,10 +159,11 @@ impl Mirror {
         &mut self,
         rt: &R,
         account: &mut Account,
+        is_written: bool,
     ) -> Result<(), TransferFault> {
         for one in account.take_aside().into_iter().rev() {
-            if account.has_unwritten() {
-                self.put_back(rt, one)?;
+            if account.has_unwritten() || !is_written {
+                self.put_back(rt, one, account)?;
             } else if let Some(beside) = &one.beside {
                 let _ = fs::remove_file(rt, beside.as_str());
             }
@@ -162,6 +176,7 @@ impl Mirror {
         &mut self,
         rt: &R,
         aside: Aside,
+        account: &mut Account,
     ) -> Result<(), TransferFault> {
         let Aside {
             key,
@@ -169,7 +184,7 @@ impl Mirror {
             beside,
             mode,
         } = aside;
-        match placed_back(rt, self.folder.as_str(), &record, beside.as_ref(), mode) {
+        match placed_back(rt, &record, beside.as_ref(), mode) {
             Ok(Some(stamp)) => {
                 let mut record = record;
                 record.stamp = stamp;
@@ -179,8 +194,10 @@ impl Mirror {
             }
             _ => match beside {
                 Some(beside) => {
-                    let text = format!(in self.alloc; "kept as {beside}")?;
-                    self.report(text.as_str(), record.path.as_str())
+                    let whole = step_into(self.alloc, self.folder.as_str(), beside.as_str())?;
+                    let text = format!(in self.alloc; "kept as {whole}")?;
+                    account.kept.push(beside)?;
+                    self.reports.report(text.as_str(), record.path.as_str())
                 }
                 None => Ok(()),
             },
@@ -204,12 +221,11 @@ fn add_unwritten_within_kind_change(
 // if it is empty.
 fn placed_back<R: AllocGlobal + Files>(
     rt: &R,
-    root: &str,
     record: &Record,
     beside: Option<&String>,
     mode: u32,
 ) -> io::Result<Option<Stamp>> {
-    let whole = own_path(rt, root, record.path.as_str())?;
+    let whole = own_path(rt, record.path.as_str())?;
     match beside {
         Some(beside) => {
             let _ = fs::remove_dir(rt, whole.as_str());

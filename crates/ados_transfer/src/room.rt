@@ -5,7 +5,7 @@ use ados_text::NoMemory;
 use std::alloc::Global;
 
 /// How much the files would hold.
-#[derive(Clone, Copy)]
+#[derive(Clone, Copy, Debug)]
 pub struct Room {
     bytes: usize,
     objects: usize,
@@ -22,6 +22,16 @@ impl Room {
             bytes,
             objects: places.len(),
         })
+    }
+
+    /// How many bytes all files have.
+    pub fn bytes(&self) -> usize {
+        self.bytes
+    }
+
+    /// How many objects there are beside the root.
+    pub fn objects(&self) -> usize {
+        self.objects
     }
 
     /// There is room for one more object in the files. Their limit counts the root, which is not counted here.

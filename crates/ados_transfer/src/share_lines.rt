@@ -2,7 +2,7 @@
 
 use crate::faults::TransferFault;
 use crate::lines::{command_line, literal, start, too_long};
-use crate::stand_ins::{is_stand_in, stand_in_comment};
+use crate::stand_ins::is_stand_in;
 use crate::words::push_word;
 use ados_ram::{Entry, Place, Ram};
 use ados_text::{LINE_BYTES, Text};
@@ -105,23 +105,20 @@ impl ShareLines {
         Ok(())
     }
 
-    /// Adds the lines that make the stand-in of a file of this size over what is there: an empty file without bits, whose comment
-    /// says the size.
+    /// Adds the lines that make a stand-in with this comment over what is there: an empty file without bits.
     pub fn add_stand_in(
         &mut self,
         place: &Place,
         entry: Option<&Entry>,
-        size: u64,
+        comment: &Text,
     ) -> Result<(), TransferFault> {
         let path = literal(self.alloc, place)?;
         if entry.is_some_and(|entry| !entry.bits.write) {
             self.add(b"\"amishell-protect\"", &path, b" +w")?;
         }
         self.add(b"\"amishell-bring\" >", &place.path(self.alloc)?, b"")?;
-        let comment = stand_in_comment(self.alloc, size)?;
-        let comment = start(self.alloc, comment.as_bytes())?;
         let mut words = Text::new(self.alloc);
-        push_word(&mut words, &comment, true)?;
+        push_word(&mut words, comment, true)?;
         self.add(b"\"amishell-filenote\"", &path, words.as_bytes())?;
         self.add(b"\"amishell-protect\"", &path, b"")
     }

@@ -1,6 +1,7 @@
 //! Stamps of files of this machine, by which a change of one is noticed.
 ghost use Rattle.std.specs.Prelude.{◌≡◌};
 ghost use Rattle.ados_transfer.specs.Mirror.{is_same_time, is_same_stamp};
+ghost use Rattle.ados_transfer.specs.Stamps.{is_same_file};
 
 use std::fs::Metadata;
 use std::os::unix::fs::MetadataExt;
@@ -76,6 +77,14 @@ impl Stamp {
             && self.number == other.number
             && self.modified.is_same(&other.modified)
             && self.changed.is_same(&other.changed)
+    }
+
+    /// The two are those of one file that may have taken another name between them, with the same bytes as far as stamps say that.
+    pub fn is_same_file(&self, other: &Stamp) -> bool
+        ensures { result ≡ is_same_file self.now other.now }
+    {
+        let is_unwritten = self.modified.is_same(&other.modified);
+        is_unwritten && self.size == other.size && self.number == other.number
     }
 
     /// A change right after this look might leave the same stamp: the file was changed in the tick of the clock in which it was

@@ -1,5 +1,6 @@
 //! Where the programs of a share start.
 
+use crate::below::is_gone;
 use crate::faults::TransferFault;
 use crate::mirror::Mirror;
 use crate::paths::step_into;
@@ -12,7 +13,7 @@ use std::rt::Files;
 pub enum StartPlace {
     /// Where this process was started: the directory is outside the share.
     Home,
-    /// In this folder of the share.
+    /// In this folder, by its path below the folder of the share.
     Folder(String),
     /// Nowhere: the share has no such folder, or a link is on the way to it.
     Nowhere,
@@ -31,14 +32,13 @@ impl Mirror {
         }
         let path = self.path_of(place.relative_names(&self.place))?;
         if self.has_folder(rt, path.as_str())? {
-            let whole = step_into(self.alloc, self.folder.as_str(), path.as_str())?;
-            return Ok(StartPlace::Folder(whole));
+            return Ok(StartPlace::Folder(path));
         }
         let mut name = path;
         if name.is_empty() {
             name = String::from_str(self.alloc, self.folder.as_str())?;
         }
-        self.report(
+        self.reports.report(
             "no program starts there, since it is no folder",
             name.as_str(),
         )?;
@@ -51,13 +51,13 @@ impl Mirror {
         rt: &R,
         path: &str,
     ) -> Result<bool, TransferFault> {
-        let mut whole = String::from_str(self.alloc, self.folder.as_str())?;
-        if self.is_elsewhere(rt) || !is_folder(rt, whole.as_str()) {
+        if is_gone(rt) {
             return Ok(false);
         }
         if path.is_empty() {
             return Ok(true);
         }
+        let mut whole = String::new(self.alloc);
         for name in path.split('/') {
             whole = step_into(self.alloc, whole.as_str(), name)?;
             if !is_folder(rt, whole.as_str()) {

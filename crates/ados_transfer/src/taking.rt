@@ -3,7 +3,7 @@
 use crate::faults::{TransferFault, named};
 use crate::paths::{ascii, last_piece};
 use crate::stand_ins::own_entry;
-use crate::writing::{checked, enter, no_memory, spelled, write_whole};
+use crate::writing::{enter, no_memory, spelled, write_whole};
 use ados_assign::Assigns;
 use ados_names::Path;
 use ados_ram::{Entry, Place, Ram};
@@ -45,6 +45,17 @@ pub fn take<R: AllocGlobal + Files>(
         }
         Err(_) => Err(not_taken(rt.alloc(), words)),
     }
+}
+
+/// The place of what words of `--take` name, as `NAME` or `NAME=PATH`, if they name one.
+pub fn taken_place(
+    alloc: Global,
+    files: &Ram,
+    assigns: &Assigns,
+    words: &str,
+) -> Result<Option<Place>, TransferFault> {
+    let (name, _) = parted(alloc, files, assigns, words)?;
+    place_of(alloc, files, assigns, name)
 }
 
 fn not_taken(alloc: Global, words: &str) -> TransferFault {
@@ -106,17 +117,23 @@ fn take_file<R: AllocGlobal + Files>(
         return write(rt, ".", own, entry);
     };
     if path.ends_with('/') || is_folder(rt, path) {
-        fs::create_dir_all(rt, path)?;
-        return write(rt, path, own, entry);
+        return write(rt, folder_at(rt, path)?.as_str(), own, entry);
     }
     let name = last_piece(path);
-    checked(name)?;
-    let folder = match path.strip_suffix(name) {
-        None | Some("") => ".",
-        Some(folder) => folder,
-    };
-    fs::create_dir_all(rt, folder)?;
-    write(rt, folder, name, entry)
+    let folder = path.strip_suffix(name).unwrap_or("");
+    write(rt, folder_at(rt, folder)?.as_str(), name, entry)
+}
+
+// The folder at a path, which is made if it is not there. A name that leads elsewhere is refused, and so is a link.
+fn folder_at<R: AllocGlobal + Files>(rt: &R, path: &str) -> io::Result<String> {
+    let first = if path.starts_with('/') { "/" } else { "." };
+    let mut folder = String::from_str(rt.alloc(), first)?;
+    for name in path.split('/') {
+        if !name.is_empty() {
+            folder = enter(rt, folder.as_str(), name)?;
+        }
+    }
+    Ok(folder)
 }
 
 // Writes a file; `InvalidData` if it is a stand-in, which holds nothing of its file.
@@ -142,14 +159,10 @@ fn is_folder<R: Files>(rt: &R, path: &str) -> bool {
 // The folder for a directory, which is made if it is not there: that of a path, or one of the directory's own name in this folder,
 // which is no link, and this folder for the root.
 fn folder_for<R: AllocGlobal + Files>(rt: &R, path: Option<&str>, own: &str) -> io::Result<String> {
-    let path = match path {
-        Some("..") => return Err(io::Error::from(ErrorKind::InvalidInput)),
-        Some(path) => path,
-        None if own.is_empty() => ".",
-        None => return enter(rt, ".", own),
-    };
-    fs::create_dir_all(rt, path)?;
-    Ok(String::from_str(rt.alloc(), path)?)
+    match path {
+        Some(path) => folder_at(rt, path),
+        None => folder_at(rt, own),
+    }
 }
 
 // Writes what is in a directory to a path or under its own name. What cannot be written is left out, and the last fault is reported.

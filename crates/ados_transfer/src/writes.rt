@@ -5,11 +5,10 @@ ghost use Rattle.ados_transfer.specs.Here.{is_moved_away};
 
 use crate::account::{Account, is_substring};
 use crate::decision::Decision;
-use crate::departure::{Departure, write_entry};
+use crate::departure::{Departure, Departures, write_entry};
 use crate::faults::TransferFault;
 use crate::here::Here;
 use crate::mirror::Mirror;
-use crate::paths::step_into;
 use crate::placing::Draft;
 use crate::records::{Last, Record};
 use crate::stamps::Stamp;
@@ -38,9 +37,9 @@ impl Mirror {
             return Ok(());
         }
         if departure.is_within_kind_change && self.options.dry {
-            return self.report_once("would write", path);
+            return self.reports.report_once("would write", path);
         }
-        let here = Here::look(rt, self.folder.as_str(), path)?;
+        let here = Here::look(rt, path)?;
         let record = self.records.get(key);
         let is_large = record.is_some_and(Record::is_stand_in);
         match here.decision(record, Some(entry)) {
@@ -53,7 +52,7 @@ impl Mirror {
                 account.add_unwritten_entry(path, entry)?;
                 self.not_touched(key, path, &here, "cannot write", is_large)
             }
-            Decision::Write if self.options.dry => self.report_once("would write", path),
+            Decision::Write if self.options.dry => self.reports.report_once("would write", path),
             Decision::Write => {
                 let mode = self.mode_of(rt, files, entry, account)?;
                 let draft = Draft::new(entry, &here, mode);
@@ -72,22 +71,45 @@ impl Mirror {
     ) -> Result<(), TransferFault> {
         let (key, path) = object;
         if is_moved_away(draft, account) {
+            account.add_unwritten_entry(path, draft.entry)?;
+            if account.is_meanwhile() {
+                return Ok(());
+            }
             // It comes in again.
             self.forget(key);
-            account.add_unwritten_entry(path, draft.entry)?;
             return account.hold(path);
         }
-        match write_entry(rt, self.folder.as_str(), path, draft) {
+        match write_entry(rt, path, draft) {
             Ok(Some(stamp)) => self.keep_written(rt, object, draft.entry, stamp),
             Ok(None) => {
                 account.add_unwritten_entry(path, draft.entry)?;
-                self.report_kept(key, path, false)
+                self.reports.report_kept(key, path, false)
             }
             Err(error) => {
                 account.add_unwritten_entry(path, draft.entry)?;
                 self.not_done(&error, "cannot write", key, path)
             }
         }
+    }
+
+    // A file is gone that gave no rights to group and others, and no object that is written has its bytes.
+    pub(crate) fn loses_private<R: Files>(&self, rt: &R, departures: &Departures<'_>) -> bool {
+        departures.by_key.iter().any(|(key, departure)| {
+            departure.is_gone()
+                && is_private(rt, departure.path.as_str())
+                && !self.is_moved(key.as_str(), departures)
+        })
+    }
+
+    // An object that is written has the bytes of the file with this key.
+    fn is_moved(&self, key: &str, departures: &Departures<'_>) -> bool {
+        let Some(record) = self.records.get(key) else {
+            return false;
+        };
+        departures.by_key.values().any(|departure| {
+            departure.entry.is_some_and(|entry| !entry.is_directory()
+                && record.is_file_of(entry.bytes()))
+        })
     }
 
     // The mode of the file of the folder that has the bytes of an entry: one that the Shell no longer has, since the entry may be its
@@ -117,6 +139,8 @@ impl Mirror {
                 let mode = self.mode_here(rt, record)?;
                 Ok(mode.map(|mode| mode & 0o755))
             }
+            _ if account.is_private && entry.bits.script => Ok(Some(0o700)),
+            _ if account.is_private => Ok(Some(0o600)),
             _ => Ok(None),
         }
     }
@@ -127,8 +151,7 @@ impl Mirror {
         rt: &R,
         record: &Record,
     ) -> Result<Option<u32>, TransferFault> {
-        let whole = step_into(self.alloc, self.folder.as_str(), record.path.as_str())?;
-        match fs::symlink_metadata(rt, whole.as_str()) {
+        match fs::symlink_metadata(rt, record.path.as_str()) {
             Ok(found) if found.is_file() => Ok(Some(found.permissions().mode())),
             _ => Ok(None),
         }
@@ -144,9 +167,9 @@ impl Mirror {
         is_large: bool,
     ) -> Result<(), TransferFault> {
         if here.is_unread() {
-            self.fail(key, text, path)
+            self.reports.fail(key, text, path)
         } else {
-            self.report_kept(key, path, is_large)
+            self.reports.report_kept(key, path, is_large)
         }
     }
 
@@ -161,7 +184,7 @@ impl Mirror {
         if error.kind() == io::ErrorKind::OutOfMemory {
             return Err(TransferFault::NoMemory);
         }
-        self.fail(key, text, path)
+        self.reports.fail(key, text, path)
     }
 
     // Keeps an object as it is on both sides.
@@ -173,8 +196,15 @@ impl Mirror {
         stamp: Stamp,
     ) -> Result<(), TransferFault> {
         let (key, path) = object;
+        self.reports.agree(key);
         self.keep_as(key, path, Last::of(entry)?, stamp, &self.now(rt))
     }
+}
+
+// A file is at a path whose mode gives no rights to group and others.
+fn is_private<R: Files>(rt: &R, path: &str) -> bool {
+    fs::symlink_metadata(rt, path).is_ok_and(|found| found.is_file()
+        && found.permissions().mode() & 0o077 == 0)
 }
 
 // What a file of this machine holds is in a file of the Shell that is not written, and not in the one that takes its place.

@@ -15,9 +15,6 @@ use std::{fs, io};
 /// The names of temporary files begin like this.
 pub const BESIDE: &str = ".amishell-execute.";
 
-// How many names are tried for a temporary file.
-const TRIES: u32 = 100;
-
 /// The permissions of a file that is written.
 #[derive(Clone, Copy)]
 pub enum Manner {
@@ -173,7 +170,7 @@ pub fn open_beside<R: AllocGlobal + Files>(
     options.write(true);
     options.create_new(true);
     options.mode(mode);
-    for number in 0..TRIES {
+    for number in 0..u32::MAX {
         let path = name_beside(rt.alloc(), folder, number)?;
         match options.open(rt, path.as_str()) {
             Ok(file) => return Ok((path, file)),
@@ -190,7 +187,7 @@ pub fn link_beside<R: AllocGlobal + Files>(
     folder: &str,
     path: &str,
 ) -> io::Result<Option<String>> {
-    for number in 0..TRIES {
+    for number in 0..u32::MAX {
         let beside = name_beside(rt.alloc(), folder, number)?;
         match fs::hard_link(rt, path, beside.as_str()) {
             Ok(()) => return Ok(Some(beside)),

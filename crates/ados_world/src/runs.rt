@@ -67,11 +67,14 @@ pub struct Run {
 impl World {
     /// Takes the events one after another.
     ///
+    /// Whatever the events, of every script: the place of the first command whose code reaches the limit in force after it is the
+    /// place at which the script ended early, or there is neither (`early`). Each script that ends gives back the line and the codes
+    /// of its last command, and the limit of the command that called it; one that is broken gives back 10 and 304 (`back`).
+    ///
     /// Each item of `outs` is what the step returns; a refused event keeps the world. If there is no memory for the list
     /// of results, the world is returned unchanged.
     ///
-    /// Whatever the events, each script ends early exactly at its first command whose code reaches the limit in force after it,
-    /// unless it is broken first, and the reports of the outs are the ends of scripts, in their order. Each end is
+    /// The reports of the outs are the ends of scripts, in their order. Each end is
     /// that of the newest frame of its shell, reported once with the frame's own name and last record. Scripts end at a break
     /// exactly at a turn that finds the flag of its shell, in which a script runs. If the next event accepted after the turn
     /// that requested a program is the reply that it could not be started, then what all share, the other shells and each use
@@ -80,9 +83,9 @@ impl World {
     /// and those that still wait. Each report gives the last record of its script, and the last codes of each number, even if
     /// its shell has ended, are those of its last command.
     pub fn run(mut self, events: &[Event]) -> Result<Run, World>
-        ensures run { IfOk result (λ run. Runs self events.now run.outs run.world) }
         ensures early { IfOk result (λ run. OfEachFrameIn EndsEarlyAtFirst self events.now run.outs) }
         ensures back { IfOk result (λ run. OfEachFrameIn GivesBack self events.now run.outs) }
+        ensures run { IfOk result (λ run. Runs self events.now run.outs run.world) }
         ensures limits { IfOk result (λ run. LimitsHold self events.now run.outs) }
         ensures reports { IfOk result (λ run. ReportsHold self events.now run.outs) }
         ensures frames { IfOk result (λ run. FramesHold self events.now run.outs run.world) }

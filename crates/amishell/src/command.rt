@@ -6,11 +6,10 @@ ghost use Rattle.clap.specs.Faults.{fault_of};
 ghost use Rattle.clap.specs.declared.builder.command.Command.TheViews.{out-Command as fields_of};
 ghost use Rattle.amishell.specs.Command.{hosts_app, run_app, replay_app, bare_app, amishell};
 
+use ados_session::VERSION;
 use clap::{Arg, ArgAction, ArgMatches, Command, Error};
 use std::alloc::{AllocError, Global};
 use std::convert::AsStr;
-
-const VERSION: &str = "1.0";
 
 const ABOUT: &str =
     "The Shell of the Amiga (AmigaDOS Release 2): runs Amiga command scripts on this machine";

@@ -1,2 +1,3 @@
+mod Driving
 mod Pairs
 mod Ran

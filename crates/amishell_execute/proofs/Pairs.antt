@@ -1,17 +1,17 @@
 -- A launcher and a world that agree.
-use Rattle.std.proofs.Common.{◌≡◌, None, length, refl, ap, sym, subst, ℕ, List, [], Bool, false, get_or}
+use Rattle.std.proofs.Common.{◌≡◌, Option, None, length, refl, ap, sym, subst, ℕ, List, [], Bool, false, get_or}
 use Rattle.ados_machine.specs.Limits.{IsSane}
 use Rattle.ados_machine.specs.World.{WorldState, pending_of}
 use Rattle.ados_launcher.specs.declared.calls.Call.{Call}
 use Rattle.ados_launch.specs.Agreement.{Agrees, AreOver, IsOpenTable}
-use Rattle.ados_launch.specs.Leads.{LeadsByRule}
+use Rattle.ados_launch.specs.Deeds.{DoesByRule, RunsLines}
 use Rattle.ados_launch.specs.Rounds.{asks_read_or_wait}
 use Rattle.ados_launch.specs.Schedule.{scheduled_next}
 use Rattle.ados_launch.specs.Session.{Moment}
 use Rattle.ados_launch.specs.Steps.{SessionState, TakesNothing}
-use Rattle.ados_launch.proofs.ActsLaws.{leads-by-rule}
+use Rattle.ados_launch.proofs.ActsLaws.{does-by-rule}
 use Rattle.ados_launch.proofs.Stepping.{session-over}
-use Rattle.ados_launch.proofs.Leading.{leads_none}
+use Rattle.ados_launch.proofs.Deeding.{does-any, does-none, lines-none}
 use Rattle.ados_launch.proofs.Agreeing.{table-begins}
 
 -- a launcher without a call agrees with a world as any other does
@@ -26,8 +26,11 @@ pub table_looked : (w : WorldState) (calls : List Call) (table : List Bool) → 
 table_looked w calls table agrees looked = table-begins w calls table agrees looked
 
 -- nothing happened
-pub rule_stays : (w : WorldState) → IsSane w → LeadsByRule w w
-rule_stays w sane = leads-by-rule w w (leads_none w w refl) sane
+pub rule_stays : (w : WorldState) (is_cut : Bool) (contents : Option (List ℕ)) → IsSane w → DoesByRule w w is_cut contents contents
+rule_stays w is_cut contents sane = does-by-rule w w is_cut contents contents (does-any is_cut w w contents contents (does-none w w contents contents refl refl)) sane
+
+pub lines_stay : (w : WorldState) → RunsLines w w
+lines_stay w = lines-none w w refl
 
 -- nothing comes: no child is open
 pub nothing_over : (was now : SessionState) (before after : Moment) (calls : List Call) → TakesNothing was now before after → Agrees after.world calls → length after.world.shells ≡ 20 → AreOver calls

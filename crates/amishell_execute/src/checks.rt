@@ -1,11 +1,12 @@
 //! The check of each script before its first line is taken: one with a line that must not be run as it is does not run.
-ghost use Rattle.std.specs.Prelude.{◌<◌, ◌^◌, ◌-◌};
+ghost use Rattle.std.specs.Prelude.{◌≡◌, None, IfErr};
+ghost use Rattle.amishell_execute.specs.Playing.{drive_fault_of};
 
-use crate::faults::{Fault, report};
+use crate::faults::{Fault, report, unread_script};
 use crate::request::Options;
 use ados_check::{Finding, check, mark, strike};
 use ados_flow::{Frame, FrameKind};
-use ados_launch::{Next, Session};
+use ados_launch::Next;
 use ados_ram::Place;
 use ados_shell::Shell;
 use ados_text::{Name, NoMemory, Text, lines_of};
@@ -33,7 +34,10 @@ pub fn read_checked<R: AllocGlobal + Files + Eprint>(
     options: &Options<'_>,
 ) -> Result<Vec<u8>, Fault> {
     let alloc = rt.alloc();
-    let mut script = read_script(rt, options.script)?;
+    let mut script = match read_script(rt, options.script) {
+        Ok(script) => script,
+        Err(fault) => return Err(unread_script(rt, fault)),
+    };
     if options.ascii_marks {
         mark(&mut script);
     }
@@ -71,14 +75,14 @@ impl<'a> Checks<'a> {
         &mut self,
         rt: &R,
         world: &World,
-        session: &Session<'_>,
+        next: Next,
     ) -> Result<(), Fault>
-        requires count { session.now.schedule.taken < 2 ^ 64 - 1 }
+        ensures { IfErr result (λ why. drive_fault_of why ≡ None) }
     {
         if self.is_lenient {
             return Ok(());
         }
-        match begun_script(world, session) {
+        match begun_script(world, next) {
             Some((shell, frame)) => self.check_frame(rt, world, shell, frame),
             None => Ok(()),
         }
@@ -91,7 +95,9 @@ impl<'a> Checks<'a> {
         world: &World,
         shell: &Shell,
         frame: &Frame,
-    ) -> Result<(), Fault> {
+    ) -> Result<(), Fault>
+        ensures { IfErr result (λ why. drive_fault_of why ≡ None) }
+    {
         let FrameKind::Script { name, .. } = frame.kind() else {
             return Ok(());
         };
@@ -127,10 +133,8 @@ impl<'a> Checks<'a> {
 }
 
 // The script whose first line is taken next, and its shell.
-fn begun_script<'w>(world: &'w World, session: &Session<'_>) -> Option<(&'w Shell, &'w Frame)>
-    requires count { session.now.schedule.taken < 2 ^ 64 - 1 }
-{
-    let Some(Next::Turn(number)) = session.next(world) else {
+fn begun_script(world: &World, next: Next) -> Option<(&Shell, &Frame)> {
+    let Next::Turn(number) = next else {
         return None;
     };
     let shell = world.shell(number)?;
@@ -167,7 +171,7 @@ fn report_all<R: AllocGlobal + Eprint>(
     name: &str,
     found: &[Finding],
     is_new: bool,
-) -> Result<bool, Fault> {
+) -> Result<bool, NoMemory> {
     let mut is_refused = false;
     let mut is_told = !is_new;
     for one in found {
@@ -183,7 +187,9 @@ fn report_all<R: AllocGlobal + Eprint>(
 }
 
 // The fault of a script that is not run.
-fn not_run(alloc: Global, name: &str) -> Fault {
+fn not_run(alloc: Global, name: &str) -> Fault
+    ensures { drive_fault_of result ≡ None }
+{
     match String::from_str(alloc, name) {
         Ok(name) => Fault::NotRun(name),
         Err(_) => Fault::Memory,

@@ -1,10 +1,9 @@
 //! The program's command line, in `clap`'s words.
 
+use ados_session::VERSION;
 use clap::{Arg, ArgAction, ArgMatches, Command, Error};
 use std::alloc::{AllocError, Global};
 use std::convert::AsStr;
-
-const VERSION: &str = "1.0";
 
 const ABOUT: &str =
     "Runs an Amiga command script of this machine by the Shell of the Amiga (AmigaDOS Release 2)";
@@ -14,8 +13,8 @@ const USAGE: &str = "amishell-execute [OPTIONS] [--] SCRIPT [ARGS]..";
 const MORE: &str =
     "SCRIPT stands as a file in S: and is called by Execute with ARGS. What it asks for is read from standard
 input, a line each time. Files live in memory, and are gone at the end but for those that are taken.
-The exit status is the script's code, or 20 where that is no status and after a fault, which is a line
-on standard error.";
+The exit status is the script's code; 2 after a bad command line, 124 at a limit, 126 if SCRIPT or a program of --host
+can't be read, 125 after another fault. A fault is a line on standard error, and so is each script that ended early.";
 
 const HOSTS: &str =
     "A file of the programs of the host that are commands, a line for each: the command's name, blanks,
@@ -31,11 +30,11 @@ the nearest folder share/amishell above that of this program";
 
 const BRING: &str =
     "Brings a file or a folder of this machine into the files: into RAM: under its own name, or to NAME. A
-file that may be executed gets bit s. May be given again";
+file that may be executed gets bit s; pipes and devices in a folder are left out. May be given again";
 
 const TAKE: &str =
     "Writes a file or a directory of the files out at the end: into this folder under its own name, or to
-PATH. May be given again";
+PATH, in which no name is . or .. and no folder a link. May be given again";
 
 const TYPE: &str = "A line that is typed before the script. May be given again";
 
@@ -45,6 +44,9 @@ each program starts what changed there is written to the folder, and what the pr
 folder comes in when it ends";
 
 const ALL: &str = "Shares also what has a name that begins with a dot";
+
+const PART: &str =
+    "Shares what fits of a folder that has more than 1024 files and folders; without it nothing runs then";
 
 const DRY: &str =
     "Tells what would be written to the shared folder and deleted there, and writes nothing itself; programs
@@ -70,9 +72,32 @@ they call, as build:12: error: .. or build:12: note: ..; the exit status is 1 if
 
 const ASCII_MARKS: &str = "Writes _ in the place of each byte above 127 in the script";
 
+const ANSWERS: &[&str] = &["no"];
+
+const ANSWER: &str =
+    "At the end of standard input Ask takes this answer, for ever, and `?` an empty line; without it the run
+ends there";
+
 const TURNS: &str =
     "How many events and long lines are taken at most, 1 to 1000000000, not counted those that bring files
 in [default: 1000000]";
+
+const SECONDS: &str =
+    "How many seconds the script runs at most, 1 to 1000000000: after them no further event is taken";
+
+const ERROR: &str =
+    "Where the command NAME of --host fails, with any exit status but 0, its code is at least CODE, which
+is 5, 10 or 20. May be given again";
+
+const OK_BELOW: &str = "A code of the script from 0 to N-1 is exit status 0; N is 1 to 255";
+
+const QUIET: &str =
+    "Leaves out the lines on standard error of scripts that ended early, of files that are gone with RAM:
+and of shells that are waited for";
+
+const TRACE: &str =
+    "Writes each command that a script takes on standard error before it runs, as + build:12: Copy a b: a + for
+each script that runs, and in brackets the shell of a Run";
 
 const SCRIPT: &str = "The script, a file of this machine, and its arguments";
 
@@ -101,21 +126,28 @@ fn command<'a>(alloc: Global) -> Result<Command<'a>, AllocError> {
         .bin_name("amishell-execute")?
         .override_usage(USAGE)
         .arg(text_option(alloc, "hosts", "FILE", HOSTS))?
-        .arg(list_option(alloc, "host", "NAME=PROGRAM", HOST))?
+        .arg(list_option(alloc, "host", "NAME[=PROGRAM]", HOST))?
         .arg(flag(alloc, "common", COMMON))?
         .arg(list_option(alloc, "bring", "PATH[=NAME]", BRING))?
         .arg(list_option(alloc, "take", "NAME[=PATH]", TAKE))?
         .arg(list_option(alloc, "type", "LINE", TYPE))?
         .arg(text_option(alloc, "share", "FOLDER[=PATH]", SHARE))?
-        .arg(flag(alloc, "all", ALL).requires_arg("share")?)?
-        .arg(flag(alloc, "dry", DRY).requires_arg("share")?)?
+        .arg(flag(alloc, "all", ALL))?
+        .arg(flag(alloc, "part", PART))?
+        .arg(flag(alloc, "dry", DRY))?
         .arg(flag(alloc, "quote", QUOTE))?
         .arg(flag(alloc, "strike", STRIKE))?
         .arg(flag(alloc, "check", CHECK))?
         .arg(flag(alloc, "ascii-marks", ASCII_MARKS))?
         .arg(flag(alloc, "lenient", LENIENT))?
         .arg(flag(alloc, "strict", STRICT))?
+        .arg(text_option(alloc, "answer", "no", ANSWER).value_parser(ANSWERS))?
         .arg(text_option(alloc, "turns", "N", TURNS))?
+        .arg(text_option(alloc, "seconds", "N", SECONDS))?
+        .arg(list_option(alloc, "error", "NAME=CODE", ERROR))?
+        .arg(text_option(alloc, "ok-below", "N", OK_BELOW))?
+        .arg(flag(alloc, "quiet", QUIET))?
+        .arg(flag(alloc, "trace", TRACE))?
         .arg(script)
 }
 

@@ -1,28 +1,49 @@
 //! Why the program ends with a line on standard error.
+ghost use Rattle.std.specs.Prelude.{◌≡◌};
+ghost use Rattle.amishell_execute.specs.declared.faults.Fault.TheVariants.{Drive, Memory};
 
+use crate::status::Status;
+use crate::unread::Unread;
 use ados_launch::DriveFault;
 use ados_text::NoMemory;
 use ados_transfer::TransferFault;
 use std::alloc::{AllocError, AllocFailed, Global};
 use std::fmt::Display;
 use std::io::Eprint;
+use std::rt::Files;
 use thiserror::Error;
 
 /// What that line says.
 #[derive(Debug, Drop, Error)]
 pub enum Fault {
-    /// The words are not a command line of the program.
-    #[error("bad command line")]
-    BadLine,
-    /// The file of this name cannot be read.
+    /// The words are not a command line of the program, for this reason.
+    #[error("{0}")]
+    BadLine(String),
+    /// A file cannot be read.
     #[error("cannot read {0}")]
-    CannotRead(String),
-    /// The line of this number, from 1, is the first invalid one in the file of hosts.
-    #[error("bad host at line {0}")]
-    BadHost(usize),
-    /// These are words of `--host` that do not name a program, or name a command that is there already; or there are too many.
-    #[error("bad host {0}")]
-    BadHostWords(String),
+    CannotRead(Unread),
+    /// The script cannot be read.
+    #[error("cannot read {0}")]
+    ScriptUnread(Unread),
+    /// The folder of this name that is to be shared is not there, or is none.
+    #[error("--share {0}: not a folder")]
+    NoFolder(String),
+    /// A line of a file of hosts is invalid.
+    #[error("hosts {file}: line {line}: {reason}")]
+    HostLine {
+        /// The file.
+        file: String,
+        /// The line's number, from 1.
+        line: usize,
+        /// What is wrong with it.
+        reason: String,
+    },
+    /// These words of `--host` or `--error` do not have their form.
+    #[error("{0}")]
+    HostWords(String),
+    /// The program of these words of `--host` is not in PATH.
+    #[error("--host {0}: not in PATH")]
+    NotInPath(String),
     /// There are more commands that are programs of the host than there may be besides the one that brings files in.
     #[error("more than 63 hosts")]
     ManyHosts,
@@ -35,6 +56,9 @@ pub enum Fault {
     /// The files are not in the Shell's world as they were brought.
     #[error("the files cannot be brought in")]
     NotBrought,
+    /// The Shell asked for a line of standard input, which was at its end.
+    #[error("no answer for {0}")]
+    Unanswered(String),
     /// Lines of the script of this name must not be run as they are.
     #[error("{0} is not run (--lenient runs it)")]
     NotRun(String),
@@ -46,10 +70,40 @@ pub enum Fault {
     Write,
     /// The run stopped before its end.
     #[error("{0}")]
-    Drive(#[from] DriveFault),
+    Drive(DriveFault),
+    /// As many events were taken as may be, and another one is due.
+    #[error("turn limit of {0} reached (--turns)")]
+    Turns(u64),
+    /// As many seconds have passed as may, and an event is due.
+    #[error("time limit of {0} s reached (--seconds)")]
+    Seconds(u64),
+}
+
+impl Fault {
+    /// The exit status after it.
+    pub fn status(&self) -> Status {
+        match self {
+            Fault::BadLine(_) | Fault::HostWords(_) | Fault::ManyHosts | Fault::OwnName => {
+                Status::BadLine
+            }
+            Fault::ScriptUnread(_) | Fault::NotInPath(_) => Status::Unreadable,
+            Fault::Turns(_) | Fault::Seconds(_) => Status::Limit,
+            _ => Status::Failed,
+        }
+    }
+}
+
+impl From<DriveFault> for Fault {
+    ghost from_gives = { λ fault why. why ≡ Drive fault };
+
+    fn from(fault: DriveFault) -> Fault {
+        Fault::Drive(fault)
+    }
 }
 
 impl From<NoMemory> for Fault {
+    ghost from_gives = { λ _e why. why ≡ Memory };
+
     fn from(_e: NoMemory) -> Fault {
         Fault::Memory
     }
@@ -67,19 +121,38 @@ impl<T: Drop> From<AllocFailed<T>> for Fault {
     }
 }
 
-/// The fault of a file that cannot be read.
+/// The fault of what cannot be read, whose reason is not known.
 pub fn cannot_read(alloc: Global, path: &str) -> Fault {
     match String::from_str(alloc, path) {
-        Ok(path) => Fault::CannotRead(path),
+        Ok(path) => Fault::CannotRead(Unread { path, reason: None }),
         Err(_) => Fault::Memory,
     }
 }
 
-/// The fault of words that do not name a program of the host.
-pub fn bad_host(alloc: Global, words: &str) -> Fault {
-    match String::from_str(alloc, words) {
-        Ok(words) => Fault::BadHostWords(words),
+/// The fault of a file that cannot be read, with its reason.
+pub fn unread<R: AllocGlobal + Files>(rt: &R, path: &str) -> Fault {
+    match Unread::at(rt, path) {
+        Ok(unread) => Fault::CannotRead(unread),
         Err(_) => Fault::Memory,
+    }
+}
+
+/// The fault of a script that is not brought in.
+pub fn unread_script<R: AllocGlobal + Files>(rt: &R, fault: TransferFault) -> Fault {
+    match fault {
+        TransferFault::CannotRead(path) => match Unread::at(rt, path.as_str()) {
+            Ok(unread) => Fault::ScriptUnread(unread),
+            Err(_) => Fault::Memory,
+        },
+        other => Fault::Transfer(other),
+    }
+}
+
+/// The fault of a file or a folder that is not brought in.
+pub fn not_brought<R: AllocGlobal + Files>(rt: &R, fault: TransferFault) -> Fault {
+    match fault {
+        TransferFault::CannotRead(path) => unread(rt, path.as_str()),
+        other => Fault::Transfer(other),
     }
 }
 
@@ -88,6 +161,14 @@ pub fn bad_host(alloc: Global, words: &str) -> Fault {
 pub fn report<R: AllocGlobal + Eprint, T: Display>(rt: &R, line: &T) {
     let _ = match escaped(rt.alloc(), line) {
         Ok(shown) => rt.eprintln(format_args!("amishell-execute: {shown}")),
+        Err(_) => rt.eprintln(format_args!("amishell-execute: out of memory")),
+    };
+}
+
+/// Writes a line on standard error as [`report`] does, without the program's name.
+pub fn tell<R: AllocGlobal + Eprint, T: Display>(rt: &R, line: &T) {
+    let _ = match escaped(rt.alloc(), line) {
+        Ok(shown) => rt.eprintln(format_args!("{shown}")),
         Err(_) => rt.eprintln(format_args!("amishell-execute: out of memory")),
     };
 }

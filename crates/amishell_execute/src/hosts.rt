@@ -1,13 +1,14 @@
 //! The commands that are programs of the host.
 
-use crate::faults::{Fault, bad_host, cannot_read};
+use crate::faults::{Fault, cannot_read, unread};
+use crate::host_faults::{bad_line, bad_words, refusal};
 use crate::request::Options;
 use ados_session::{FileFault, HOSTS_BYTES, read_hosts};
 use ados_text::Text;
 use ados_transfer::{BRING, ascii, bytes_of, last_piece, step_into};
 use ados_world::{HostEntry, NewFault, hosts_fault};
-use std::alloc::Global;
 use std::io::ErrorKind;
+use std::os::unix::fs::PermissionsExt;
 use std::rt::{Env, Files};
 use std::{env, fs};
 
@@ -29,7 +30,7 @@ pub fn hosts_for<R: AllocGlobal + Files + Env>(
     let mut hosts = Vec::new(rt.alloc());
     add_file(rt, options.hosts, &mut hosts)?;
     for words in &options.host {
-        add_words(rt.alloc(), words, &mut hosts)?;
+        add_words(rt, words, &mut hosts)?;
     }
     let bring = HostEntry {
         name: Text::from_bytes(rt.alloc(), BRING)?,
@@ -88,29 +89,71 @@ fn read_file<R: AllocGlobal + Files>(rt: &R, file: &str) -> Result<Vec<HostEntry
     let bytes = match bytes_of(rt, file, HOSTS_BYTES) {
         Ok(bytes) => bytes,
         Err(error) if error.kind() == ErrorKind::OutOfMemory => return Err(Fault::Memory),
-        Err(_) => return Err(cannot_read(rt.alloc(), file)),
+        Err(_) => return Err(unread(rt, file)),
     };
     if bytes.len() > HOSTS_BYTES {
         return Err(cannot_read(rt.alloc(), file));
     }
     match read_hosts(rt.alloc(), bytes.as_slice()) {
         Ok(hosts) => Ok(hosts),
-        Err(FileFault::BadLine(line)) => Err(Fault::BadHost(line)),
+        Err(FileFault::BadLine(line)) => Err(bad_line(rt.alloc(), file, line, bytes.as_slice())),
         Err(FileFault::NoMemory) => Err(Fault::Memory),
     }
 }
 
 // Adds the command of words of `--host`, which are `NAME` or `NAME=PROGRAM`.
-fn add_words(alloc: Global, words: &str, hosts: &mut Vec<HostEntry>) -> Result<(), Fault> {
+fn add_words<R: AllocGlobal + Files + Env>(
+    rt: &R,
+    words: &str,
+    hosts: &mut Vec<HostEntry>,
+) -> Result<(), Fault> {
     let (name, program) = words.split_once('=').unwrap_or((words, words));
+    if program.is_empty() {
+        return Err(bad_words(rt.alloc(), words, "no program"));
+    }
     let host = HostEntry {
-        name: ascii(alloc, name)?,
-        program: ascii(alloc, program)?,
+        name: ascii(rt.alloc(), name)?,
+        program: ascii(rt.alloc(), program)?,
     };
-    if program.is_empty() || !add(hosts, host)? {
-        return Err(bad_host(alloc, words));
+    if let Some(fault) = refusal(rt.alloc(), &host, hosts.as_slice())? {
+        return Err(fault);
+    }
+    if !add(hosts, host)? {
+        return Err(Fault::ManyHosts);
+    }
+    if !is_found(rt, program)? {
+        return Err(Fault::NotInPath(String::from_str(rt.alloc(), words)?));
     }
     Ok(())
+}
+
+// A program that is named without a slash is in a folder of PATH. Where that names a folder by a path that is not whole, which one
+// it is shows only when the program starts.
+fn is_found<R: AllocGlobal + Files + Env>(rt: &R, program: &str) -> Result<bool, Fault> {
+    if program.contains('/') {
+        return Ok(true);
+    }
+    let Ok(path) = env::var(rt, "PATH") else {
+        return Ok(true);
+    };
+    for folder in path.as_str().split(':') {
+        if !folder.starts_with('/') {
+            return Ok(true);
+        }
+        let file = step_into(rt.alloc(), folder, program)?;
+        if is_program(rt, file.as_str()) {
+            return Ok(true);
+        }
+    }
+    Ok(false)
+}
+
+// At a path there is a file that may be executed.
+fn is_program<R: Files>(rt: &R, path: &str) -> bool {
+    match fs::metadata(rt, path) {
+        Ok(found) => found.is_file() && found.permissions().mode() & 0o111 != 0,
+        Err(_) => false,
+    }
 }
 
 // Adds the stand-ins. Their programs are in the folder of their file.

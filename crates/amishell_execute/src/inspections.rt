@@ -1,8 +1,9 @@
 //! `--check`: scripts are looked at, and those that they call, and nothing runs.
 
-use crate::faults::Fault;
+use crate::faults::{Fault, unread_script};
 use crate::hosts::hosts_for;
 use crate::request::Options;
+use crate::status::Status;
 use ados_check::{Finding, Problem, inspect, mark, strike};
 use ados_resident::HostEntry;
 use ados_shell::Commands;
@@ -13,9 +14,6 @@ use std::{fs, io};
 
 // At most this many scripts are looked at.
 const SCRIPTS: usize = 1024;
-
-// The exit status if a script has an error.
-const WRONG: u8 = 1;
 
 // The scripts that are looked at, and what is known of others.
 #[derive(Drop)]
@@ -29,11 +27,11 @@ struct Inspector<'a> {
 }
 
 /// Writes a line on standard output for each thing that is found in the scripts of the command line and in those that they call;
-/// gives the exit status: 1 if there is an error.
+/// gives `Wrong` if there is an error, otherwise `Done`.
 pub fn inspect_all<R: Env + AllocGlobal + Files + Print>(
     rt: &R,
     options: &Options<'_>,
-) -> Result<u8, Fault> {
+) -> Result<Status, Fault> {
     let mut inspector = Inspector {
         options,
         hosts: hosts_for(rt, options)?,
@@ -45,14 +43,14 @@ pub fn inspect_all<R: Env + AllocGlobal + Files + Print>(
     for path in &options.args {
         inspector.add(rt, path)?;
     }
-    let mut status = 0;
+    let mut status = Status::Done;
     for place in 0..SCRIPTS {
         let Some(path) = inspector.paths.get(place) else {
             break;
         };
         let path = String::from_str(rt.alloc(), path.as_str())?;
         if inspector.inspect_one(rt, path.as_str())? {
-            status = WRONG;
+            status = Status::Wrong;
         }
     }
     Ok(status)
@@ -78,7 +76,10 @@ impl Inspector<'_> {
         rt: &R,
         path: &str,
     ) -> Result<bool, Fault> {
-        let mut script = read_script(rt, path)?;
+        let mut script = match read_script(rt, path) {
+            Ok(script) => script,
+            Err(fault) => return Err(unread_script(rt, fault)),
+        };
         if self.options.ascii_marks {
             mark(&mut script);
         }

@@ -1,7 +1,9 @@
 //! The launcher: it hands out the files that are brought in, and starts programs of this machine.
-ghost use Rattle.std.specs.Prelude.{◌≡◌, ◌≤◌, [], length, true, false, IfOk};
+ghost use Rattle.std.specs.Prelude.{◌≡◌, [], true, false, IfOk};
 ghost use Rattle.ados_machine.specs.Children.{answers_start, answers_read, answers_wait};
 
+use crate::delivery::{Delivery, piece_of};
+use crate::error_codes::{ErrorCode, least_code, raised};
 use ados_launch::Launcher;
 use ados_launcher::{Log, Programs, StartFolder};
 use ados_machine::{Answer, Job};
@@ -33,6 +35,9 @@ struct Children<'a, R: Processes> {
     // How the program with this number ended, for the wait that follows.
     ended: Option<(u8, Answer)>,
     programs: Programs<'a, R>,
+    // The codes that programs have at least where they fail, and that of each shell's program.
+    errors: &'a [ErrorCode],
+    least: [u8; 21],
     // No program starts.
     is_barred: bool,
 }
@@ -40,22 +45,10 @@ struct Children<'a, R: Processes> {
 /// Where programs start.
 #[derive(Drop)]
 pub enum Start {
-    /// In this process's current directory.
-    Home,
     /// In this folder.
     Folder(StartFolder),
     /// Nowhere: a start fails as if there were no such program.
     Nowhere,
-}
-
-// A file that was offered and is being printed.
-#[derive(Drop)]
-struct Delivery {
-    // The shell of the command that prints it.
-    shell: u8,
-    bytes: Octets,
-    // How many of the bytes were printed.
-    from: usize,
 }
 
 impl<'a, R: Processes> Model for Bringer<'a, R> {
@@ -67,11 +60,12 @@ impl<'a, R: Processes> Model for Bringer<'a, R> {
 }
 
 impl<'a, R: Processes> Bringer<'a, R> {
-    /// A launcher without a child, with these files to be brought in.
+    /// A launcher without a child, with these files to be brought in, and these codes of programs that fail.
     pub fn new(
         alloc: Global,
         processes: &'a R,
         planned: &'a [Planned],
+        errors: &'a [ErrorCode],
     ) -> Result<Bringer<'a, R>, NoMemory>
         ensures calls { IfOk result (λ bringer. bringer.calls ≡ []) }
         ensures full { IfOk result (λ bringer. bringer.is_full ≡ false) }
@@ -85,6 +79,8 @@ impl<'a, R: Processes> Bringer<'a, R> {
                 delivery: None,
                 ended: None,
                 programs: Programs::new(alloc, processes)?,
+                errors,
+                least: [0; 21],
                 is_barred: false,
             },
             log: Log::new(),
@@ -105,7 +101,7 @@ impl<'a, R: Processes> Bringer<'a, R> {
         self.children.is_barred = matches!(&start, Start::Nowhere);
         let folder = match start {
             Start::Folder(folder) => Some(folder),
-            Start::Home | Start::Nowhere => None,
+            Start::Nowhere => None,
         };
         self.children.programs.set_folder(folder);
     }
@@ -126,11 +122,7 @@ impl<R: Processes> Children<'_, R> {
     {
         if job.program.as_bytes() == BRING {
             if let Some(bytes) = self.offered.take() {
-                self.delivery = Some(Delivery {
-                    shell: job.shell,
-                    bytes,
-                    from: 0,
-                });
+                self.delivery = Some(Delivery::new(job.shell, bytes));
                 return Answer::Started;
             }
             if let Some((bytes, left)) = next_file(self.left) {
@@ -148,6 +140,9 @@ impl<R: Processes> Children<'_, R> {
     {
         if self.is_barred {
             return Answer::NotFound;
+        }
+        if let Some(least) = self.least.get_mut(usize::from(job.shell)) {
+            *least = least_code(self.errors, &job.program);
         }
         self.programs.start(job)
     }
@@ -172,7 +167,7 @@ impl<R: Processes> Children<'_, R> {
     {
         let alloc = self.alloc;
         match &mut self.delivery {
-            Some(delivery) if delivery.shell == child => delivery.next(alloc),
+            Some(delivery) if delivery.is_of(child) => delivery.next(alloc),
             _ => self.programs.read(child),
         }
     }
@@ -197,7 +192,7 @@ impl<R: Processes> Children<'_, R> {
         if self
             .delivery
             .as_ref()
-            .is_some_and(|delivery| delivery.shell == child)
+            .is_some_and(|delivery| delivery.is_of(child))
         {
             self.delivery = None;
             return Answer::Exit(0);
@@ -210,25 +205,21 @@ impl<R: Processes> Children<'_, R> {
         ensures { answers_wait result ≡ true }
     {
         if !self.ended.as_ref().is_some_and(|ended| ended.0 == child) {
-            return self.programs.wait(child);
+            return self.wait(child);
         }
         match self.ended.take() {
             Some((_, answer)) => how_it_ended(answer),
-            None => self.programs.wait(child),
+            None => self.wait(child),
         }
     }
-}
 
-impl Delivery {
-    // The next piece, or the end.
-    fn next(&mut self, alloc: Global) -> Answer
-        ensures { answers_read result ≡ true }
+    // Waits for the end of a program, which has its code at least if it failed.
+    fn wait(&mut self, child: u8) -> Answer
+        ensures { answers_wait result ≡ true }
     {
-        let rest = self.bytes.as_bytes().get(self.from..).unwrap_or(&[]);
-        let length = rest.len().min(PIECE_BYTES);
-        let answer = piece_of(alloc, &rest[..length]);
-        self.from = self.from.saturating_add(length);
-        answer
+        let answer = self.programs.wait(child);
+        let least = self.least.get(usize::from(child)).copied().unwrap_or(0);
+        raised(answer, least)
     }
 }
 
@@ -251,20 +242,6 @@ fn next_file(planned: &[Planned]) -> Option<(&[u8], &[Planned])> {
         }
     }
     None
-}
-
-// The answer with these bytes of an output, or its end if there are none.
-fn piece_of(alloc: Global, bytes: &[u8]) -> Answer
-    requires { length bytes.now ≤ 4096 }
-    ensures { answers_read result ≡ true }
-{
-    if bytes.is_empty() {
-        return Answer::End;
-    }
-    match bytes.to_vec(alloc) {
-        Ok(bytes) => Answer::Bytes(Octets::from_vec(bytes)),
-        Err(_) => Answer::PipeFault,
-    }
 }
 
 impl<R: Processes> Launcher for Bringer<'_, R> {

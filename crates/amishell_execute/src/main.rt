@@ -1,80 +1,112 @@
 //! The program: one command script of this machine, run by the Shell of AmigaDOS Release 2 in one command.
 #![tactic(auto)]
 
-ghost use Rattle.std.specs.Prelude.{◌≡◌, [], pos, OnOk};
+ghost use Rattle.std.specs.Prelude.{◌≡◌, [], OnOk};
 ghost use Rattle.ados_launch.specs.Agreement.{Agrees};
-ghost use Rattle.amishell_execute.specs.Status.{status_of};
 
 mod checks;
 mod command;
+mod deadline;
+mod delivery;
+mod descriptors;
+mod due;
+mod ends;
+mod error_codes;
 mod faults;
+mod gate;
+mod home;
+mod host_faults;
 mod hosts;
 mod inspections;
 mod launcher;
+mod losses;
+mod lost_jumps;
+mod mistakes;
+mod origins;
+mod pace;
 mod play;
 mod reader;
 mod reading;
 mod request;
 mod share;
+mod stands;
+mod status;
+mod teller;
+mod trace;
+mod trail;
+mod unanswered;
+mod unread;
 
+use ados_launch::Counted;
 use ados_ram::Place;
 use ados_text::{Code, Text};
-use ados_transfer::{Lines, Plan, bring, bring_script, take};
+use ados_transfer::{Lines, Plan, TransferFault, bring, bring_script, take, taken_place};
 use ados_world::{NewFault, World};
 use checks::{Checks, read_checked};
-use faults::{Fault, report};
+use deadline::Deadline;
+use descriptors::held_descriptors;
+use error_codes::{ErrorCode, error_codes};
+use faults::{Fault, not_brought, report};
+use gate::Gate;
 use hosts::hosts_for;
 use inspections::inspect_all;
+use losses::{Kept, tell_losses};
+use origins::Origins;
 use play::{Script, play};
 use request::{Options, Refused};
 use share::Share;
-use std::io;
+use stands::status_after;
+use status::Status;
 use std::io::{Eprint, Write};
 use std::process::{ExitCode, Processes};
 use std::rt::{Env, Files};
 use std::time::Clock;
-
-// The exit status after a fault, and after a code that is not an exit status.
-const FAILED: u8 = 20;
+use std::{env, fs, io};
+use teller::Teller;
 
 fn main(rt: HostRuntime) -> ExitCode {
-    match run(&rt) {
-        Ok(status) => ExitCode::from(status),
+    let _held = held_descriptors(&rt);
+    let status = match run(&rt) {
+        Ok(status) => status,
         Err(fault) => {
             report(&rt, &fault);
-            ExitCode::from(FAILED)
+            fault.status()
         }
-    }
+    };
+    ExitCode::from(status.number())
 }
 
 // Does what the words ask for, and gives the exit status.
 fn run<R: Env + AllocGlobal + Files + Input + Print + Eprint + Processes + Clone + Drop + Clock>(
     rt: &R,
-) -> Result<u8, Fault> {
+) -> Result<Status, Fault> {
     let words = given_words(rt)?;
     match reading::asked(rt.alloc(), &words) {
         Ok(options) if options.check => inspect_all(rt, &options),
         Ok(options) => execute(rt, &options),
         Err(Refused::Help(text)) => show(rt, &text),
-        Err(Refused::BadLine) => Err(Fault::BadLine),
+        Err(Refused::BadLine(reason)) => Err(Fault::BadLine(reason)),
         Err(Refused::NoMemory) => Err(Fault::Memory),
     }
 }
 
 // Writes the help or the version.
-fn show<R: Print>(rt: &R, text: &Text) -> Result<u8, Fault> {
+fn show<R: Print>(rt: &R, text: &Text) -> Result<Status, Fault> {
     match io::writer(rt).write_all(text.as_bytes()) {
-        Ok(()) => Ok(0),
+        Ok(()) => Ok(Status::Done),
         Err(_) => Err(Fault::Write),
     }
 }
 
 // The words after the program's name.
 fn given_words<R: Env + AllocGlobal>(rt: &R) -> Result<Vec<String>, Fault> {
-    let all = match std::env::args(rt) {
+    let all = match env::args(rt) {
         Ok(all) => all,
         Err(error) if error.kind() == io::ErrorKind::OutOfMemory => return Err(Fault::Memory),
-        Err(_) => return Err(Fault::BadLine),
+        Err(_) => {
+            let reason = String::from_str(rt.alloc(), "a word is not UTF-8")?;
+            return Err(Fault::BadLine(reason));
+        }
     };
     match all.skip(1).collect::<Vec<String>>(rt.alloc()) {
         Ok(words) => Ok(words),
@@ -86,15 +118,16 @@ fn given_words<R: Env + AllocGlobal>(rt: &R) -> Result<Vec<String>, Fault> {
 #[tactic(auto, using(ados_launch::proofs::NewPair::new_pair))]
 fn execute<
     R: Env + AllocGlobal + Files + Input + Print + Eprint + Processes + Clone + Drop + Clock,
->(rt: &R, options: &Options<'_>) -> Result<u8, Fault> {
+>(rt: &R, options: &Options<'_>) -> Result<Status, Fault> {
     let hosts = hosts_for(rt, options)?;
     let mut world = match World::new(rt.alloc(), hosts.as_slice()) {
         Ok(world) => world,
         Err(NewFault::NoMemory) => return Err(Fault::Memory),
         Err(_) => return Err(Fault::ManyHosts),
     };
+    let errors = error_codes(rt.alloc(), options.errors.as_slice(), hosts.as_slice())?;
     let mut share = opened(rt, options, &mut world)?;
-    run_script(rt, options, &mut world, &mut share)
+    run_script(rt, options, errors.as_slice(), &mut world, &mut share)
 }
 
 // The folder that is shared, if one is.
@@ -107,27 +140,37 @@ fn opened<R: Env + AllocGlobal + Files + Clone + Drop + Clock>(
     ensures agrees { OnOk result (Agrees world.new []) }
 {
     match options.share {
-        Some(words) => Ok(Some(Share::open(rt, words, options.mirror, world)?)),
+        Some(words) => match Share::open(rt, words, options.mirror, world) {
+            Ok(share) => Ok(Some(share)),
+            Err(Fault::Transfer(TransferFault::CannotRead(path))) => Err(Fault::NoFolder(path)),
+            Err(fault) => Err(fault),
+        },
         None => Ok(None),
     }
 }
 
 // Runs the script, takes what is asked for, and gives the exit status.
-fn run_script<R: AllocGlobal + Files + Input + Print + Eprint + Processes + Clone + Drop + Clock>(
+fn run_script<
+    R: Env + AllocGlobal + Files + Input + Print + Eprint + Processes + Clone + Drop + Clock,
+>(
     rt: &R,
     options: &Options<'_>,
+    errors: &[ErrorCode],
     world: &mut World,
     share: &mut Option<Share>,
-) -> Result<u8, Fault>
+) -> Result<Status, Fault>
     requires agrees { Agrees world.old [] }
 {
     let mut plan = Plan::new(rt.alloc(), world.files())?;
-    for words in &options.bring {
-        bring(rt, world.files(), words, &mut plan)?;
-    }
-    let bytes = read_checked(rt, options)?;
-    let script = bring_script(rt, world.files(), options.script, bytes, &mut plan)?;
+    let script = add_files(rt, options, world, &mut plan)?;
     let lines = lines_for(rt, options, share.as_ref(), &plan, &script)?;
+    let shared = share.as_ref().map(|share| share.place());
+    let origins = Origins::new(rt, plan.planned(), options.share, shared)?;
+    let kept = Kept::new(rt.alloc(), world.files(), plan.planned(), &script)?;
+    if let Some(share) = share.as_ref() {
+        share.enter(rt)?;
+    }
+    let mut writer = Gate::new(rt.alloc(), Counted::new(io::writer(rt)), options.trace);
     let ended = play(
         rt,
         world,
@@ -135,22 +178,78 @@ fn run_script<R: AllocGlobal + Files + Input + Print + Eprint + Processes + Clon
             planned: plan.planned(),
             lines: &lines,
             turns: options.turns,
+            at_end: options.at_end,
+            deadline: Deadline::after(rt, options.seconds),
+            errors,
             checks: Checks::new(rt.alloc(), options, &script)?,
         },
+        Teller::new(&origins, options.quiet, options.trace)?,
         share.as_mut(),
+        &mut writer,
     );
     let is_alike = close(rt, world, share.as_mut())?;
     let is_taken = take_all(rt, options, world);
-    let end = ended?;
-    Ok(if is_alike && is_taken {
-        status(end.code)
-    } else {
-        FAILED
-    })
+    let code = ended.as_ref().ok().map(|end| end.code);
+    let status = status_after(rt, options, world, &origins, ended)?;
+    if !options.quiet {
+        tell_gone(rt, options, world, share.as_ref(), kept)?;
+    }
+    if !is_alike {
+        return report_lacking(rt, code);
+    }
+    Ok(if is_taken { status } else { Status::Failed })
+}
+
+// Reports that the shared folder is not as the script left it, and with which code the script ended, if it did.
+fn report_lacking<R: AllocGlobal + Eprint>(rt: &R, code: Option<Code>) -> Result<Status, Fault> {
+    let mut line = String::from_str(rt.alloc(), "the shared folder and the Shell's files differ")?;
+    if let Some(Code(number)) = code {
+        write!(line, "; the script's code was {number}")?;
+    }
+    report(rt, &line);
+    Ok(Status::Failed)
+}
+
+// Plans what is brought in, the script last, and gives its place.
+fn add_files<R: AllocGlobal + Files + Eprint + Clone + Drop>(
+    rt: &R,
+    options: &Options<'_>,
+    world: &World,
+    plan: &mut Plan,
+) -> Result<Place, Fault> {
+    for words in &options.bring {
+        if let Err(fault) = bring(rt, world.files(), words, plan) {
+            return Err(not_brought(rt, fault));
+        }
+    }
+    for line in plan.lines() {
+        report(rt, line);
+    }
+    let bytes = read_checked(rt, options)?;
+    Ok(bring_script(rt, world.files(), options.script, bytes, plan)?)
+}
+
+// Tells which files are gone.
+fn tell_gone<R: AllocGlobal + Eprint>(
+    rt: &R,
+    options: &Options<'_>,
+    world: &World,
+    share: Option<&Share>,
+    mut kept: Kept<'_>,
+) -> Result<(), Fault> {
+    if let Some(share) = share {
+        kept.add(share.place())?;
+    }
+    for words in &options.take {
+        if let Some(place) = taken_place(rt.alloc(), world.files(), world.assigns(), words)? {
+            kept.add(&place)?;
+        }
+    }
+    tell_losses(rt, world.files(), &kept)
 }
 
 // Brings the shared folder up to date, if there is one; gives whether all was done.
-fn close<R: AllocGlobal + Files + Eprint + Clone + Drop + Clock>(
+fn close<R: Env + AllocGlobal + Files + Eprint + Clone + Drop + Clock>(
     rt: &R,
     world: &World,
     share: Option<&mut Share>,
@@ -190,11 +289,4 @@ fn lines_for<R: AllocGlobal>(
     }
     lines.add_call(rt.alloc(), script, options.args.as_slice(), options.quote)?;
     Ok(lines)
-}
-
-// The exit status for a code.
-fn status(code: Code) -> u8
-    ensures { pos result ≡ status_of code.0 }
-{
-    u8::try_from(code.0).unwrap_or(FAILED)
 }

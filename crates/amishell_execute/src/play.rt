@@ -1,18 +1,25 @@
 //! The run of a script.
 
-ghost use Rattle.std.specs.Prelude.{◌≡◌, ◌<◌, ◌^◌, ◌-◌, [], OnOk};
+ghost use Rattle.std.specs.Prelude.{◌≡◌, ◌<◌, ◌^◌, ◌-◌, [], true, None, is_none, IfErr, OnOk};
 ghost use Rattle.ados_launch.specs.Agreement.{Agrees, AreOver, IsOpenTable};
-ghost use Rattle.ados_launch.specs.Leads.{IsReachable, LeadsByRule};
+ghost use Rattle.ados_launch.specs.Deeds.{Does, DoesByRule, RunsLines};
+ghost use Rattle.ados_launch.specs.Drives.{Drives, HasDriveResult};
+ghost use Rattle.ados_launch.specs.Schedule.{first_schedule_state};
+ghost use Rattle.amishell_execute.specs.Playing.{IfDriven, PlaysAlone, contents_through, drive_fault_of, may_be_cut, playing_moment};
 
 use crate::checks::Checks;
+use crate::deadline::Deadline;
+use crate::error_codes::ErrorCode;
 use crate::faults::Fault;
+use crate::gate::Gate;
 use crate::launcher::Bringer;
-use crate::reader::Prompter;
+use crate::reader::{AtEnd, Prompter};
 use crate::share::Share;
-use ados_launch::{Counted, End, Session, Sink};
+use crate::teller::Teller;
+use crate::unanswered::question_asked;
+use ados_launch::{End, Session, Sink};
 use ados_transfer::{Lines, Planned};
 use ados_world::World;
-use std::io;
 use std::io::{Eprint, Read};
 use std::process::Processes;
 use std::rt::Files;
@@ -27,75 +34,104 @@ pub struct Script<'a> {
     pub lines: &'a Lines,
     /// The most events that are taken, besides those that bring it in.
     pub turns: u64,
+    /// What is answered at the end of standard input.
+    pub at_end: AtEnd,
+    /// When no further event is taken.
+    pub deadline: Option<Deadline>,
+    /// The codes of programs that fail.
+    pub errors: &'a [ErrorCode],
     /// How it and the scripts that it calls are checked.
     pub checks: Checks<'a>,
 }
 
-/// Runs a script in a new world, with standard input for what asks.
+/// Runs a script in a new world, with standard input for what asks, and writes what it prints.
 ///
 /// However it ends, the world is one that events which the machine accepts and shells opened for lines lead to: nothing else
 /// brings a file in, and nothing else changes one. In all of these, in every shell, each script ends early exactly at its first
-/// command whose code reaches the limit in force after it, the reports are the ends of scripts, and each frame ends once.
-#[tactic(auto, using(crate::proofs::Pairs::kept_pair, crate::proofs::Pairs::rule_stays))]
-pub fn play<R: AllocGlobal + Files + Input + Print + Eprint + Processes + Clone + Drop + Clock>(
+/// command whose code reaches the limit in force after it, the reports are the ends of scripts, and each frame ends once. What
+/// these events print was written, all of it and in order, except for the lines that bring in a shared folder's files; only some
+/// of it if a write failed.
+#[tactic(auto, using(crate::proofs::Pairs::kept_pair, crate::proofs::Pairs::rule_stays, crate::proofs::Driving::rule_cut))]
+pub fn play<R: AllocGlobal + Files + Input + Eprint + Processes + Clone + Drop + Clock, K: Sink>(
     rt: &R,
     world: &mut World,
     script: Script<'_>,
+    teller: Teller<'_>,
     share: Option<&mut Share>,
+    writer: &mut Gate<K>,
 ) -> Result<End, Fault>
-    requires { Agrees world.old [] }
-    ensures rule { LeadsByRule world.old world.new }
+    requires agrees { Agrees world.old [] }
+    requires writer { K.faults writer.old.inner < 2 ^ 64 - 1 }
+    // By these deeds one world leads to the other; their bytes were written, and the rule holds of them.
+    ensures does { DoesByRule world.old world.new (may_be_cut result) (contents_through K.contents writer.old) (contents_through K.contents writer.new) }
+    // Without a shared folder the run is one of `Drive::run`.
+    ensures drives { is_none share.entry ≡ true → IfDriven result
+        (PlaysAlone world.old world.new (contents_through K.contents writer.old) (contents_through K.contents writer.new)) }
 {
     // This shows that the world is sane: no script in it runs on after a failure.
     let _asked = world.pending(1);
     let mut run = Run {
         rt,
         turns: script.turns.saturating_add(script.lines.events),
-        launcher: Bringer::new(rt.alloc(), rt, script.planned)?,
+        deadline: script.deadline,
+        launcher: Bringer::new(rt.alloc(), rt, script.planned, script.errors)?,
         reader: Prompter::new(
             script.planned,
             script.lines.all.as_slice(),
             script.lines.bringing,
             rt.reader(),
+            script.at_end,
         ),
-        writer: Counted::new(io::writer(rt)),
+        teller,
         checks: script.checks,
     };
-    let ended = run.drive(world, share);
+    let ended = run.drive(world, share, writer);
     if run.reader.is_refused() {
         return Err(Fault::NotBrought);
+    }
+    if run.reader.is_unanswered() {
+        // Without memory to say which question it was, it is not named.
+        let asked = match question_asked(rt.alloc(), world, run.reader.last_line()) {
+            Ok(asked) => asked,
+            Err(_) => String::new(rt.alloc()),
+        };
+        return Err(Fault::Unanswered(asked));
     }
     ended
 }
 
-// A run: how many events it takes at most, who answers what it asks of this machine, and from where to where its lines go.
+// A run: how many events it takes at most, who answers what it asks of this machine, and from where its lines come.
 #[derive(Drop)]
-struct Run<'a, R: Processes, I: Read, K: Sink> {
+struct Run<'a, R: Processes, I: Read> {
     rt: &'a R,
     turns: u64,
+    deadline: Option<Deadline>,
+    teller: Teller<'a>,
     launcher: Bringer<'a, R>,
     reader: Prompter<'a, I>,
-    writer: K,
     checks: Checks<'a>,
 }
 
-impl<R: AllocGlobal + Files + Eprint + Processes + Clone + Drop + Clock, I: Read, K: Sink> Run<
-    '_,
-    R,
-    I,
-    K,
-> {
+impl<R: AllocGlobal + Files + Eprint + Processes + Clone + Drop + Clock, I: Read> Run<'_, R, I> {
     // Drives the world to its end. However it ends, each program that was started was waited for.
     #[tactic(auto, using(crate::proofs::Pairs::table_looked))]
-    fn drive(&mut self, world: &mut World, share: Option<&mut Share>) -> Result<End, Fault>
+    fn drive<K: Sink>(
+        &mut self,
+        world: &mut World,
+        share: Option<&mut Share>,
+        writer: &mut Gate<K>,
+    ) -> Result<End, Fault>
         requires reader { self.old.reader.faults < 2 ^ 64 - 1 }
-        requires writer { K.faults self.old.writer < 2 ^ 64 - 1 }
+        requires writer { K.faults writer.old.inner < 2 ^ 64 - 1 }
         requires agrees { Agrees world.old self.old.launcher.calls }
-        ensures rule { LeadsByRule world.old world.new }
+        ensures does { DoesByRule world.old world.new (may_be_cut result) (contents_through K.contents writer.old) (contents_through K.contents writer.new) }
         ensures over { AreOver self.new.launcher.calls }
+        ensures drives { is_none share.entry ≡ true → IfDriven result (Drives self.old.turns []
+            (playing_moment K.contents K.faults K.stalls world.old self.old.reader writer.old self.old.launcher)
+            (playing_moment K.contents K.faults K.stalls world.new self.new.reader writer.new self.new.launcher)) }
     {
         let mut session = Session::new(self.rt.alloc(), world, &[]);
-        match self.drive_session(world, &mut session, share) {
+        match self.drive_session(world, &mut session, share, writer) {
             Ok(end) => Ok(end),
             Err(fault) => {
                 session.abandon(&mut self.launcher);
@@ -106,37 +142,59 @@ impl<R: AllocGlobal + Files + Eprint + Processes + Clone + Drop + Clock, I: Read
 
     // Takes events until nothing comes; a shared folder is attended to before each. At a fault, of whatever kind, the session knows
     // which programs are open, and the caller has to abandon it.
-    fn drive_session(
+    fn drive_session<K: Sink>(
         &mut self,
         world: &mut World,
         session: &mut Session<'_>,
         mut share: Option<&mut Share>,
+        writer: &mut Gate<K>,
     ) -> Result<End, Fault>
         requires reader { self.old.reader.faults < 2 ^ 64 - 1 }
-        requires writer { K.faults self.old.writer < 2 ^ 64 - 1 }
+        requires writer { K.faults writer.old.inner < 2 ^ 64 - 1 }
         requires agrees { Agrees world.old self.old.launcher.calls }
         requires children { IsOpenTable session.old.children self.old.launcher.calls }
-        requires begins { session.old.schedule.taken ≡ 0 }
-        ensures leads { IsReachable world.old world.new }
+        requires begins { session.old.schedule ≡ first_schedule_state [] }
+        requires held { session.old.held ≡ [] }
+        ensures does { Does world.old world.new (may_be_cut result) (contents_through K.contents writer.old) (contents_through K.contents writer.new) }
         ensures children { IsOpenTable session.new.children self.new.launcher.calls }
+        ensures agrees { OnOk result (Agrees world.new self.new.launcher.calls) }
         ensures over { OnOk result (AreOver self.new.launcher.calls) }
+        ensures drives { is_none share.entry ≡ true → IfDriven result (HasDriveResult self.old.turns []
+            (playing_moment K.contents K.faults K.stalls world.old self.old.reader writer.old self.old.launcher)
+            (playing_moment K.contents K.faults K.stalls world.new self.new.reader writer.new self.new.launcher)) }
     {
         for _ in 0..self.turns {
             self.attend(world, session, &mut share)?;
-            self.checks.attend(self.rt, world, session)?;
-            if !session.take(
-                world,
-                &mut self.launcher,
-                &mut self.reader,
-                &mut self.writer,
-            )? {
+            if !session.take(world, &mut self.launcher, &mut self.reader, writer)? {
                 return Ok(session.end(world));
             }
+            self.tell(world, session, writer)?;
         }
         Ok(session.finish(world)?)
     }
 
-    // Attends to the shared folder before an event, if there is one.
+    // Tells what happened at the last event: the command that it took, then what it printed, then the scripts that it ended.
+    fn tell<K: Sink>(
+        &mut self,
+        world: &World,
+        session: &Session<'_>,
+        writer: &mut Gate<K>,
+    ) -> Result<(), Fault>
+        requires writer { K.faults writer.old.inner < 2 ^ 64 - 1 }
+        ensures launcher { self.new.launcher ≡ self.old.launcher }
+        ensures reader { self.new.reader ≡ self.old.reader }
+        ensures contents { contents_through K.contents writer.new ≡ contents_through K.contents writer.old }
+        ensures faults { OnOk result (K.faults writer.new.inner ≡ K.faults writer.old.inner) }
+        ensures stalls { OnOk result (K.stalls writer.new.inner ≡ K.stalls writer.old.inner) }
+        ensures fault { IfErr result (λ why. drive_fault_of why ≡ None) }
+    {
+        self.teller.tell_command(self.rt, session);
+        writer.release()?;
+        Ok(self.teller.after(self.rt, world, session)?)
+    }
+
+    // Attends to the time, to the script that begins, to the shell whose event comes next, and to the shared folder, if there is one.
+    #[tactic(auto, using(crate::proofs::Pairs::lines_stay))]
     fn attend(
         &mut self,
         world: &mut World,
@@ -150,9 +208,18 @@ impl<R: AllocGlobal + Files + Eprint + Processes + Clone + Drop + Clock, I: Read
         ensures children { IsOpenTable session.new.children self.new.launcher.calls }
         ensures schedule { session.new.schedule ≡ session.old.schedule }
         ensures reader { self.new.reader ≡ self.old.reader }
-        ensures writer { self.new.writer ≡ self.old.writer }
-        ensures leads { IsReachable world.old world.new }
+        ensures ran { RunsLines world.old world.new }
+        // Without a shared folder nothing happens.
+        ensures alone { is_none share.old ≡ true → (is_none share.new ≡ true) × (world.new ≡ world.old)
+            × (session.new ≡ session.old) × (self.new.launcher ≡ self.old.launcher) × IfErr result (λ why. drive_fault_of why ≡ None) }
     {
+        if let Some(deadline) = &self.deadline {
+            deadline.check(self.rt)?;
+        }
+        if let Some(next) = session.next(world) {
+            self.checks.attend(self.rt, world, next)?;
+            self.teller.before(self.rt, world, next)?;
+        }
         let Some(share) = share else {
             return Ok(());
         };

@@ -24,6 +24,17 @@ enum Next<'a> {
     End,
     // An error, since the files are not as planned.
     Refused,
+    // An error, since there is no answer.
+    Unanswered,
+}
+
+/// What is answered at the end of standard input.
+#[derive(Clone, Copy, PartialEq, Eq)]
+pub enum AtEnd {
+    /// Nothing: the run ends.
+    Nothing,
+    /// No, for ever.
+    No,
 }
 
 /// A reader that looks at the world to choose what it gives.
@@ -36,6 +47,7 @@ pub struct Prompter<'a, I: Read> {
     is_ready: bool,
     next: Next<'a>,
     input: I,
+    at_end: AtEnd,
     faults: u64,
 }
 
@@ -58,6 +70,7 @@ impl<'a, I: Read> Prompter<'a, I> {
         lines: &'a [Text],
         bringing: usize,
         input: I,
+        at_end: AtEnd,
     ) -> Prompter<'a, I>
         ensures planned { result.planned ≡ planned.entry.now }
         ensures ready { result.is_ready ≡ false }
@@ -72,6 +85,7 @@ impl<'a, I: Read> Prompter<'a, I> {
             is_ready: false,
             next: Next::End,
             input,
+            at_end,
             faults: 0,
         }
     }
@@ -79,6 +93,16 @@ impl<'a, I: Read> Prompter<'a, I> {
     /// The files were not as planned when the script was to begin.
     pub fn is_refused(&self) -> bool {
         matches!(self.next, Next::Refused)
+    }
+
+    /// The Shell asked for a line of standard input, and that was at its end.
+    pub fn is_unanswered(&self) -> bool {
+        matches!(self.next, Next::Unanswered)
+    }
+
+    /// The line that was given last.
+    pub fn last_line(&self) -> Option<&Text> {
+        self.lines.get(self.given.checked_sub(1)?)
     }
 
     /// All lines that bring the files in were given.
@@ -161,12 +185,12 @@ impl<'a, I: Read> Prompter<'a, I> {
             }
             Next::Input => self.give_input(buffer),
             Next::End => Ok(0),
-            Next::Refused => Err(Error::from(ErrorKind::Other)),
+            Next::Refused | Next::Unanswered => Err(Error::from(ErrorKind::Other)),
         }
     }
 
-    // Reads standard input up to a newline. At its end an empty line is read if prepared lines are left, since the
-    // end of the Shell's input would come before them.
+    // Reads standard input up to a newline. At its end there is no answer; if that stands for no, an empty line is read while
+    // prepared lines are left, since the end of the Shell's input would come before them.
     fn give_input(&mut self, buffer: &mut [u8]) -> io::Result<usize>
         ensures bound { ReadsAtMost result buffer.new }
         ensures planned { self.new.planned ≡ self.old.planned }
@@ -176,10 +200,17 @@ impl<'a, I: Read> Prompter<'a, I> {
         ensures faults { self.new.faults ≡ self.old.faults }
     {
         let count = read_line(&mut self.input, buffer)?;
-        if count == 0 && self.given < self.lines.len() {
+        if count > 0 {
+            return Ok(count);
+        }
+        if self.at_end == AtEnd::Nothing {
+            self.next = Next::Unanswered;
+            return Err(Error::from(ErrorKind::Other));
+        }
+        if self.given < self.lines.len() {
             return Ok(copy_front(b"\n", buffer));
         }
-        Ok(count)
+        Ok(0)
     }
 }
 
@@ -236,8 +267,8 @@ impl<I: Read> Source for Prompter<'_, I> {
     }
 }
 
-// Shell 1 waits for a line: for an answer, or for more of a Run.
-fn asks_for_line(world: &World) -> bool {
+/// Shell 1 waits for a line: for an answer, or for more of a Run.
+pub fn asks_for_line(world: &World) -> bool {
     match world.shell(1) {
         Some(shell) => shell.asks_for_line(),
         None => false,

@@ -1,5 +1,6 @@
 //! What a command line asks for.
 
+use crate::reader::AtEnd;
 use ados_text::Text;
 use ados_transfer::MirrorOptions;
 
@@ -32,8 +33,20 @@ pub struct Options<'a> {
     pub ascii_marks: bool,
     /// What is found in the lines of scripts is reported, and they run all the same.
     pub lenient: bool,
+    /// What is answered at the end of standard input.
+    pub at_end: AtEnd,
     /// The most events and long lines that are taken.
     pub turns: u64,
+    /// The most seconds that the run takes.
+    pub seconds: Option<u64>,
+    /// The codes that commands of the host have at least where they fail, each as `NAME=CODE`.
+    pub errors: Vec<&'a str>,
+    /// A code of the script below this one is success.
+    pub least: u8,
+    /// Nothing is told of where scripts end.
+    pub quiet: bool,
+    /// Each command that a script takes is told.
+    pub trace: bool,
     /// The script's file.
     pub script: &'a str,
     /// Its arguments.
@@ -43,8 +56,8 @@ pub struct Options<'a> {
 /// Why the words ask for nothing.
 #[derive(Drop)]
 pub enum Refused {
-    /// They are not a command line of the program.
-    BadLine,
+    /// They are not a command line of the program, for this reason.
+    BadLine(String),
     /// They ask for help or for the version, which is this text.
     Help(Text),
     /// There was no memory to read them.

@@ -1,18 +1,19 @@
 //! A folder of this machine that is shared with the Shell.
 ghost use Rattle.std.specs.Prelude.{◌≡◌, ◌<◌, ◌^◌, ◌-◌, [], IsOk, OnOk};
 ghost use Rattle.ados_launch.specs.Agreement.{Agrees, IsOpenTable};
-ghost use Rattle.ados_launch.specs.Leads.{IsReachable};
+ghost use Rattle.ados_launch.specs.Deeds.{RunsLines};
 
-use crate::faults::{Fault, cannot_read, report};
+use crate::due::Due;
+use crate::faults::{Fault, report};
+use crate::home::{Home, enter};
 use crate::launcher::{Bringer, Start};
+use crate::pace::Pace;
 use ados_launch::{Launcher, Listed, Session, SystemEnd, SystemFault, system};
-use ados_launcher::StartFolder;
-use ados_machine::Request;
+use ados_ram::Place;
 use ados_text::Text;
-use ados_transfer::{Arrival, Mirror, MirrorOptions, StartPlace, push_word};
+use ados_transfer::{Arrival, Mirror, MirrorOptions, Moment, StartPlace, push_word};
 use ados_world::World;
 use std::alloc::Global;
-use std::env;
 use std::io::Eprint;
 use std::process::Processes;
 use std::rt::{Env, Files};
@@ -25,33 +26,10 @@ const EVENTS: u64 = 100;
 #[derive(Drop)]
 pub struct Share {
     mirror: Mirror,
-    // The current directory of this process.
-    home: String,
+    home: Home,
     // What was in the folder at the beginning was brought in.
     is_filled: bool,
-}
-
-// What the next event asks for.
-enum Due {
-    // The start of a program, by this shell.
-    Start(u8),
-    // The end of the program of this shell.
-    Wait(u8),
-    // Anything else.
-    Other,
-}
-
-impl Due {
-    // What the next event asks for.
-    fn next(session: &Session<'_>, world: &World) -> Due
-        requires count { session.now.schedule.taken < 2 ^ 64 - 1 }
-    {
-        match session.request(world) {
-            Some(Request::Start(job)) => Due::Start(job.shell),
-            Some(Request::Wait(child)) => Due::Wait(*child),
-            _ => Due::Other,
-        }
-    }
+    pace: Pace,
 }
 
 impl Share {
@@ -65,13 +43,10 @@ impl Share {
     ) -> Result<Share, Fault>
         requires agrees { Agrees world.old [] }
         ensures agrees { OnOk result (Agrees world.new []) }
-        ensures leads { IsReachable world.old world.new }
+        ensures ran { RunsLines world.old world.new }
     {
         let alloc = rt.alloc();
-        let Ok(home) = env::current_dir(rt) else {
-            return Err(cannot_read(alloc, "."));
-        };
-        let home = String::from_str(alloc, home.as_path().as_str())?;
+        let home = Home::new(rt)?;
         let mirror = Mirror::new(rt, words, options, world.files())?;
         // These lines start no program.
         let mut launcher = Listed::new(Vec::new(alloc));
@@ -85,7 +60,18 @@ impl Share {
             mirror,
             home,
             is_filled: false,
+            pace: Pace::new(rt),
         })
+    }
+
+    /// The directory.
+    pub fn place(&self) -> &Place {
+        self.mirror.place()
+    }
+
+    /// Makes the folder this process's current directory: from now on its files are found in it, whatever its name leads to.
+    pub fn enter<R: AllocGlobal + Env>(&self, rt: &R) -> Result<(), Fault> {
+        enter(rt, self.mirror.folder())
     }
 
     /// The line that makes the directory the current one.
@@ -96,7 +82,8 @@ impl Share {
     }
 
     /// Before an event: at a program's start, what changed is written to the folder; before its end is reported to the world,
-    /// what changed in the folder is brought in. `is_ready`: the lines that bring files in were given.
+    /// what changed in the folder is brought in. Now and then, and before this process may have to wait, what changed is written too.
+    /// `is_ready`: the lines that bring files in were given.
     ///
     /// At an error too the session knows which programs are open.
     pub fn attend<R: AllocGlobal + Files + Eprint + Processes + Clone + Drop + Clock>(
@@ -114,9 +101,9 @@ impl Share {
         ensures children { IsOpenTable session.new.children launcher.new.calls }
         ensures schedule { session.new.schedule ≡ session.old.schedule }
         ensures held { session.new.held ≡ session.old.held }
-        ensures leads { IsReachable world.old world.new }
+        ensures ran { RunsLines world.old world.new }
     {
-        self.mirror.watch(world.files());
+        self.mirror.watch(world.files())?;
         if !self.is_filled {
             if is_ready && world.wants_line() {
                 self.bring_in(rt, world, launcher, session)?;
@@ -124,30 +111,35 @@ impl Share {
             }
             return Ok(());
         }
-        match Due::next(session, world) {
+        let due = Due::next(session, world);
+        if self.pace.is_due(rt, due) {
+            self.write_out(rt, world, Moment::Meanwhile)?;
+        }
+        match due {
             Due::Start(number) => {
-                self.write_out(rt, world)?;
+                self.write_out(rt, world, Moment::Start)?;
                 launcher.set_start(self.start(rt, world, number)?);
             }
             Due::Wait(number) => {
                 launcher.await_end(number);
                 self.bring_in(rt, world, launcher, session)?;
             }
-            Due::Other => {}
+            Due::Read | Due::Input | Due::Turn => {}
         }
         Ok(())
     }
 
-    /// Writes what changed to the folder at the end. `false` if something could not be written, or was not brought in.
-    pub fn close<R: AllocGlobal + Files + Eprint + Clone + Drop + Clock>(
+    /// Writes what changed to the folder at the end, and goes back to where this process was started. `false` if the two sides are not alike then.
+    pub fn close<R: Env + AllocGlobal + Files + Eprint + Clone + Drop + Clock>(
         &mut self,
         rt: &R,
         world: &World,
     ) -> Result<bool, Fault> {
         if self.is_filled {
-            self.write_out(rt, world)?;
+            self.write_out(rt, world, Moment::End)?;
         }
-        Ok(!self.mirror.has_failed())
+        self.home.enter(rt)?;
+        Ok(!self.mirror.differs())
     }
 
     // Brings in what changed in the folder.
@@ -164,7 +156,7 @@ impl Share {
         ensures children { IsOpenTable session.new.children launcher.new.calls }
         ensures schedule { session.new.schedule ≡ session.old.schedule }
         ensures held { session.new.held ≡ session.old.held }
-        ensures leads { IsReachable world.old world.new }
+        ensures ran { RunsLines world.old world.new }
     {
         for arrival in self.mirror.arrivals(rt, world.files())? {
             let arrival = take_in(rt.alloc(), world, launcher, session, arrival)?;
@@ -179,8 +171,10 @@ impl Share {
         &mut self,
         rt: &R,
         world: &World,
+        moment: Moment,
     ) -> Result<(), Fault> {
-        self.mirror.write_out(rt, world.files())?;
+        self.mirror.write_out(rt, world.files(), moment)?;
+        self.pace.update(rt);
         self.report_lines(rt);
         Ok(())
     }
@@ -192,15 +186,13 @@ impl Share {
         world: &World,
         number: u8,
     ) -> Result<Start, Fault> {
-        let Some(shell) = world.shell(number) else {
-            return Ok(Start::Home);
+        let place = match world.shell(number) {
+            Some(shell) => self.mirror.start_place(rt, shell.directory())?,
+            None => StartPlace::Home,
         };
-        match self.mirror.start_place(rt, shell.directory())? {
-            StartPlace::Home => Ok(Start::Home),
-            StartPlace::Folder(path) => Ok(Start::Folder(StartFolder {
-                path,
-                home: String::from_str(rt.alloc(), self.home.as_str())?,
-            })),
+        match place {
+            StartPlace::Home => self.home.start(rt.alloc(), None),
+            StartPlace::Folder(path) => self.home.start(rt.alloc(), Some(path.as_str())),
             StartPlace::Nowhere => {
                 self.report_lines(rt);
                 Ok(Start::Nowhere)
@@ -230,7 +222,7 @@ fn take_in<R: Processes>(
     ensures children { IsOpenTable session.new.children launcher.new.calls }
     ensures schedule { session.new.schedule ≡ session.old.schedule }
     ensures held { session.new.held ≡ session.old.held }
-    ensures leads { IsReachable world.old world.new }
+    ensures ran { RunsLines world.old world.new }
 {
     launcher.offer(arrival.bytes.take());
     run_lines(alloc, world, arrival.lines.as_slice(), launcher, session)?;
@@ -252,7 +244,7 @@ fn run_lines<L: Launcher>(
     ensures children { IsOpenTable session.new.children (L.calls launcher.new) }
     ensures schedule { session.new.schedule ≡ session.old.schedule }
     ensures held { session.new.held ≡ session.old.held }
-    ensures leads { IsReachable world.old world.new }
+    ensures ran { RunsLines world.old world.new }
 {
     for line in lines {
         run_alone(alloc, world, line, launcher, session)?;
@@ -274,7 +266,7 @@ fn run_alone<L: Launcher>(
     ensures children { IsOpenTable session.new.children (L.calls launcher.new) }
     ensures schedule { session.new.schedule ≡ session.old.schedule }
     ensures held { session.new.held ≡ session.old.held }
-    ensures leads { IsReachable world.old world.new }
+    ensures ran { RunsLines world.old world.new }
 {
     let mut printed = Vec::new(alloc);
     let ran = system(alloc, world, line, launcher, EVENTS, &mut printed);

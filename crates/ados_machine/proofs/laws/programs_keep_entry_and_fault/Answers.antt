@@ -1,4 +1,4 @@
-use Rattle.ados_machine.proofs.ProgramLemmas.{starts-ask, starts-use-their-entry, first-faults-stay}
+use Rattle.ados_machine.proofs.ProgramLemmas.{starts-ask, starts-use-their-entry, first-faults-stay, pieces-printed}
 use Rattle.ados_machine.proofs.laws.programs_keep_entry_and_fault.Goals as goal
 
 pub returns-clause-asked : goal.returns-clause-asked
@@ -9,3 +9,6 @@ returns-clause-entry c = starts-use-their-entry
 
 pub returns-clause-fault : goal.returns-clause-fault
 returns-clause-fault c = first-faults-stay
+
+pub returns-clause-printed : goal.returns-clause-printed
+returns-clause-printed c = pieces-printed

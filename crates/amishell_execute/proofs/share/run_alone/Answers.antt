@@ -1,10 +1,11 @@
-use Rattle.amishell_execute.proofs.Ran.{leads_ran, agrees_ran}
+use Rattle.ados_launch.proofs.DeedsAlone.{ran-alone}
+use Rattle.amishell_execute.proofs.Ran.{agrees_ran}
 use Rattle.amishell_execute.proofs.share.run_alone.Goals as goal
 
-pub returns-clause-leads : goal.returns-clause-leads
-returns-clause-leads g c =
+pub returns-clause-ran : goal.returns-clause-ran
+returns-clause-ran g c =
     let e = c.system-ran.ensures in
-    leads_ran c.args.world.now c.system-ran.new.world c.args.line.now _ _ _ _ _ _ c.system-ran.result _ _ e.ended e.running e.untouched e.fault
+    ran-alone c.args.world.now c.system-ran.new.world c.args.line.now _ _ _ _ _ _ c.system-ran.result _ _ e.ended e.running e.untouched e.fault
 
 pub returns-clause-children : goal.returns-clause-children
 returns-clause-children g c =

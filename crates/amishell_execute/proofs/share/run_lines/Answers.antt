@@ -1,10 +1,10 @@
 use Rattle.std.proofs.Common.{◌∙◌}
-use Rattle.ados_launch.proofs.Leading.{leads_on}
+use Rattle.ados_launch.proofs.Deeding.{lines-then}
 use Rattle.amishell_execute.proofs.share.run_lines.Goals as goal
 
-pub returns-in_err-run_alone-clause-leads : goal.returns-in_err-run_alone-clause-leads
-returns-in_err-run_alone-clause-leads g c =
-    leads_on c.args.world.now c.loop-line.world c.run_alone.new.world c.loop-line.invariant.leads c.run_alone.ensures.leads
+pub returns-in_err-run_alone-clause-ran : goal.returns-in_err-run_alone-clause-ran
+returns-in_err-run_alone-clause-ran g c =
+    lines-then c.args.world.now c.loop-line.world c.run_alone.new.world c.loop-line.invariant.ran c.run_alone.ensures.ran
 
 pub loop-line-preserved : goal.loop-line-preserved
 loop-line-preserved g c = record {
@@ -12,5 +12,5 @@ loop-line-preserved g c = record {
   children = c.run_alone.ensures.children;
   schedule = c.run_alone.ensures.schedule ∙ c.loop-line.invariant.schedule;
   held = c.run_alone.ensures.held ∙ c.loop-line.invariant.held;
-  leads = leads_on c.args.world.now c.loop-line.world c.run_alone.new.world c.loop-line.invariant.leads c.run_alone.ensures.leads;
+  ran = lines-then c.args.world.now c.loop-line.world c.run_alone.new.world c.loop-line.invariant.ran c.run_alone.ensures.ran;
 }

@@ -1,6 +1,6 @@
 use Rattle.std.proofs.Common.{◌≡◌}
 use Rattle.ados_launch.specs.Agreement.{Agrees, IsOpenTable}
-use Rattle.ados_launch.specs.Leads.{IsReachable}
+use Rattle.ados_launch.specs.Deeds.{RunsLines}
 use Rattle.amishell_execute.proofs.share.run_lines.Given as goal
 
 abbrev pub invariant-loop-line : goal.invariant-loop-line
@@ -9,5 +9,5 @@ invariant-loop-line g l = record {
   children : IsOpenTable l.session.children (g.L.Launcher.calls l.launcher);
   schedule : l.session.schedule ≡ l.fn.session.schedule;
   held : l.session.held ≡ l.fn.session.held;
-  leads : IsReachable l.fn.world l.world;
+  ran : RunsLines l.fn.world l.world;
 }

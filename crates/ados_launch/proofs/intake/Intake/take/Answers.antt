@@ -28,7 +28,7 @@ returns-in_ok-give-in-Break-clause-agrees g c =
 pub returns-in-Due-clause-took : goal.returns-in-Due-clause-took
 returns-in-Due-clause-took g c =
     rw c.in-Due.is
-    (took-at-lines c.args.world.now _ _ _ (g.L.Launcher.is_full c.args.launcher.now) (g.L.Launcher.calls c.args.launcher.now) c.in-Due.found.place c.take_line.new.self.draft.printed.items c.take_line.result (omega arith) c.take_line.ensures.took)
+    (took-at-lines c.args.world.now _ _ _ (g.L.Launcher.is_full c.args.launcher.now) (g.L.Launcher.calls c.args.launcher.now) c.in-Due.found.place (out_of c.take_line.new.self.draft) c.take_line.result (omega arith) c.take_line.ensures.took)
 
 pub returns-in-Due-clause-memory : goal.returns-in-Due-clause-memory
 returns-in-Due-clause-memory g c failed =

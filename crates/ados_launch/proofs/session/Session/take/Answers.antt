@@ -1,5 +1,7 @@
-use Rattle.std.proofs.Common.{refl, sym, ◌∙◌, IsErrOf, rules}
-use Rattle.ados_launch.proofs.Leading.{leads_at}
+use Rattle.std.proofs.Common.{false, refl, sym, ◌∙◌, IsErrOf, rules}
+use Rattle.ados_shell.specs.Drafts.{out_of}
+use Rattle.ados_launch.proofs.Deeding.{does-none}
+use Rattle.ados_launch.proofs.DeedsTaken.{does-by, taken-does}
 use Rattle.ados_launch.proofs.Outcomes.{never-turns, never-write}
 use Rattle.ados_launch.proofs.Stepping.{takes-by}
 use Rattle.ados_launch.specs.Schedule.{found_next}
@@ -13,6 +15,7 @@ returns-in_default-clause-takes g c = rw (← c.self.view_is) (record {
   round_is = c.next.ensures.round;
   taken_is = c.next.ensures.taken;
   held_is = refl;
+  reports_are = refl;
 })
 
 pub returns-in_err-take-clause-takes : goal.returns-in_err-take-clause-takes
@@ -47,31 +50,41 @@ returns-in_err-write_whole-clause-takes g c =
     (λ is. record {
       next = found_next c.in-Some.next;
       next_is = sym c.in-Some.ensures.next;
-      bytes = c.take.new.self.draft.printed.items;
+      out = out_of c.take.new.self.draft;
       takes = c.in_ok-take.ensures.took;
       agrees = c.in_ok-take.ensures.agrees;
       length_written = front.0;
       cut = rw c.as_slice.ensures.value at front.1;
       written = rw c.as_slice.ensures.value at front.2;
+      reports_are = refl;
       cause = c.in_err-write_whole.ensures.cause;
       reads_well = c.in_ok-take.ensures.honest;
     })
     (λ is. cc))
 
-pub returns-in_err-write_whole-clause-leads : goal.returns-in_err-write_whole-clause-leads
-returns-in_err-write_whole-clause-leads g c = leads_at c.args.world.now _ _ _ _ c.take.new.world _ _ _ c.in_ok-take.ensures.took
-
-pub returns-clause-leads : goal.returns-clause-leads
-returns-clause-leads g c = leads_at c.args.world.now _ _ _ _ c.take.new.world _ _ _ c.in_ok-take.ensures.took
-
 pub returns-clause-takes : goal.returns-clause-takes
 returns-clause-takes g c = rw (← c.self.view_is) (record {
   next = found_next c.in-Some.next;
   next_is = sym c.in-Some.ensures.next;
-  bytes = c.take.new.self.draft.printed.items;
+  out = out_of c.take.new.self.draft;
   takes = c.in_ok-take.ensures.took;
   schedule_is = c.pass.ensures ∙ c.in-Some.ensures.passed;
   written = rw c.as_slice.ensures.value at c.in_ok-write_whole.ensures.whole;
+  reports_are = refl;
   reads_well = c.in_ok-take.ensures.honest;
   writes_well = c.in_ok-write_whole.ensures.honest;
 })
+
+pub returns-in_default-clause-does : goal.returns-in_default-clause-does
+returns-in_default-clause-does g c = does-none _ _ _ _ refl refl
+
+pub returns-in_err-take-clause-does : goal.returns-in_err-take-clause-does
+returns-in_err-take-clause-does g c = does-by _ _ _ _ c.from_residual.result (returns-in_err-take-clause-takes g c)
+
+pub returns-in_err-write_whole-clause-does : goal.returns-in_err-write_whole-clause-does
+returns-in_err-write_whole-clause-does g c = does-by _ _ _ _ c.from_residual-in_err-write_whole.result (returns-in_err-write_whole-clause-takes g c)
+
+pub returns-clause-does : goal.returns-clause-does
+returns-clause-does g c =
+    taken-does false c.args.world.now c.take.new.world _ _ _ _ _ _ _ _ (out_of c.take.new.self.draft) c.in_ok-take.ensures.took
+    (rw c.as_slice.ensures.value at c.in_ok-write_whole.ensures.whole)

@@ -1,38 +1,112 @@
-use Rattle.std.proofs.Common.{rules}
-use Rattle.ados_launch.proofs.Leading.{leads_on}
-use Rattle.ados_launch.proofs.Stepping.{finished-over, nothing-by}
+use Rattle.std.proofs.Common.{rules, refl, arith, ap, ◌∙◌, ◌+◌, false, [], Ok, Err}
+use Rattle.ados_launch.proofs.Deeding.{does-any, does-lines, does-none, does-then}
+use Rattle.ados_launch.proofs.Stepping.{ends-nothing, finish-by, finished-over, nothing-by, one-by, stops-by}
+use Rattle.amishell_execute.proofs.Driving.{alone-none, alone-same, alone-step, cut-by, fault-driven, told-same, undriven}
 use Rattle.amishell_execute.proofs.Pairs.{nothing_over}
 use Rattle.amishell_execute.proofs.play.Run.drive_session.Goals as goal
 
-pub returns-in_err-attend-clause-leads : goal.returns-in_err-attend-clause-leads
-returns-in_err-attend-clause-leads g c = leads_on c.args.world.now c.loop.world c.attend.new.world c.loop.invariant.leads c.attend.ensures.leads
+pub loop-init : goal.loop-init
+loop-init g c = record {
+  reader = refl;
+  writer = refl;
+  count = rw c.requires.begins (omega arith);
+  agrees = c.requires.agrees;
+  does = does-none _ _ _ _ refl refl;
+  children = c.requires.children;
+  without_share = λ none. none;
+  alone = λ none. alone-none _ c.args.session.now refl c.requires.begins c.requires.held c.requires.agrees;
+}
 
-pub returns-in_err-take-clause-leads : goal.returns-in_err-take-clause-leads
-returns-in_err-take-clause-leads g c =
-    let attended = leads_on c.args.world.now c.loop.world c.attend.new.world c.loop.invariant.leads c.attend.ensures.leads in
-    leads_on c.args.world.now c.attend.new.world c.take.new.world attended c.take.ensures.leads
+pub loop-preserved : goal.loop-preserved
+loop-preserved g c =
+    let i = c.loop.invariant in
+    let t = one-by c.attend.new.session c.take.new.self _ _ c.in_ok-take.field-0 c.if-not-branch.false c.in_ok-take.ensures.takes in
+    record {
+      reader = ap (λ r. r.faults) c.tell.ensures.reader ∙ (c.in_ok-take.ensures.reads ∙ (ap (λ r. r.faults) c.attend.ensures.reader ∙ i.reader));
+      writer = c.in_ok-tell.ensures.faults ∙ (c.in_ok-take.ensures.writes ∙ i.writer);
+      count = search rules;
+      agrees = rw c.tell.ensures.launcher c.in_ok-take.ensures.agrees;
+      does = does-then false _ _ _ _ _ _ (does-then false _ _ _ _ _ _ (does-then false _ _ _ _ _ _ i.does (does-lines _ _ _ c.attend.ensures.ran)) c.in_ok-take.ensures.does)
+          (does-none _ _ _ _ refl c.tell.ensures.contents);
+      children = rw c.tell.ensures.launcher c.take.ensures.children;
+      without_share = λ none. (c.attend.ensures.alone (i.without_share none)).0;
+      alone = λ none.
+          let same = c.attend.ensures.alone (i.without_share none) in
+          alone-same _ _ _ (c.loop.counter + 1) c.take.new.self c.take.new.self
+          (told-same g.K.Sink.contents g.K.Sink.faults g.K.Sink.stalls c.take.new.world c.take.new.reader c.tell.new.self.reader c.take.new.writer c.tell.new.writer c.take.new.launcher c.tell.new.self.launcher
+          c.tell.ensures.reader c.tell.ensures.launcher c.tell.ensures.contents c.in_ok-tell.ensures.faults c.in_ok-tell.ensures.stalls)
+          refl
+          (alone-step _ _ _ c.loop.counter c.attend.new.session c.take.new.self
+          (alone-same _ _ _ c.loop.counter c.loop.session c.attend.new.session (rw (same.1, same.3, c.attend.ensures.reader) refl) same.2 (i.alone none))
+          t c.take.ensures.stays c.in_ok-take.ensures.agrees c.take.ensures.in_round c.take.ensures.few);
+    }
 
-pub returns-then-not-branch-clause-leads : goal.returns-then-not-branch-clause-leads
-returns-then-not-branch-clause-leads g c =
-    let attended = leads_on c.args.world.now c.loop.world c.attend.new.world c.loop.invariant.leads c.attend.ensures.leads in
-    leads_on c.args.world.now c.attend.new.world c.take.new.world attended c.take.ensures.leads
+pub returns-in_err-tell-clause-does : goal.returns-in_err-tell-clause-does
+returns-in_err-tell-clause-does g c =
+    does-any _ _ _ _ _ (does-then false _ _ _ _ _ _ (does-then false _ _ _ _ _ _ (does-then false _ _ _ _ _ _ c.loop.invariant.does (does-lines _ _ _ c.attend.ensures.ran)) c.in_ok-take.ensures.does)
+    (does-none _ _ _ _ refl c.tell.ensures.contents))
+
+pub returns-in_err-tell-clause-drives : goal.returns-in_err-tell-clause-drives
+returns-in_err-tell-clause-drives g c none =
+    undriven c.from_residual-in_err-tell.result c.in_err-tell.field-0.0 _ c.from_residual-in_err-tell.ensures.1 c.in_err-tell.ensures.fault
+
+pub returns-in_err-attend-clause-does : goal.returns-in_err-attend-clause-does
+returns-in_err-attend-clause-does g c = does-any _ _ _ _ _ (does-then false _ _ _ _ _ _ c.loop.invariant.does (does-lines _ _ _ c.attend.ensures.ran))
+
+pub returns-in_err-attend-clause-drives : goal.returns-in_err-attend-clause-drives
+returns-in_err-attend-clause-drives g c none =
+    undriven c.from_residual.result c.in_err-attend.field-0.0 _ c.from_residual.ensures.1 (c.in_err-attend.ensures.alone (c.loop.invariant.without_share none)).4
+
+pub returns-in_err-take-clause-does : goal.returns-in_err-take-clause-does
+returns-in_err-take-clause-does g c =
+    rw (cut-by c.from_residual-in_err-take.result c.in_err-take.field-0.0 c.from_residual-in_err-take.ensures.1)
+    (does-then _ _ _ _ _ _ _ (does-then false _ _ _ _ _ _ c.loop.invariant.does (does-lines _ _ _ c.attend.ensures.ran)) c.in_err-take.ensures.does)
+
+pub returns-in_err-take-clause-drives : goal.returns-in_err-take-clause-drives
+returns-in_err-take-clause-drives g c none =
+    let i = c.loop.invariant in
+    let same = c.attend.ensures.alone (i.without_share none) in
+    let a = alone-same _ _ _ c.loop.counter c.loop.session c.attend.new.session (rw (same.1, same.3, c.attend.ensures.reader) refl) same.2 (i.alone none) in
+    fault-driven c.from_residual-in_err-take.result c.in_err-take.field-0.0 _ c.from_residual-in_err-take.ensures.1
+    (stops-by c.args.self.now.turns c.loop.counter [] _ _ _ c.attend.new.session c.take.new.self a.driven c.loop-test.true a.in_round c.take.ensures.stays c.take.ensures.few
+    a.reads a.writes c.in_err-take.field-0.0 c.in_err-take.ensures.takes)
+
+pub returns-then-not-branch-clause-does : goal.returns-then-not-branch-clause-does
+returns-then-not-branch-clause-does g c =
+    does-then false _ _ _ _ _ _ (does-then false _ _ _ _ _ _ c.loop.invariant.does (does-lines _ _ _ c.attend.ensures.ran)) c.in_ok-take.ensures.does
 
 pub returns-then-not-branch-clause-over : goal.returns-then-not-branch-clause-over
 returns-then-not-branch-clause-over g c =
     nothing_over c.attend.new.session c.take.new.self _ _ c.take.new.launcher.calls
     (nothing-by c.attend.new.session c.take.new.self _ _ c.in_ok-take.field-0 c.if-not-branch.true c.in_ok-take.ensures.takes) c.in_ok-take.ensures.agrees c.end.ensures.shells
 
-pub loop-preserved : goal.loop-preserved
-loop-preserved g c =
-    let attended = leads_on c.args.world.now c.loop.world c.attend.new.world c.loop.invariant.leads c.attend.ensures.leads in
-    record {
-      reader = search rules;
-      writer = search rules;
-      count = search rules;
-      agrees = search rules;
-      leads = leads_on c.args.world.now c.attend.new.world c.take.new.world attended c.take.ensures.leads;
-      children = search rules;
-    }
+pub returns-then-not-branch-clause-drives : goal.returns-then-not-branch-clause-drives
+returns-then-not-branch-clause-drives g c none =
+    let i = c.loop.invariant in
+    let same = c.attend.ensures.alone (i.without_share none) in
+    let a = alone-same _ _ _ c.loop.counter c.loop.session c.attend.new.session (rw (same.1, same.3, c.attend.ensures.reader) refl) same.2 (i.alone none) in
+    let t = nothing-by c.attend.new.session c.take.new.self _ _ c.in_ok-take.field-0 c.if-not-branch.true c.in_ok-take.ensures.takes in
+    ends-nothing c.args.self.now.turns c.loop.counter [] _ _ _ c.attend.new.session c.take.new.self c.end.result a.driven t c.loop-test.true a.count
+    c.end.ensures.events c.end.ensures.code c.end.ensures.result2 c.end.ensures.shells a.reads a.writes
+
+pub returns-in_err-finish-clause-does : goal.returns-in_err-finish-clause-does
+returns-in_err-finish-clause-does g c = does-any _ _ _ _ _ c.loop.invariant.does
+
+pub returns-in_err-finish-clause-drives : goal.returns-in_err-finish-clause-drives
+returns-in_err-finish-clause-drives g c none =
+    let a = c.loop.invariant.alone none in
+    fault-driven c.from_residual-in_err-finish.result c.in_err-finish.field-0.0 _ c.from_residual-in_err-finish.ensures.1
+    (finish-by c.args.self.now.turns c.loop.counter [] _ _ c.loop.session (Err c.in_err-finish.field-0.0) a.driven (omega arith) a.in_round a.count a.few a.reads a.writes
+    c.in_err-finish.ensures.end c.in_err-finish.ensures.over c.in_err-finish.ensures.turns c.in_err-finish.ensures.only)
+
+pub returns-clause-does : goal.returns-clause-does
+returns-clause-does g c = c.loop.invariant.does
 
 pub returns-clause-over : goal.returns-clause-over
 returns-clause-over g c = finished-over c.loop.session c.loop.world c.loop.self.launcher.calls c.loop.invariant.agrees c.in_ok-finish.ensures.end.3 c.in_ok-finish.ensures.over
+
+pub returns-clause-drives : goal.returns-clause-drives
+returns-clause-drives g c none =
+    let a = c.loop.invariant.alone none in
+    finish-by c.args.self.now.turns c.loop.counter [] _ _ c.loop.session (Ok c.in_ok-finish.field-0) a.driven (omega arith) a.in_round a.count a.few a.reads a.writes
+    c.in_ok-finish.ensures.end c.in_ok-finish.ensures.over c.in_ok-finish.ensures.turns c.in_ok-finish.ensures.only

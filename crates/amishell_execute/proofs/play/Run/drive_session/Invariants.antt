@@ -1,14 +1,21 @@
-use Rattle.std.proofs.Common.{◌≡◌, ◌≤◌}
+use Rattle.std.proofs.Common.{◌≡◌, ◌≤◌, true, false, is_none}
 use Rattle.ados_launch.specs.Agreement.{Agrees, IsOpenTable}
-use Rattle.ados_launch.specs.Leads.{IsReachable}
+use Rattle.ados_launch.specs.Deeds.{Does}
+use Rattle.amishell_execute.specs.Playing.{contents_through, playing_moment}
+use Rattle.amishell_execute.proofs.Driving.{DrivenAlone}
 use Rattle.amishell_execute.proofs.play.Run.drive_session.Given as goal
 
 abbrev pub invariant-loop : goal.invariant-loop
 invariant-loop g l = record {
   reader : l.self.reader.faults ≡ l.fn.self.reader.faults;
-  writer : g.K.Sink.faults l.self.writer ≡ g.K.Sink.faults l.fn.self.writer;
+  writer : g.K.Sink.faults l.writer.inner ≡ g.K.Sink.faults l.fn.writer.inner;
   count : l.session.schedule.taken ≤ l.counter;
   agrees : Agrees l.world l.self.launcher.calls;
-  leads : IsReachable l.fn.world l.world;
+  does : Does l.fn.world l.world false (contents_through g.K.Sink.contents l.fn.writer) (contents_through g.K.Sink.contents l.writer);
   children : IsOpenTable l.session.children l.self.launcher.calls;
+  without_share : is_none l.fn.share ≡ true → is_none l.share ≡ true;
+  alone : is_none l.fn.share ≡ true → DrivenAlone
+      (playing_moment g.K.Sink.contents g.K.Sink.faults g.K.Sink.stalls l.fn.world l.fn.self.reader l.fn.writer l.fn.self.launcher)
+      (playing_moment g.K.Sink.contents g.K.Sink.faults g.K.Sink.stalls l.world l.self.reader l.writer l.self.launcher)
+      l.counter l.session;
 }

@@ -1,14 +1,14 @@
 use Rattle.std.proofs.Common.{◌∙◌}
-use Rattle.ados_launch.proofs.Leading.{leads_on}
+use Rattle.ados_launch.proofs.Deeding.{lines-then}
 use Rattle.amishell_execute.proofs.share.Share.bring_in.Goals as goal
 
-pub returns-in_err-arrival-clause-leads : goal.returns-in_err-arrival-clause-leads
-returns-in_err-arrival-clause-leads g c =
-    leads_on c.args.world.now c.loop-arrival.world c.take_in.new.world c.loop-arrival.invariant.leads c.take_in.ensures.leads
+pub returns-in_err-arrival-clause-ran : goal.returns-in_err-arrival-clause-ran
+returns-in_err-arrival-clause-ran g c =
+    lines-then c.args.world.now c.loop-arrival.world c.take_in.new.world c.loop-arrival.invariant.ran c.take_in.ensures.ran
 
-pub returns-in_err-settle-clause-leads : goal.returns-in_err-settle-clause-leads
-returns-in_err-settle-clause-leads g c =
-    leads_on c.args.world.now c.loop-arrival.world c.take_in.new.world c.loop-arrival.invariant.leads c.take_in.ensures.leads
+pub returns-in_err-settle-clause-ran : goal.returns-in_err-settle-clause-ran
+returns-in_err-settle-clause-ran g c =
+    lines-then c.args.world.now c.loop-arrival.world c.take_in.new.world c.loop-arrival.invariant.ran c.take_in.ensures.ran
 
 pub loop-arrival-preserved : goal.loop-arrival-preserved
 loop-arrival-preserved g c = record {
@@ -16,5 +16,5 @@ loop-arrival-preserved g c = record {
   children = c.take_in.ensures.children;
   schedule = c.take_in.ensures.schedule ∙ c.loop-arrival.invariant.schedule;
   held = c.take_in.ensures.held ∙ c.loop-arrival.invariant.held;
-  leads = leads_on c.args.world.now c.loop-arrival.world c.take_in.new.world c.loop-arrival.invariant.leads c.take_in.ensures.leads;
+  ran = lines-then c.args.world.now c.loop-arrival.world c.take_in.new.world c.loop-arrival.invariant.ran c.take_in.ensures.ran;
 }

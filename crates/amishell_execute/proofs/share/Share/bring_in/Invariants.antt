@@ -1,6 +1,6 @@
 use Rattle.std.proofs.Common.{◌≡◌}
 use Rattle.ados_launch.specs.Agreement.{Agrees, IsOpenTable}
-use Rattle.ados_launch.specs.Leads.{IsReachable}
+use Rattle.ados_launch.specs.Deeds.{RunsLines}
 use Rattle.amishell_execute.proofs.share.Share.bring_in.Given as goal
 
 abbrev pub invariant-loop-arrival : goal.invariant-loop-arrival
@@ -9,5 +9,5 @@ invariant-loop-arrival g l = record {
   children : IsOpenTable l.session.children l.launcher.calls;
   schedule : l.session.schedule ≡ l.fn.session.schedule;
   held : l.session.held ≡ l.fn.session.held;
-  leads : IsReachable l.fn.world l.world;
+  ran : RunsLines l.fn.world l.world;
 }

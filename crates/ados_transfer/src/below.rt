@@ -1,0 +1,267 @@
+//! The files below the folder of a share, which is this process's current directory: what its name leads to by now has no effect. No
+//! link leads out of it: each folder on the way to an object is opened, and it is used by its descriptor, which means this folder
+//! whatever takes its name.
+//!
+//! Where there is no `/proc` the folder is used by its name: then a link that takes the name between the look and the call is followed.
+
+use crate::faults::TransferFault;
+use crate::paths::last_piece;
+use crate::writing::{BESIDE, joined};
+use std::alloc::{Alloc, AllocError, Allocator, Global};
+use std::cell::Cell;
+use std::collections::BTreeSet;
+use std::fs::{Metadata, OpenFile, OpenOptions, Permissions};
+use std::io::{Error, ErrorKind};
+use std::os::unix::fs::MetadataExt;
+use std::rt::Files;
+use std::time::{Clock, Duration};
+use std::{fs, io};
+
+// The folder that lists what this process has open.
+const DESCRIPTORS: &str = "/proc/self/fd";
+
+// Descriptors from here are looked at, and at most so many: those before are the standard ones.
+const FIRST: usize = 3;
+
+const LAST: usize = 1024;
+
+/// The files of this machine by paths below this process's current directory.
+#[derive(Drop)]
+pub struct Below<'a, R> {
+    rt: &'a R,
+    // The paths of the temporary files that were made.
+    made: Cell<BTreeSet<String>>,
+}
+
+// A folder that is open, and a path that leads to it.
+#[derive(Drop)]
+struct Folder<F: Drop> {
+    path: String,
+    // The path needs it.
+    _open: F,
+}
+
+// The path of an object, and the folder in which it is, unless that is the current directory.
+#[derive(Drop)]
+struct Way<F: Drop> {
+    path: String,
+    _folder: Option<Folder<F>>,
+}
+
+impl<'a, R: AllocGlobal + Files> Below<'a, R> {
+    /// The files below this process's current directory.
+    pub fn new(rt: &'a R) -> Below<'a, R> {
+        Below {
+            rt,
+            made: Cell::new(BTreeSet::new(rt.alloc())),
+        }
+    }
+
+    /// The paths of the temporary files that were made and are still there.
+    pub fn temporaries(&self) -> Result<Vec<String>, TransferFault> {
+        let mut left = Vec::new(self.rt.alloc());
+        for path in self.made.replace(BTreeSet::new(self.rt.alloc())) {
+            if fs::symlink_metadata(self.rt, path.as_str()).is_ok() {
+                left.push(path)?;
+            }
+        }
+        Ok(left)
+    }
+
+    // Notes a temporary file that was made. If there is no memory for that it is not reported, should it be left.
+    fn note(&self, path: &str) {
+        if !last_piece(path).as_bytes().starts_with(BESIDE.as_bytes()) {
+            return;
+        }
+        let mut made = self.made.replace(BTreeSet::new(self.rt.alloc()));
+        if let Ok(path) = String::from_str(self.rt.alloc(), path) {
+            let _ = made.insert(path);
+        }
+        self.made.set(made);
+    }
+
+    // The way to an object.
+    fn way(&self, path: &str) -> io::Result<Way<R::File>> {
+        let Some((above, name)) = path.rsplit_once('/') else {
+            return Ok(Way {
+                path: String::from_str(self.rt.alloc(), path)?,
+                _folder: None,
+            });
+        };
+        let folder = self.folder(above)?;
+        Ok(Way {
+            path: joined(self.rt.alloc(), folder.path.as_str(), name)?,
+            _folder: Some(folder),
+        })
+    }
+
+    // Opens the folder at a path, and for it each one on the way.
+    fn folder(&self, path: &str) -> io::Result<Folder<R::File>> {
+        let Some((above, name)) = path.rsplit_once('/') else {
+            return open_folder(self.rt, path);
+        };
+        let mut steps = above.split('/');
+        let mut folder = open_folder(self.rt, steps.next().unwrap_or(""))?;
+        for step in steps {
+            folder = step_down(self.rt, &folder, step)?;
+        }
+        step_down(self.rt, &folder, name)
+    }
+}
+
+// Opens a folder in an open one.
+fn step_down<R: AllocGlobal + Files>(
+    rt: &R,
+    folder: &Folder<R::File>,
+    name: &str,
+) -> io::Result<Folder<R::File>> {
+    open_folder(rt, joined(rt.alloc(), folder.path.as_str(), name)?.as_str())
+}
+
+// Opens the folder that is at a path; a link to one is refused. The slash refuses a pipe, at which an opening would wait.
+fn open_folder<R: AllocGlobal + Files>(rt: &R, path: &str) -> io::Result<Folder<R::File>> {
+    let found = fs::symlink_metadata(rt, path)?;
+    if !found.is_dir() {
+        return Err(Error::from(ErrorKind::NotADirectory));
+    }
+    let open = fs::open(rt, format!(in rt.alloc(); "{path}/")?.as_str())?;
+    let opened = open.metadata()?;
+    if !is_one(&found, &opened) {
+        return Err(Error::from(ErrorKind::NotADirectory));
+    }
+    Ok(Folder {
+        path: match own_path(rt, &opened)? {
+            Some(own) => own,
+            None => String::from_str(rt.alloc(), path)?,
+        },
+        _open: open,
+    })
+}
+
+// The path by which this process has a folder open: that of the first descriptor that leads to it. `Files` does not give numbers.
+fn own_path<R: AllocGlobal + Files>(rt: &R, opened: &Metadata) -> io::Result<Option<String>> {
+    if !fs::metadata(rt, DESCRIPTORS).is_ok_and(|found| found.is_dir()) {
+        return Ok(None);
+    }
+    for number in FIRST..LAST {
+        let path = format!(in rt.alloc(); "{DESCRIPTORS}/{number}")?;
+        if fs::metadata(rt, path.as_str()).is_ok_and(|found| is_one(&found, opened)) {
+            return Ok(Some(path));
+        }
+    }
+    Ok(None)
+}
+
+/// This process's current directory was deleted.
+pub fn is_gone<R: Files>(rt: &R) -> bool {
+    match fs::metadata(rt, ".") {
+        Ok(found) => found.nlink() == 0,
+        Err(_) => true,
+    }
+}
+
+// Two looks were at one object.
+fn is_one(found: &Metadata, other: &Metadata) -> bool {
+    found.dev() == other.dev() && found.ino() == other.ino()
+}
+
+impl<R: AllocGlobal + Files> Clone for Below<'_, R> {
+    fn clone(&self) -> Result<Self, AllocError> {
+        Ok(Below::new(self.rt))
+    }
+}
+
+impl<R: AllocGlobal> Alloc for Below<'_, R> {
+    type A = Global;
+
+    fn alloc(&self) -> Global {
+        self.rt.alloc()
+    }
+}
+
+impl<R: Clock> Clock for Below<'_, R> {
+    fn monotonic(&self) -> io::Result<Duration> {
+        self.rt.monotonic()
+    }
+
+    fn since_1970(&self) -> io::Result<Duration> {
+        self.rt.since_1970()
+    }
+}
+
+impl<R: AllocGlobal + Files> Files for Below<'_, R> {
+    type File = R::File;
+
+    type Dir = R::Dir;
+
+    fn open_file(&self, how: &OpenOptions, path: &str) -> io::Result<R::File> {
+        let way = self.way(path)?;
+        let file = self.rt.open_file(how, way.path.as_str())?;
+        if how.asks_create_new() {
+            self.note(path);
+        }
+        Ok(file)
+    }
+
+    fn open_dir(&self, path: &str) -> io::Result<R::Dir> {
+        let path = path.trim_end_matches('/');
+        if path.is_empty() {
+            return self.rt.open_dir("./");
+        }
+        let folder = self.folder(path)?;
+        let whole = format!(in self.rt.alloc(); "{}/", folder.path.as_str())?;
+        self.rt.open_dir(whole.as_str())
+    }
+
+    fn metadata(&self, path: &str) -> io::Result<Metadata> {
+        self.rt.metadata(path)
+    }
+
+    fn symlink_metadata(&self, path: &str) -> io::Result<Metadata> {
+        self.rt.symlink_metadata(path)
+    }
+
+    fn copy(&self, from: &str, to: &str) -> io::Result<u64> {
+        let (from, to) = (self.way(from)?, self.way(to)?);
+        self.rt.copy(from.path.as_str(), to.path.as_str())
+    }
+
+    fn rename(&self, from: &str, to: &str) -> io::Result<()> {
+        let (old, new) = (self.way(from)?, self.way(to)?);
+        self.rt.rename(old.path.as_str(), new.path.as_str())?;
+        self.note(to);
+        Ok(())
+    }
+
+    fn hard_link(&self, original: &str, link: &str) -> io::Result<()> {
+        let (old, new) = (self.way(original)?, self.way(link)?);
+        self.rt.hard_link(old.path.as_str(), new.path.as_str())?;
+        self.note(link);
+        Ok(())
+    }
+
+    fn remove_file(&self, path: &str) -> io::Result<()> {
+        let way = self.way(path)?;
+        self.rt.remove_file(way.path.as_str())
+    }
+
+    fn create_dir(&self, path: &str) -> io::Result<()> {
+        let way = self.way(path)?;
+        self.rt.create_dir(way.path.as_str())
+    }
+
+    fn remove_dir(&self, path: &str) -> io::Result<()> {
+        let way = self.way(path)?;
+        self.rt.remove_dir(way.path.as_str())
+    }
+
+    fn remove_dir_all<B: Allocator>(&self, alloc: B, path: &str) -> io::Result<()> {
+        let way = self.way(path)?;
+        self.rt.remove_dir_all(alloc, way.path.as_str())
+    }
+
+    fn set_permissions(&self, path: &str, permissions: Permissions) -> io::Result<()> {
+        let way = self.way(path)?;
+        self.rt.set_permissions(way.path.as_str(), permissions)
+    }
+}

@@ -1,0 +1,105 @@
+//! Whether there is room at the start for all names of a folder, and for which of its files there is none for the bytes.
+
+use crate::arrivals::{Arrival, Coming};
+use crate::faults::TransferFault;
+use crate::folders::{Kind, Look};
+use crate::mirror::Mirror;
+use crate::room::Room;
+use ados_ram::{BYTES_LIMIT, FILE_LIMIT, OBJECTS_LIMIT, Ram};
+use std::alloc::Global;
+use std::fmt;
+
+// The most objects of the Shell's files beside their root.
+const OBJECTS: usize = OBJECTS_LIMIT - 1;
+
+/// What a folder needs of the Shell's files, and what is in them already.
+#[derive(Debug, Drop)]
+pub struct Need {
+    folder: String,
+    objects: usize,
+    bytes: u64,
+    others: Room,
+}
+
+impl Need {
+    // What a folder needs, by a look at it: a file that is too large by itself is a stand-in, which needs no bytes.
+    fn of(alloc: Global, folder: &str, look: &Look, files: &Ram) -> Result<Need, TransferFault> {
+        let mut need = Need {
+            folder: String::from_str(alloc, folder)?,
+            objects: 0,
+            bytes: 0,
+            others: Room::new(alloc, files)?,
+        };
+        for seen in look.seen.values() {
+            match seen.kind {
+                Kind::Foreign => continue,
+                Kind::File { .. } if seen.stamp.size <= FILE_LIMIT as u64 => {
+                    need.bytes = need.bytes.saturating_add(seen.stamp.size);
+                }
+                Kind::File { .. } | Kind::Directory => {}
+            }
+            need.objects = need.objects.saturating_add(1);
+        }
+        Ok(need)
+    }
+
+    // There is room for each name: a name that is not there would be taken for a file that does not exist. A file without room for
+    // its bytes has a stand-in.
+    fn fits(&self) -> bool {
+        self.objects.saturating_add(self.others.objects()) <= OBJECTS
+    }
+}
+
+impl fmt::Display for Need {
+    fn fmt<W: fmt::Write>(&self, f: &mut fmt::Formatter<W>) -> Result<(), fmt::Error> {
+        let (objects, bytes) = (self.others.objects(), self.others.bytes());
+        write!(
+            f,
+            "{} does not fit: {} files and folders of at most {OBJECTS}, beside {objects} others; ",
+            self.folder, self.objects,
+        )?;
+        write!(
+            f,
+            "{} bytes of at most {BYTES_LIMIT}, beside {bytes} others (--part)",
+            self.bytes
+        )
+    }
+}
+
+impl Mirror {
+    // Whether this is the first look at the folder; if so all of it has to fit, unless a part of it is enough.
+    pub(crate) fn begins(&mut self, look: &Look, files: &Ram) -> Result<bool, TransferFault> {
+        if self.has_begun {
+            return Ok(false);
+        }
+        self.has_begun = true;
+        if !self.options.part {
+            let need = Need::of(self.alloc, self.folder.as_str(), look, files)?;
+            if !need.fits() {
+                return Err(TransferFault::DoesNotFit(need));
+            }
+        }
+        Ok(true)
+    }
+
+    // Reports in one line which files come in as stand-ins.
+    pub(crate) fn report_stand_ins(&mut self, arrivals: &[Arrival]) -> Result<(), TransferFault> {
+        let mut paths = Vec::new(self.alloc);
+        for arrival in arrivals {
+            if matches!(arrival.coming, Coming::StandIn(_)) {
+                paths.push(arrival.path.as_str())?;
+            }
+        }
+        let named = match paths.as_slice() {
+            [] => return Ok(()),
+            [one] => String::from_str(self.alloc, one)?,
+            [one, two] => format!(in self.alloc; "{one}, {two}")?,
+            [one, two, more @ ..] => {
+                let more = more.len();
+                format!(in self.alloc; "{one}, {two} and {more} more")?
+            }
+        };
+        self.reports
+            .report("too large for the Shell, stand-ins", named.as_str())
+    }
+}

@@ -1,0 +1,191 @@
+//! Bytes that this machine has in one file alone while the Shell has them outside of the directory: the file is not deleted.
+
+use crate::departure::{Departure, Departures};
+use crate::faults::TransferFault;
+use crate::folders::is_descendant;
+use crate::here::Here;
+use crate::mirror::Mirror;
+use crate::records::{Last, Records};
+use ados_ram::{FileBytes, Place, Ram};
+use ados_text::NoMemory;
+use std::alloc::Global;
+use std::collections::BTreeMap;
+use std::rt::Files;
+
+/// What is not deleted in the folder, since the Shell alone has its bytes beside.
+#[derive(Drop)]
+pub struct Waiting {
+    alloc: Global,
+    // The path in the folder and the one of the Shell, by key.
+    by_key: BTreeMap<String, (String, String)>,
+}
+
+impl Waiting {
+    /// Nothing waits.
+    pub fn new(alloc: Global) -> Waiting {
+        Waiting {
+            alloc,
+            by_key: BTreeMap::new(alloc),
+        }
+    }
+
+    /// Nothing waits.
+    pub fn is_empty(&self) -> bool {
+        self.by_key.is_empty()
+    }
+
+    // Something in a folder waits.
+    fn is_in(&self, folder: &str) -> bool {
+        self.by_key
+            .keys()
+            .any(|key| is_descendant(folder, key.as_str()))
+    }
+
+    // The line that reports what waits.
+    fn line(&self) -> Result<Option<String>, NoMemory> {
+        let Some((path, copy)) = self.by_key.values().next() else {
+            return Ok(None);
+        };
+        let more = self.by_key.len().saturating_sub(1);
+        if more == 0 {
+            return Ok(Some(format!(in self.alloc;
+                "not deleted, since its only other copy is {copy}: {path}"
+            )?));
+        }
+        Ok(Some(format!(in self.alloc;
+            "not deleted, since its only other copy is {copy}: {path} and {more} more"
+        )?))
+    }
+}
+
+// A file of the Shell that has bytes.
+#[derive(Drop)]
+struct Holder<'a> {
+    place: Place,
+    bytes: &'a FileBytes,
+}
+
+impl Mirror {
+    // Begins an update: nothing waits yet. For each file that is to be deleted the Shell's file outside of the directory is noted which has
+    // its bytes. For one that gives way to what is written in its place, or would with `dry`, only if no file in the directory has them.
+    pub(crate) fn find_copies(
+        &mut self,
+        files: &Ram,
+        departures: &mut Departures<'_>,
+    ) -> Result<(), TransferFault> {
+        self.waiting = Waiting::new(self.alloc);
+        if !departures.by_key.values().any(Departure::is_gone) {
+            return Ok(());
+        }
+        let mut outside = Vec::new(self.alloc);
+        let mut inside = Vec::new(self.alloc);
+        for place in files.contents(&Place::root(self.alloc))? {
+            let Some(bytes) = files.look(&place).and_then(|entry| entry.file()) else {
+                continue;
+            };
+            if bytes.as_bytes().is_empty() {
+                continue;
+            }
+            if place.names().starts_with(self.place.names()) {
+                inside.push(Holder { place, bytes })?;
+            } else {
+                outside.push(Holder { place, bytes })?;
+            }
+        }
+        for (key, departure) in &mut departures.by_key {
+            let is_replaced = departure.is_within_kind_change || self.options.dry;
+            if let (true, Some(bytes)) = (
+                departure.is_gone(),
+                bytes_of(&self.records, key.as_str()),
+            )
+                && !(is_replaced && first_with(inside.as_slice(), bytes).is_some())
+                && let Some(found) = first_with(outside.as_slice(), bytes)
+            {
+                let path = self.spelled(files.written(&found.place)?.names())?;
+                departure.copy = Some(format!(in self.alloc; "RAM:{path}")?);
+            }
+        }
+        Ok(())
+    }
+
+    // The bytes of an object that is to be deleted are in a file of the Shell outside of the directory, and in no other file of the
+    // folder; or it is a folder in which such a file, or a large one, stays.
+    pub(crate) fn is_last_copy<R: AllocGlobal + Files>(
+        &self,
+        rt: &R,
+        key: &str,
+        departure: &Departure<'_>,
+    ) -> Result<bool, TransferFault> {
+        let Some(record) = self.records.get(key) else {
+            return Ok(false);
+        };
+        match &record.last {
+            Last::Directory => Ok(self.waiting.is_in(key) || self.has_moved_in(key)?),
+            Last::File(bytes) if departure.copy.is_some() => {
+                Ok(!self.is_in_another(rt, key, bytes)?)
+            }
+            Last::File(_) | Last::StandIn(_) => Ok(false),
+        }
+    }
+
+    // Another file of the folder has these bytes now.
+    fn is_in_another<R: AllocGlobal + Files>(
+        &self,
+        rt: &R,
+        key: &str,
+        bytes: &FileBytes,
+    ) -> Result<bool, TransferFault> {
+        for (other, record) in &self.records {
+            if other.as_str() == key || !record.is_file_of(bytes.as_bytes()) {
+                continue;
+            }
+            let here = Here::look(rt, record.path.as_str())?;
+            if here
+                .into_bytes()
+                .is_some_and(|found| found.as_slice() == bytes.as_bytes())
+            {
+                return Ok(true);
+            }
+        }
+        Ok(false)
+    }
+
+    // Notes that an object is not deleted, since its bytes would then be only in memory.
+    pub(crate) fn wait(
+        &mut self,
+        key: &str,
+        departure: &Departure<'_>,
+    ) -> Result<(), TransferFault> {
+        if let Some(copy) = &departure.copy {
+            let path = departure.path.clone()?;
+            self.waiting
+                .by_key
+                .insert(String::from_str(self.alloc, key)?, (path, copy.clone()?))?;
+        }
+        Ok(())
+    }
+
+    // Reports at the end what is not deleted, since its bytes would be gone with the Shell's files: that of files whose only other copy is
+    // outside of the directory, and large files whose stand-ins are.
+    pub(crate) fn report_waiting(&mut self, files: &Ram) -> Result<(), TransferFault> {
+        if let Some(line) = self.waiting.line()? {
+            self.reports.report_line(line)?;
+        }
+        self.report_outside(files)
+    }
+}
+
+// The bytes of the record of a file.
+fn bytes_of<'a>(records: &'a Records, key: &str) -> Option<&'a FileBytes> {
+    match records.get(key).map(|record| &record.last) {
+        Some(Last::File(bytes)) => Some(bytes),
+        _ => None,
+    }
+}
+
+// The first file that has these bytes.
+fn first_with<'a, 'b>(holders: &'a [Holder<'b>], bytes: &FileBytes) -> Option<&'a Holder<'b>> {
+    holders
+        .iter()
+        .find(|holder| holder.bytes.as_bytes() == bytes.as_bytes())
+}

@@ -1,0 +1,134 @@
+-- A run without a shared folder is a drive; and what a run does, by its result.
+use Rattle.std.proofs.Common.{◌≡◌, ◌∙◌, ℕ, ◌+◌, ◌<◌, ◌≤◌, List, [], Bool, true, false, length, Option, Some, None, Result, Ok, Err, arith, refl, ap}
+use Rattle.std.specs.Prelude.{IsErrAnd, IfSome}
+use Rattle.ados_machine.specs.World.{WorldState}
+use Rattle.ados_launcher.specs.declared.calls.Call.{Call}
+use Rattle.ados_launch.specs.declared.driver.End.{End}
+use Rattle.ados_launch.specs.declared.faults.DriveFault.{DriveFault}
+use Rattle.ados_launch.specs.Agreement.{Agrees, AreOver, WaitsForOpen}
+use Rattle.ados_launch.specs.Deeds.{DoesByRule, bytes_of_deeds}
+use Rattle.ados_launch.specs.Drives.{Drives, HasDriveResult, ReadsWell, WritesWell}
+use Rattle.ados_launch.specs.Lines.{bytes_ahead}
+use Rattle.ados_launch.specs.Schedule.{first_schedule_state}
+use Rattle.ados_launch.specs.Session.{Moment}
+use Rattle.ados_launch.specs.Steps.{SessionState, TakesOne, is_write}
+use Rattle.ados_launch.proofs.Deeding.{written-some}
+use Rattle.ados_launch.proofs.Outcomes.{drives-end, drives-fault}
+use Rattle.ados_launch.proofs.Sessions.{Driven, driven-none}
+use Rattle.ados_launch.proofs.Stepping.{driven-step, one-counted}
+use Rattle.ados_launcher.specs.Views.{HostView}
+use Rattle.amishell_execute.specs.declared.faults.Fault.{Fault}
+use Rattle.amishell_execute.specs.declared.faults.Fault.TheVariants.{Drive}
+use Rattle.amishell_execute.specs.declared.gate.Gate.{Gate}
+use Rattle.amishell_execute.specs.Playing.{IfDriven, PlaysAlone, contents_through, drive_fault_of, may_be_cut, playing_moment}
+use Rattle.amishell_execute.specs.Prompting.{PrompterView}
+
+-- this many were taken, and nothing else was done
+pub record DrivenAlone (before now : Moment) (n : ℕ) (session : SessionState) : Type 0 where
+  pub driven : Driven before now [] n session.schedule (bytes_ahead session.held now.left)
+  pub count : session.schedule.taken ≡ n
+  pub in_round : session.schedule.round.place ≤ 61
+  pub few : length session.held < 4096
+  pub reads : ReadsWell before now
+  pub writes : WritesWell before now
+
+pub alone-none : (before : Moment) (session : SessionState) → before.left ≡ None → session.schedule ≡ first_schedule_state [] → session.held ≡ [] → Agrees before.world before.calls
+    → DrivenAlone before before 0 session
+alone-none before session unknown begins held agrees = record {
+  driven = driven-none before [] session.schedule (bytes_ahead session.held before.left) (rw held (rw unknown refl)) begins agrees;
+  count = rw begins refl;
+  in_round = rw begins (omega arith);
+  few = rw held (omega arith);
+  reads = refl;
+  writes = (refl, refl);
+}
+
+-- at the same moment
+pub alone-same : (before mid same : Moment) (n : ℕ) (was session : SessionState) → same ≡ mid → session ≡ was → DrivenAlone before mid n was → DrivenAlone before same n session
+alone-same before mid same n was session at is a = rw (at, is) a
+
+-- two moments that are alike in what is known of them
+made : WorldState → ℕ → Option (List ℕ) → ℕ → ℕ → List Call → Bool → Moment
+made w read_faults contents write_faults stalls calls is_full = record {
+  world = w;
+  left = None;
+  read_faults = read_faults;
+  contents = contents;
+  write_faults = write_faults;
+  stalls = stalls;
+  calls = calls;
+  is_full = is_full;
+}
+
+made-same : (w : WorldState) (r r' : ℕ) (c c' : Option (List ℕ)) (f f' s s' : ℕ) (calls calls' : List Call) (is_full is_full' : Bool) → r' ≡ r → c' ≡ c → f' ≡ f → s' ≡ s → calls' ≡ calls → is_full' ≡ is_full
+    → made w r' c' f' s' calls' is_full' ≡ made w r c f s calls is_full
+made-same w r r' c c' f f' s s' calls calls' is_full is_full' er ec ef es el eb = rw (er, ec, ef, es, el, eb) refl
+
+pub told-same : {K : Type 0} (contents : K → Option (List ℕ)) (write_faults stalls : K → ℕ) (w : WorldState) (reader reader' : PrompterView) (writer writer' : Gate K) (launcher launcher' : HostView)
+    → reader' ≡ reader → launcher' ≡ launcher → contents_through contents writer' ≡ contents_through contents writer → write_faults writer'.inner ≡ write_faults writer.inner → stalls writer'.inner ≡ stalls writer.inner
+    → playing_moment contents write_faults stalls w reader' writer' launcher' ≡ playing_moment contents write_faults stalls w reader writer launcher
+told-same contents write_faults stalls w reader reader' writer writer' launcher launcher' er el ec ef es =
+    made-same w reader.faults reader'.faults (contents_through contents writer) (contents_through contents writer') (write_faults writer.inner) (write_faults writer'.inner) (stalls writer.inner) (stalls writer'.inner)
+    launcher.calls launcher'.calls launcher.is_full launcher'.is_full (ap (λ r. r.faults) er) ec ef es (ap (λ l. l.calls) el) (ap (λ l. l.is_full) el)
+
+-- one more was taken
+pub alone-step : (before mid now : Moment) (n : ℕ) (was next : SessionState) → DrivenAlone before mid n was → TakesOne was next mid now → (mid.is_full ≡ true → now.is_full ≡ true)
+    → Agrees now.world now.calls → next.schedule.round.place ≤ 61 → length next.held < 4096 → DrivenAlone before now (n + 1) next
+alone-step before mid now n was next a t stays agrees in_round few = record {
+  driven = driven-step before mid now [] n was next a.driven t stays agrees;
+  count = one-counted was next mid now t ∙ ap (λ m. m + 1) a.count;
+  in_round = in_round;
+  few = few;
+  reads = t.reads_well ∙ a.reads;
+  writes = (t.writes_well.0 ∙ a.writes.0, t.writes_well.1 ∙ a.writes.1);
+}
+
+-- a fault that is the drive's
+pub fault-driven : (result : Result End Fault) (fault : DriveFault) (P : Result End DriveFault → Type 0) → IsErrAnd result (λ why. why ≡ Drive fault) → P (Err fault) → IfDriven result P
+fault-driven (Ok end) fault P is holds = absurd is
+fault-driven (Err why) fault P is holds = rw is holds
+
+-- a fault that is not
+pub undriven : (result : Result End Fault) (fault : Fault) (P : Result End DriveFault → Type 0) → IsErrAnd result (λ why. why ≡ fault) → drive_fault_of fault ≡ None → IfDriven result P
+undriven (Ok end) fault P is none = absurd is
+undriven (Err why) fault P is none = rw (is, none) tt
+
+-- what is written, by a fault that is the drive's
+pub cut-by : (result : Result End Fault) (fault : DriveFault) → IsErrAnd result (λ why. why ≡ Drive fault) → may_be_cut result ≡ is_write fault
+cut-by (Ok end) fault is = absurd is
+cut-by (Err why) fault is = rw is refl
+
+-- it came to its end, or stopped, and the open children were waited for
+pub waited-end : (turns : ℕ) (before now : Moment) (end : End) → IfDriven (Ok end) (HasDriveResult turns [] before now) → Agrees now.world now.calls → IfDriven (Ok end) (Drives turns [] before now)
+waited-end turns before now end c agrees = drives-end turns [] before now end c agrees
+
+pub waited-fault : (turns : ℕ) (before mid : Moment) (calls : List Call) (is_full : Bool) (why : Fault) → is_full ≡ mid.is_full → IfDriven (Err why) (HasDriveResult turns [] before mid)
+    → WaitsForOpen mid.calls calls → AreOver calls → IfDriven (Err why) (Drives turns [] before (record mid { calls = calls; is_full = is_full }))
+waited-fault turns before mid calls is_full why same c waits over = by-fault (drive_fault_of why) c
+  where
+    by-fault : (fault : Option DriveFault) → IfSome fault (λ f. HasDriveResult turns [] before mid (Err f)) → IfSome fault (λ f. Drives turns [] before (record mid { calls = calls; is_full = is_full }) (Err f))
+    by-fault None none = tt
+    by-fault (Some f) some = drives-fault turns [] before mid calls is_full f same some waits over
+
+-- the same for a caller that sees the world and the writer
+pub plays-alone : (turns : ℕ) (before now : Moment) (result : Result End Fault) → IfDriven result (Drives turns [] before now) → before.calls ≡ []
+    → IfDriven result (PlaysAlone before.world now.world before.contents now.contents)
+plays-alone turns before now (Ok end) d none =
+    record { turns = turns; before = before; now = now; drives = d; no_calls = none; world_is = refl; last_is = refl; contents_are = refl; contents_now_are = refl }
+plays-alone turns before now (Err why) d none = by-fault (drive_fault_of why) d
+  where
+    by-fault : (fault : Option DriveFault) → IfSome fault (λ f. Drives turns [] before now (Err f)) → IfSome fault (λ f. PlaysAlone before.world now.world before.contents now.contents (Err f))
+    by-fault None d = tt
+    by-fault (Some f) d =
+        record { turns = turns; before = before; now = now; drives = d; no_calls = none; world_is = refl; last_is = refl; contents_are = refl; contents_now_are = refl }
+
+-- some may be missing
+pub rule_cut : (is_cut : Bool) (w last : WorldState) (contents contents_now : Option (List ℕ)) → DoesByRule w last is_cut contents contents_now → DoesByRule w last true contents contents_now
+rule_cut is_cut w last contents contents_now d = record {
+  deeds = d.deeds;
+  lead = d.lead;
+  written = written-some is_cut contents contents_now (bytes_of_deeds d.deeds) d.written;
+  limits = d.limits;
+  reports = d.reports;
+  frames = d.frames;
+}

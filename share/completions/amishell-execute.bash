@@ -1,0 +1,16 @@
+# Completion of amishell-execute for bash; written by scripts/options.
+_amishell_execute() {
+    local word=${COMP_WORDS[COMP_CWORD]} before=${COMP_WORDS[COMP_CWORD - 1]}
+    COMPREPLY=()
+    case $before in
+        --hosts | --bring) mapfile -t COMPREPLY < <(compgen -f -- "$word"); return ;;
+        --share) mapfile -t COMPREPLY < <(compgen -d -- "$word"); return ;;
+        --host | --take | --type | --turns) :; return ;;
+    esac
+    if [[ $word == -* ]]; then
+        mapfile -t COMPREPLY < <(compgen -W '--hosts --host --common --bring --take --type --share --all --dry --quote --strike --strict --turns --help --version' -- "$word")
+    else
+        mapfile -t COMPREPLY < <(compgen -f -- "$word")
+    fi
+}
+complete -o filenames -F _amishell_execute amishell-execute

@@ -1,0 +1,182 @@
+"""The races: a script that changes a shared folder `f`, what another program does before one of its calls, and what then is a loss."""
+from dataclasses import dataclass, field
+from typing import Callable
+
+from rooms import FOLDER, filled
+
+LINE = "a line of another program"
+SHARED = ["--share", "f"]
+
+
+@dataclass
+class Race:
+    """A race. At most so many of its calls may lose something, each of which `named` describes: docs/EXECUTE.md names them."""
+
+    name: str
+    before: dict
+    script: str
+    act: str
+    judge: Callable
+    most: int = 0
+    named: str = ""
+    options: list = field(default_factory=lambda: ["--share", "f"])
+    prepare: str = "true"
+    is_after_start: bool = True
+
+
+def started(*lines, mark="../go"):
+    """A script; the other program acts only after its first line."""
+    return "\n".join(["FailAt 100", f'sh -c "touch {mark}"', *lines]) + "\n"
+
+
+# What another program adds to a file, or puts in its place, is lost nowhere.
+
+def seen(path, *lines):
+    """A script that shows a file before it changes it: what it saw it may change and delete."""
+    return started(f"List {path}", f"Type {path}", *lines)
+
+
+def line_is_there(trial):
+    was_seen = LINE in trial.said or "on this machine alone" in trial.said and "70000 bytes" not in trial.said
+    return None if was_seen or trial.has_line() else "the line is lost"
+
+
+def line_is_there_and_nothing_is_left(trial):
+    return line_is_there(trial) or (f"{trial.left()} is left" if trial.left() else None)
+
+
+FILES = {f"f/n{number}": f"{number}\n".encode() for number in range(3)}
+A = {"f/a": b"a\n", **FILES}
+D = {"f/d/x": b"x\n"}
+LARGE = {"f/a": filled("a", 70000)}
+INTO = [f"Rename n{number} a/n{number}" for number in range(3)]
+# The file, its path, and the script: first those in which the file is moved aside, then those in which it is deleted.
+ASIDE = [
+    ("a file that becomes a directory", "a", A, ["Rename a t", "MakeDir a", "Rename t a/t"]),
+    ("a file that becomes a directory with more in it", "a", A, ["Rename a t", "MakeDir a", "Rename t a/t", *INTO]),
+    ("a file that is deleted and becomes a directory", "a", A, ["Delete a", "MakeDir a", "Echo >a/x new", "Echo >a/y new"]),
+    ("a file that is moved out, and a directory in its place", "a", A, ["Rename a T:a", "MakeDir a", "Echo >a/x new"]),
+    ("a file in a directory that becomes a file", "d/x", D, ["Rename d/x t", "Delete d", "Rename t d"]),
+    ("a file that is lengthened", "a", A, ["Echo >>a more"]),
+    ("a file that is written over", "a", A, ["Echo >a new"]),
+    ("a file that changes places with another", "a", A, ["Rename a t", "Rename n1 a", "Rename t n1"]),
+    ("a large file that becomes a directory", "a", LARGE, ["Rename a t", "MakeDir a", "Rename t a/t"]),
+]
+DELETED = [
+    ("a file that is deleted", "a", A, ["Delete a"]),
+    ("a file that is renamed", "a", A, ["Rename a n"]),
+    ("a file that is renamed into a new directory", "a", A, ["MakeDir d", "Rename a d/a"]),
+    ("a file that is renamed and lengthened", "a", A, ["Rename a n", "Echo >>n more"]),
+    ("a file in a directory that is deleted", "d/x", D, ["Delete d ALL"]),
+    ("a file in a directory that is renamed", "d/x", D, ["Rename d e"]),
+    ("a file that is moved out", "a", A, ["Rename a T:a"]),
+    ("a large file that is renamed", "a", LARGE, ["Rename a n"]),
+    ("a large file that is deleted", "a", LARGE, ["Protect a +d", "Delete a"]),
+]
+# Nobody can see what comes in the very moment in which the last name of a file is taken away, or given to another.
+MOMENT = "(unlink|rename) "
+
+
+def added(name, path, before, lines, most):
+    return Race(f"a line is added by its name to {name}", before, seen(path, *lines), f'[ ! -d f/{path} ] && echo "{LINE}" >>f/{path}',
+                line_is_there_and_nothing_is_left, most=most, named=MOMENT)
+
+
+def added_by_a_handle(name, path, before, lines):
+    """The handle is one more name of the file, outside; only while the file has one in the folder something is added."""
+    return Race(f"a line is added by a handle to {name}", before, seen(path, *lines),
+                f'[ "$(stat -c %h held)" -gt 1 ] && echo "{LINE}" >>held', line_is_there, most=2, named=MOMENT, prepare=f"ln f/{path} held")
+
+
+def replaced(name, path, before, lines):
+    return Race(f"another file takes the place of {name}", before, seen(path, *lines),
+                f'[ ! -d f/{path} ] && echo "{LINE}" >new && mv new f/{path}', line_is_there_and_nothing_is_left, most=1, named=MOMENT)
+
+
+CHANGED = [added(*change, 0) for change in ASIDE] + [added(*change, 1) for change in DELETED]
+CHANGED += [added_by_a_handle(*change) for change in ASIDE + DELETED] + [replaced(*change) for change in ASIDE + DELETED]
+
+
+def both_stand(trial):
+    """What both made stands, or the Shell's is told to be missing."""
+    if not trial.has_line():
+        return "the line is lost"
+    is_written = any(isinstance(what, bytes) and b"of the Shell" in what for path, what in trial.stands.items() if path.startswith("f/"))
+    return None if is_written or trial.status == 125 else "what the Shell made is nowhere, and the status is not 125"
+
+
+BOTH = [Race("both make a file", FILES, started('Echo >new "of the Shell"'), f'echo "{LINE}" >>f/new', both_stand),
+        Race("both make a file of a new directory", FILES, started("MakeDir d", 'Echo >d/new "of the Shell"'),
+             f'mkdir -p f/d && echo "{LINE}" >>f/d/new', both_stand),
+        Race("both lengthen a file", A, started('Echo >>a "of the Shell"'), f'echo "{LINE}" >>f/a', both_stand)]
+
+
+# The folder, or one in it, is exchanged: nothing is written or deleted but in the one that was given.
+
+TREE = {"f/old": b"1\n", "f/d/old": b"2\n", "f/d/kept": b"3\n", "f/d/change": b"4\n", "f/d/move": b"5\n", "f/k": b"6\n", "f/g/x": b"7\n",
+        "f/e/one": b"8\n", "f/kept": b"9\n", "f/big": filled("big", 70000), "f/d/big": filled("d/big", 70000)}
+UPDATE = started("Echo >new new", "Echo >d/new new", "Delete old d/old QUIET", "Echo >d/change new", "Rename d/move d/moved", "Rename k t", "MakeDir k",
+                 "Rename t k/t", "Rename g/x t", "Delete g", "Rename t g", "Delete e ALL QUIET", "Protect big +d", "Delete big QUIET",
+                 "Rename d/big d/bigger")
+# The same objects, with the same bytes and times, where nothing may be touched.
+COPIED = "cp -a f out"
+
+
+def outside(stands):
+    """What stands outside of the folder that was given."""
+    return {path: what for path, what in stands.items() if path.startswith(("out/", "out.was/"))}
+
+
+def nothing_outside(trial, moved=lambda path: path):
+    came, wanted = ({moved(path): what for path, what in outside(stands).items()} for stands in (trial.stands, trial.before))
+    written, gone = sorted(came.keys() - wanted.keys()), sorted(wanted.keys() - came.keys())
+    changed = sorted(path for path in came.keys() & wanted.keys() if came[path] != wanted[path])
+    found = [f"{word} {paths}" for word, paths in (("written", written), ("deleted", gone), ("changed", changed)) if paths]
+    return "outside: " + ", ".join(found) if found else nothing_lost(trial)
+
+
+def nothing_lost(trial):
+    """What the script did not touch stands in the folder, wherever that is by now."""
+    stand = {what for path, what in trial.stands.items() if isinstance(what, bytes) and not path.startswith("out/")}
+    lost = [path for path in ("f/kept", "f/d/kept", "f/d/move", "f/k", "f/g/x", "f/d/big") if trial.before[path] not in stand]
+    return f"lost: {lost}" if lost else None
+
+
+EXCHANGED = [
+    Race("the folder becomes a link", TREE, UPDATE, "mv f f.was && ln -s out f", nothing_outside, prepare=COPIED),
+    Race("the folder becomes a link of other names", TREE, UPDATE, "mv f f.was && ln -s out f", nothing_outside, prepare="mkdir out"),
+    Race("the folder becomes a link and then itself again", TREE, UPDATE, "mv f f.was && ln -s out f && rm f && mv f.was f", nothing_outside,
+         prepare=COPIED),
+    Race("the folder above becomes a link", {f"up/{path}": what for path, what in TREE.items()}, UPDATE.replace("../go", "../../go"), "mv up up.was && ln -s out up",
+         lambda trial: above_outside(trial), options=["--share", "up/f"], prepare="cp -a up out"),
+    Race("a folder in it becomes a link", TREE, UPDATE, "[ -d f/d ] && mv f/d d.was && ln -s ../out/d f/d", nothing_outside, prepare=COPIED),
+    Race("a folder in it becomes a link to an empty one", TREE, UPDATE, "[ -d f/d ] && mv f/d d.was && ln -s ../out f/d", nothing_outside,
+         prepare="mkdir out"),
+    Race("a folder that is deleted becomes a link", TREE, UPDATE, "[ -d f/e ] && mv f/e e.was && ln -s ../out/e f/e", nothing_outside, prepare=COPIED),
+    Race("a folder that becomes a file becomes a link", TREE, UPDATE, "[ -d f/g ] && mv f/g g.was && ln -s ../out/g f/g", nothing_outside,
+         prepare=COPIED),
+    Race("a new folder becomes a link", TREE, UPDATE, "[ -d f/k ] && mv f/k k.was && ln -s ../out f/k", nothing_outside, prepare="mkdir out"),
+]
+
+
+def above_outside(trial):
+    came, wanted = outside(trial.stands), outside(trial.before)
+    return None if came == wanted else f"outside: {sorted(path for path in came.keys() | wanted.keys() if came.get(path) != wanted.get(path))}"
+
+
+# A file becomes a pipe. Only between the look at it and its opening nobody can see that.
+
+def ends(trial):
+    return None
+
+
+PIPES = [
+    Race("a shared file becomes a pipe", A, started("Echo >b new", "Echo >>a more", "Delete n1", "sh -c true"), "rm -f f/a && mkfifo f/a", ends,
+         most=2, named="open .*a$"),
+    Race("a shared file that is deleted becomes a pipe", A, started("Delete a", "sh -c true"), "rm -f f/a && mkfifo f/a", ends, most=2,
+         named="open .*a$"),
+    Race("a file that is brought in becomes a pipe", {"d/a": b"a\n", "d/b": b"b\n"}, "Echo hi\n", "rm -f d/a && mkfifo d/a", ends,
+         most=1, named="open .*a$", options=["--bring", "d"], is_after_start=False),
+]
+
+RACES = EXCHANGED + BOTH + CHANGED + PIPES
