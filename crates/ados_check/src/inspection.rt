@@ -3,7 +3,7 @@
 
 use crate::commands::{Word, argument_fault};
 use crate::comments::without_comment;
-use crate::directives::{Sample, is_directive, sample};
+use crate::directives::{Sample, is_directive, sample_of};
 use crate::findings::{Finding, Problem};
 use crate::lines::check;
 use crate::readings::read_line;
