@@ -42,7 +42,8 @@ class Names:
         return self.random.choice(self.files)
 
     def kept(self):
-        return self.random.choice([name for name in self.files if name not in self.moved] or ['z'])
+        """A file that was not moved away, by itself or with its directory: what takes the old place of one writes over it."""
+        return self.random.choice([name for name in self.files if not {name, name.split('/')[0]} & self.moved] or ['z'])
 
 
 def by_way_of_memory(names):

@@ -64,7 +64,13 @@ class Model:
     def is_held(self, path):
         """Whether what stood here is in T: alone."""
         text = self.last.get(path)
-        return text in self.out.values() and self.machine.get(path) == text and list(self.machine.values()).count(text) == 1
+        if text not in self.out.values() or self.machine.get(path) != text:
+            return False
+        others = [one for one, value in self.machine.items() if one != path and value == text]
+        if any(self.last.get(one) != text for one in others):
+            # the Shell does not know yet that there is another
+            raise Unsure
+        return not others
 
     def write_out(self, meanwhile=False):
         """What is new is written first, then what changed, unless it writes over what was moved to one that could not be written; then

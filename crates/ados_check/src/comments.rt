@@ -1,12 +1,14 @@
 //! A line without its comment, as the Shell reads it.
 ghost use Rattle.std.specs.Prelude.{◌≡◌};
+ghost use Rattle.ados_text.specs.Text.{IsText};
 ghost use Rattle.ados_line.specs.Comment.{comment_start, without_comment};
 
 use ados_items::{Item, between, next_item};
 
 /// A line without its comment, which begins at the first `;` outside quotes; a quote that is not closed takes the rest of the line.
 pub fn without_comment(line: &[u8]) -> &[u8]
-    ensures { result.now ≡ without_comment line.now }
+    ensures value { result.now ≡ without_comment line.now }
+    ensures ascii { IsText line.now → IsText result.now }
 {
     between(line, 0, comment_start(line))
 }

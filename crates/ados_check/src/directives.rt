@@ -19,7 +19,7 @@ pub enum Sample {
 }
 
 /// The lines of a script, as it is written and by its bytes, with some arguments.
-pub fn sample(alloc: Global, written: &[Text], bytes: &[u8]) -> Result<Sample, NoMemory> {
+pub fn sample_of(alloc: Global, written: &[Text], bytes: &[u8]) -> Result<Sample, NoMemory> {
     let key = key_line(written);
     let args = match key {
         Some((_, template)) => sample_args(alloc, template)?,

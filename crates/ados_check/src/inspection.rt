@@ -2,7 +2,8 @@
 //! or on what commands print.
 
 use crate::commands::{Word, argument_fault};
-use crate::directives::{Sample, is_directive, sample};
+use crate::comments::without_comment;
+use crate::directives::{Sample, is_directive, sample_of};
 use crate::findings::{Finding, Problem};
 use crate::lines::check;
 use crate::readings::read_line;
@@ -27,7 +28,7 @@ pub fn inspect(alloc: Global, commands: &Commands, bytes: &[u8]) -> Result<Vec<F
     if !is_dotted(bytes) {
         push_idle_directives(written.as_slice(), &mut found)?;
     }
-    match sample(alloc, written.as_slice(), bytes)? {
+    match sample_of(alloc, written.as_slice(), bytes)? {
         Sample::Unknown => {}
         Sample::Bad(finding) => found.push(finding)?,
         Sample::Lines(lines) => {
@@ -74,10 +75,14 @@ struct Look<'a> {
 
 impl Look<'_> {
     fn all_lines(&mut self) -> Result<(), NoMemory> {
+        let mut is_gathered = false;
         for place in 0..self.written.len() {
             let number = place.saturating_add(1);
             self.look_at_block(number)?;
-            self.look_at_line(number)?;
+            if !is_gathered {
+                self.look_at_line(number)?;
+            }
+            is_gathered = self.script.line(number).is_some_and(ends_in_plus);
         }
         Ok(())
     }
@@ -218,6 +223,11 @@ impl Look<'_> {
         }
         self.push(number, problem)
     }
+}
+
+// The line may be one of Run, which takes the next one too.
+fn ends_in_plus(line: &Text) -> bool {
+    trimmed(without_comment(line.as_bytes())).ends_with(b"+")
 }
 
 // What a line is for a jump depends on the arguments of the script.

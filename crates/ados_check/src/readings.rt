@@ -8,6 +8,7 @@ ghost use Rattle.ados_line.specs.Cut.{cut_of, expanded_of_cut};
 ghost use Rattle.ados_line.specs.Expansion.{expand_raw_line};
 ghost use Rattle.ados_line.specs.Values.{Variables};
 ghost use Rattle.ados_vars.specs.Vars.{Pairs};
+ghost use Rattle.ados_check.specs.Readings.{is_marked};
 
 use crate::comments::without_comment;
 use ados_line::{Expanded, LineFault, cut};
@@ -17,7 +18,6 @@ use std::alloc::Global;
 /// What a line is read as; `None` if that depends on variables or on the output of a command: it has a `$` or a back-tick.
 ///
 /// The fault is `LineTooLong` for more than 512 bytes, and otherwise that of the cut.
-#[tactic(auto, using(crate::proofs::ReadingLemmas::long_line, crate::proofs::ReadingLemmas::plain_line))]
 pub fn read_line(alloc: Global, raw: &Text) -> Option<Result<Expanded, LineFault>>
     // Each shell reads it so that has no alias for its first word.
     ensures { IfSome result (λ read. (aliases : Pairs) (variables : Variables) → with_alias aliases (without_comment raw.now) ≡ without_comment raw.now
@@ -28,10 +28,17 @@ pub fn read_line(alloc: Global, raw: &Text) -> Option<Result<Expanded, LineFault
         return Some(Err(LineFault::LineTooLong));
     }
     let line = without_comment(bytes);
-    if line.contains(&b'$') || line.contains(&b'`') {
+    if is_marked(line) {
         return None;
     }
     Some(cut_bytes(alloc, line))
+}
+
+// The line has a `$` or a back-tick.
+fn is_marked(line: &[u8]) -> bool
+    ensures { result ≡ is_marked line.now }
+{
+    line.contains(&b'$') || line.contains(&b'`')
 }
 
 // What a line without comment, alias, variables and back-ticks is read as.

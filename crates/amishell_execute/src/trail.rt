@@ -103,11 +103,13 @@ fn is_tick(frame: Option<&Frame>) -> bool {
 fn script_at(frames: &[Frame], newer: usize) -> Option<&Script>
     ensures { option_map (λ script. script.now) result ≡ script_at (reverse frames.now) newer }
 {
-    let (frame, older) = frames.split_last()?;
-    match frame.script_line() {
-        Some((script, _)) if newer == 0 => Some(script),
-        Some(_) => script_at(older, newer - 1),
-        None => script_at(older, newer),
+    match frames.split_last() {
+        None => None,
+        Some((frame, older)) => match frame.script_line() {
+            Some((script, _)) if newer == 0 => Some(script),
+            Some(_) => script_at(older, newer - 1),
+            None => script_at(older, newer),
+        },
     }
 }
 

@@ -1,0 +1,110 @@
+#!/usr/bin/env python3
+"""Checks the scripts of all documents and dialogues by amishell-execute --check: it accuses just the lines that are listed here, each
+of which fails in its document or dialogue.
+
+usage: examples/execute/check_scripts.py PROGRAM
+
+A document has a script as a block "file NAME", a dialogue as lines "> Echo >NAME text" and "> Echo >>NAME text". The last line is
+'N passed, M failed', over the scripts.
+"""
+import glob
+import os
+import re
+import subprocess
+import sys
+import tempfile
+
+ROOT = os.path.dirname(os.path.dirname(os.path.dirname(os.path.realpath(__file__))))
+
+# By document or dialogue and script: the lines that fail whenever they are taken.
+WRONG = {
+    ("COMMANDS.md", "S:count"): [8],
+    ("LANGUAGE.md", "S:searched"): [3],
+    ("bad_directives.dialogue", "S:foo"): [1],
+    ("bad_directives.dialogue", "S:directive"): [2],
+    ("deepest.dialogue", "S:bad"): [1],
+    ("if_faults.dialogue", "S:two"): [6, 7],
+    ("if_faults.dialogue", "S:value"): [2, 3],
+    ("key_faults.dialogue", "S:bad1"): [1],
+    ("key_faults.dialogue", "S:bad2"): [1],
+    ("key_faults.dialogue", "S:bad3"): [1],
+    ("key_faults.dialogue", "S:bad4"): [1],
+    ("nothing_found.dialogue", "S:else"): [3],
+    ("nothing_found.dialogue", "S:skip"): [2],
+    ("nothing_found.dialogue", "S:ill"): [3],
+    ("quit_through.dialogue", "S:bad"): [2, 3, 4],
+    ("script_codes.dialogue", "S:open"): [1],
+    ("skip.dialogue", "S:y"): [1],
+    ("skip_back.dialogue", "S:f"): [2],
+    ("skip_labels.dialogue", "S:i"): [2, 7],
+    ("skip_labels.dialogue", "S:h"): [2],
+    ("tick_flow.dialogue", "S:known"): [1],
+}
+
+
+def unescaped(text):
+    """What the text of a quoted word is."""
+    signs = {"n": "\n", "N": "\n", "e": "\x1b", "E": "\x1b"}
+    return re.sub(r"\*(.)", lambda m: signs.get(m[1], m[1]), text)
+
+
+def of_document(path):
+    """The scripts of a document, by name."""
+    with open(path, encoding="utf-8") as file:
+        text = file.read()
+    return {m[1]: m[2] for m in re.finditer(r"^```file (\S+)\n(.*?)^```$", text, re.M | re.S)}
+
+
+def of_dialogue(path):
+    """The scripts that the typed lines of a dialogue make, by name."""
+    scripts = {}
+    with open(path, encoding="latin-1") as file:
+        for line in file:
+            m = re.match(r"> Echo >(>?)(S:\S+) (.*)$", line.rstrip("\n"))
+            if not m:
+                continue
+            text = m[3]
+            if len(text) > 1 and text[0] == text[-1] == '"':
+                text = unescaped(text[1:-1])
+            elif re.search(r'["`$]', text):
+                continue
+            scripts[m[2]] = (scripts.get(m[2], "") if m[1] else "") + text + "\n"
+    return scripts
+
+
+def accused(program, room, script):
+    """The lines that the program accuses."""
+    path = os.path.join(room, "script")
+    with open(path, "w", encoding="latin-1") as file:
+        file.write(script)
+    came = subprocess.run([program, "--check", path], capture_output=True, timeout=60).stdout.decode("latin-1")
+    return [int(m[1]) for m in re.finditer(r"^.*?:(\d+): error: ", came, re.M)]
+
+
+def main():
+    if len(sys.argv) != 2:
+        sys.exit(__doc__)
+    program = os.path.realpath(sys.argv[1])
+    sources = [(path, of_document(path)) for path in sorted(glob.glob(f"{ROOT}/docs/*.md")) + [f"{ROOT}/README.md"]]
+    sources += [(path, of_dialogue(path)) for path in sorted(glob.glob(f"{ROOT}/tests/dialogues/*.dialogue"))]
+    passed = failed = 0
+    unseen = set(WRONG)
+    with tempfile.TemporaryDirectory() as room:
+        for path, scripts in sources:
+            for name, script in scripts.items():
+                key = (os.path.basename(path), name)
+                unseen.discard(key)
+                came = accused(program, room, script)
+                if came == WRONG.get(key, []):
+                    passed += 1
+                else:
+                    failed += 1
+                    print(f"{key[0]}, {name}: FAILED ({came} are accused)")
+    for key in sorted(unseen):
+        failed += 1
+        print(f"{key[0]}, {key[1]}: FAILED (there is no such script)")
+    print(f"{passed} passed, {failed} failed")
+    sys.exit(failed > 0)
+
+
+main()
