@@ -1,5 +1,5 @@
 -- A run without a shared folder is a drive; and what a run does, by its result.
-use Rattle.std.proofs.Common.{◌≡◌, ◌∙◌, ℕ, ◌+◌, ◌<◌, ◌≤◌, List, [], Bool, true, false, length, Option, Some, None, Result, Ok, Err, arith, refl, ap}
+use Rattle.std.proofs.Common.{◌≡◌, ◌∙◌, ℕ, ◌+◌, ◌<◌, ◌≤◌, List, [], Bool, true, length, Option, Some, None, Result, Ok, Err, arith, refl, ap}
 use Rattle.std.specs.Prelude.{IsErrAnd, IfSome}
 use Rattle.ados_machine.specs.World.{WorldState}
 use Rattle.ados_launcher.specs.declared.calls.Call.{Call}

@@ -1,4 +1,3 @@
-use Rattle.std.proofs.Common.{[]}
 use Rattle.ados_launch.proofs.ActsLaws.{does-by-rule}
 use Rattle.amishell_execute.specs.Playing.{playing_moment}
 use Rattle.amishell_execute.proofs.Driving.{waited-end, waited-fault}
