@@ -120,7 +120,7 @@ impl Look<'_> {
         ) else {
             return Ok(());
         };
-        if written != line || self.is_alias(first_word(trimmed(line.as_bytes()))) {
+        if *written != *line || self.is_alias(first_word(trimmed(line.as_bytes()))) {
             return Ok(());
         }
         match read_line(self.alloc, written) {
