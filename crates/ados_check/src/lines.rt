@@ -1,5 +1,5 @@
 //! The check of a script's lines, all problems in their order.
-ghost use Rattle.std.specs.Prelude.{◌≡◌, ◌<◌, ◌+◌, ℕ, true, length, map, IfOk, OnOk, is_none, false};
+ghost use Rattle.std.specs.Prelude.{◌≡◌, ◌<◌, ◌+◌, [], ℕ, true, get_or, length, map, IfOk, OnOk, is_none, false};
 ghost use Rattle.std.specs.List.{slice_split};
 ghost use Rattle.ados_text.specs.Lines.{is_newline};
 ghost use Rattle.ados_check.specs.Signs.{Keeps, file_line, has_sign, is_dotted, is_named};
@@ -29,7 +29,7 @@ pub fn check(
     let is_dotted = is_dotted(bytes);
     let in_file = lines_in(alloc, bytes)?;
     for place in 0..lines.len() {
-        let written = in_file.get(place).copied().unwrap_or(&[]);
+        let written = line_at(&in_file, place);
         push_problem(&mut found, place + 1, sign_in(is_dotted, written))?;
         push_options(aliases, place + 1, &lines[place], &mut found)?;
     }
@@ -41,6 +41,16 @@ fn lines_in(alloc: Global, bytes: &[u8]) -> Result<Vec<&[u8]>, AllocError>
     ensures { IfOk result (λ lines. map (λ line. line.now) lines.items ≡ slice_split is_newline bytes.now) }
 {
     bytes.split(|byte| *byte == b'\n').collect(alloc)
+}
+
+// The line of a number, from 0; empty past the last.
+fn line_at<'a>(lines: &[&'a [u8]], place: usize) -> &'a [u8]
+    ensures { result.now ≡ get_or (map (λ line. line.now) lines.now) place [] }
+{
+    match lines.get(place) {
+        Some(line) => line,
+        None => &[],
+    }
 }
 
 // Adds the problem of a line, if it has one.
