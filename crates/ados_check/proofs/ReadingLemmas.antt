@@ -1,6 +1,5 @@
 -- What a line without variables and back-ticks is read as.
-use Rattle.std.proofs.Common.{ℕ, zero, suc, ◌≡◌, ◌∙◌, ◌==◌, ◌≤◌, ◌<◌, List, [], ◌∷◌, Result, Ok, Err, true, false, length, take, nat_lt, refl, ap, arith}
-use Rattle.std.specs.List.{list_any}
+use Rattle.std.proofs.Common.{ℕ, zero, suc, ◌≡◌, ◌∙◌, ◌≤◌, ◌<◌, List, [], ◌∷◌, Err, true, false, length, take, nat_lt, refl, ap, arith}
 use Rattle.std.proofs.lemmas.Bool.{or_parts}
 use Rattle.std.proofs.lemmas.Bool.Decides.{nat_tests}
 use Rattle.ados_text.specs.Text.{Text, IsText}
@@ -9,7 +8,7 @@ use Rattle.ados_line.specs.declared.faults.LineFault.TheVariants.{LineTooLong}
 use Rattle.ados_line.specs.Alias.{with_alias}
 use Rattle.ados_line.specs.Comment.{without_comment, comment_start}
 use Rattle.ados_line.specs.Cut.{cut_of, expanded_of_cut, line_limit}
-use Rattle.ados_line.specs.Expansion.{expand_raw_line, expanded_line, then_read, read_rest_of_text}
+use Rattle.ados_line.specs.Expansion.{expand_raw_line, expanded_line, then_read}
 use Rattle.ados_line.specs.Answers.{within_line_limit}
 use Rattle.ados_line.specs.Values.{Variables}
 use Rattle.ados_line.proofs.UnmarkedLemmas.{no_values, no_ticks}

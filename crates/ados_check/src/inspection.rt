@@ -7,6 +7,7 @@ use crate::directives::{Sample, is_directive, sample_of};
 use crate::findings::{Finding, Problem};
 use crate::lines::check;
 use crate::readings::read_line;
+use crate::renames::makes_alias;
 use crate::signs::is_dotted;
 use ados_items::{first_word, rest_of, trimmed};
 use ados_line::{Expanded, Line, LineFault};
@@ -120,7 +121,7 @@ impl Look<'_> {
         ) else {
             return Ok(());
         };
-        if *written != *line || self.is_alias(first_word(trimmed(line.as_bytes()))) {
+        if *written != *line || makes_alias(self.written, first_word(trimmed(line.as_bytes()))) {
             return Ok(());
         }
         match read_line(self.alloc, written) {
@@ -132,16 +133,6 @@ impl Look<'_> {
             Some(Err(fault)) => self.push(number, Problem::Line(fault)),
             Some(Ok(_)) | None => Ok(()),
         }
-    }
-
-    // A line of the script makes an alias of this word, or of one that is not known.
-    fn is_alias(&self, word: &[u8]) -> bool {
-        self.written.iter().any(|line| {
-            let line = trimmed(line.as_bytes());
-            let name = first_word(rest_of(line));
-            same_name(first_word(line), b"Alias")
-                && (same_name(name, word) || name.contains(&b'<') || name.contains(&b'$'))
-        })
     }
 
     // Looks at the command of a line.

@@ -171,8 +171,8 @@ fn command_in(
     Ok(None)
 }
 
-// The text for which a word stands, if it is an alias.
-fn alias_text<'a>(
+/// The text for which a word stands, if it is an alias.
+pub fn alias_text<'a>(
     alloc: Global,
     aliases: &'a Aliases,
     word: &[u8],

@@ -11,6 +11,7 @@ mod left_out;
 mod lines;
 mod readings;
 mod release_two;
+mod renames;
 mod signs;
 
 pub use findings::{Finding, Problem};

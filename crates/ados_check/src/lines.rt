@@ -6,6 +6,7 @@ ghost use Rattle.ados_check.specs.Signs.{Keeps, file_line, has_sign, is_dotted, 
 
 use crate::findings::{Finding, Problem};
 use crate::left_out::options_left_out;
+use crate::renames::renames_printers;
 use crate::signs::{is_dotted, sign_in};
 use ados_text::{NoMemory, Text};
 use ados_vars::Aliases;
@@ -28,9 +29,11 @@ pub fn check(
     let mut found = Vec::new(alloc);
     let is_dotted = is_dotted(bytes);
     let in_file = lines_in(alloc, bytes)?;
+    let is_told_only = !renames_printers(alloc, aliases, lines)?;
     for place in 0..lines.len() {
         let written = line_at(&in_file, place);
-        push_problem(&mut found, place + 1, sign_in(is_dotted, written))?;
+        let problem = judged(sign_in(is_dotted, written), is_told_only);
+        push_problem(&mut found, place + 1, problem)?;
         push_options(aliases, place + 1, &lines[place], &mut found)?;
     }
     Ok(found)
@@ -50,6 +53,16 @@ fn line_at<'a>(lines: &[&'a [u8]], place: usize) -> &'a [u8]
     match lines.get(place) {
         Some(line) => line,
         None => &[],
+    }
+}
+
+// The problem of a line in a script in which Echo and Ask only print their words, or may do something else.
+fn judged(problem: Option<Problem>, is_told_only: bool) -> Option<Problem>
+    ensures { is_none result ≡ is_none problem }
+{
+    match problem {
+        Some(Problem::PrintedByte(byte)) if !is_told_only => Some(Problem::NotAscii(byte)),
+        other => other,
     }
 }
 

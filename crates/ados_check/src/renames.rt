@@ -1,0 +1,44 @@
+//! Which words are other commands in a script than the Shell's own.
+
+use crate::left_out::alias_text;
+use ados_items::{first_word, rest_of, trimmed};
+use ados_text::{NoMemory, Text, same_name};
+use ados_vars::Aliases;
+use std::alloc::Global;
+
+/// A line of a script makes an alias of this word, or of one that is not known before it runs.
+pub fn makes_alias(lines: &[Text], word: &[u8]) -> bool {
+    lines.iter().any(|line| {
+        let line = trimmed(line.as_bytes());
+        let name = first_word(rest_of(line));
+        same_name(first_word(line), b"Alias")
+            && (same_name(name, word) || name.contains(&b'<') || name.contains(&b'$'))
+    })
+}
+
+/// Echo or Ask may be another command in a script: an alias of its shell or its own, or a file in the place of one that it takes off the
+/// resident list.
+pub fn renames_printers(
+    alloc: Global,
+    aliases: &Aliases,
+    lines: &[Text],
+) -> Result<bool, NoMemory> {
+    Ok(
+        is_renamed(alloc, aliases, lines, b"Echo")?
+            || is_renamed(alloc, aliases, lines, b"Ask")?
+            || lines.iter().any(|line| same_name(
+                first_word(trimmed(line.as_bytes())),
+                b"Resident",
+            )),
+    )
+}
+
+// A word is an alias of the shell, or the script makes it one.
+fn is_renamed(
+    alloc: Global,
+    aliases: &Aliases,
+    lines: &[Text],
+    word: &[u8],
+) -> Result<bool, NoMemory> {
+    Ok(alias_text(alloc, aliases, word)?.is_some() || makes_alias(lines, word))
+}
