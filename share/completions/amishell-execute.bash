@@ -5,10 +5,10 @@ _amishell_execute() {
     case $before in
         --hosts | --bring) mapfile -t COMPREPLY < <(compgen -f -- "$word"); return ;;
         --share) mapfile -t COMPREPLY < <(compgen -d -- "$word"); return ;;
-        --host | --take | --type | --turns) :; return ;;
+        --host | --take | --type | --answer | --turns | --seconds | --error | --ok-below) :; return ;;
     esac
     if [[ $word == -* ]]; then
-        mapfile -t COMPREPLY < <(compgen -W '--hosts --host --common --bring --take --type --share --all --dry --quote --strike --strict --turns --help --version' -- "$word")
+        mapfile -t COMPREPLY < <(compgen -W '--hosts --host --common --bring --take --type --share --all --part --dry --quote --strike --check --ascii-marks --lenient --strict --answer --turns --seconds --error --ok-below --quiet --trace --help --version' -- "$word")
     else
         mapfile -t COMPREPLY < <(compgen -f -- "$word")
     fi
