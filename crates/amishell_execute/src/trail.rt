@@ -1,5 +1,5 @@
 //! The scripts of each shell, whose lines are kept from their beginning until their end is reported.
-ghost use Rattle.std.specs.Prelude.{◌≡◌, option_map, reverse, OnOk};
+ghost use Rattle.std.specs.Prelude.{◌≡◌, ◌++◌, option_map, reverse, OnOk};
 ghost use Rattle.amishell_execute.specs.Ends.{kept_after, script_at};
 
 use ados_flow::{Frame, FrameKind};
@@ -84,11 +84,19 @@ impl Kept {
     {
         self.goes_on = is_tick(self.frames.get(frames.len()));
         self.frames.truncate(frames.len());
-        for frame in frames.get(self.frames.len()..).unwrap_or(&[]) {
-            self.frames.push(frame.share()?)?;
-        }
-        Ok(())
+        let begun = frames.get(self.frames.len()..).unwrap_or(&[]);
+        share_into(&mut self.frames, begun)
     }
+}
+
+// Appends shares of frames to a list.
+fn share_into(kept: &mut Vec<Frame>, frames: &[Frame]) -> Result<(), NoMemory>
+    ensures { OnOk result (kept.new.items ≡ kept.old.items ++ frames.now) }
+{
+    for frame in frames {
+        kept.push(frame.share()?)?;
+    }
+    Ok(())
 }
 
 // The frame is one of a command substitution.
