@@ -56,8 +56,8 @@ fn line_fault(alloc: Global, file: &str, line: usize, bytes: &[u8]) -> Result<Fa
 fn line_reason(alloc: Global, before: &[Text], words: &[u8]) -> Result<String, NoMemory> {
     let name = first_word(words);
     let host = HostEntry {
-        name: Text::of_ascii(alloc, name)?,
-        program: Text::of_ascii(alloc, rest_of(words))?,
+        name: Text::from_bytes(alloc, name)?,
+        program: Text::from_bytes(alloc, rest_of(words))?,
     };
     if host.program.as_bytes().is_empty() {
         let name = shown(&host.name);

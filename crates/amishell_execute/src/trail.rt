@@ -1,6 +1,6 @@
 //! The scripts of each shell, whose lines are kept from their beginning until their end is reported.
-ghost use Rattle.std.specs.Prelude.{◌≡◌, ◌++◌, option_map, reverse, OnOk};
-ghost use Rattle.amishell_execute.specs.Ends.{kept_after, script_at};
+ghost use Rattle.std.specs.Prelude.{◌≡◌, ◌++◌, OnOk};
+ghost use Rattle.amishell_execute.specs.Ends.kept_after;
 
 use ados_flow::{Frame, FrameKind};
 use ados_script::Script;
@@ -51,7 +51,7 @@ impl Trail {
     /// The newest script of a shell, or the one that has this many newer ones.
     pub fn script(&self, shell: u8, newer: usize) -> Option<&Script> {
         let kept = self.shells.get(usize::from(shell))?;
-        script_at(kept.frames.as_slice(), newer)
+        kept.frames.iter().rev().filter_map(script_of).nth(newer)
     }
 
     /// The name of the oldest script of a shell.
@@ -107,18 +107,10 @@ fn is_tick(frame: Option<&Frame>) -> bool {
     }
 }
 
-// The newest script of some frames, the newest of which is the last, or the one that has this many newer ones.
-fn script_at(frames: &[Frame], newer: usize) -> Option<&Script>
-    ensures { option_map (λ script. script.now) result ≡ script_at (reverse frames.now) newer }
-{
-    match frames.split_last() {
-        None => None,
-        Some((frame, older)) => match frame.script_line() {
-            Some((script, _)) if newer == 0 => Some(script),
-            Some(_) => script_at(older, newer - 1),
-            None => script_at(older, newer),
-        },
-    }
+// The lines of the script that a frame is.
+fn script_of(frame: &Frame) -> Option<&Script> {
+    let (script, _) = frame.script_line()?;
+    Some(script)
 }
 
 /// The name of the script that a frame is.
