@@ -1,6 +1,6 @@
 //! The scripts of each shell, whose lines are kept from their beginning until their end is reported.
 ghost use Rattle.std.specs.Prelude.{◌≡◌, ◌++◌, OnOk};
-ghost use Rattle.amishell_execute.specs.Ends.kept_after;
+ghost use Rattle.amishell_execute.specs.Ends.{kept_after};
 
 use ados_flow::{Frame, FrameKind};
 use ados_script::Script;
