@@ -98,15 +98,21 @@ CHANGED += [added_by_a_handle(*change) for change in ASIDE + DELETED] + [replace
 
 
 def both_stand(trial):
-    """What both made stands, or the Shell's is told to be missing."""
+    """What both made stands, or the Shell's is told to be missing, or the script saw the other's and made nothing."""
     if not trial.has_line():
         return "the line is lost"
+    if "theirs" in trial.said:
+        return None
     is_written = any(isinstance(what, bytes) and b"of the Shell" in what for path, what in trial.stands.items() if path.startswith("f/"))
     return None if is_written or trial.status == 125 else "what the Shell made is nowhere, and the status is not 125"
 
 
-BOTH = [Race("both make a file", FILES, started('Echo >new "of the Shell"'), f'echo "{LINE}" >>f/new', both_stand),
-        Race("both make a file of a new directory", FILES, started("MakeDir d", 'Echo >d/new "of the Shell"'),
+def unless_there(path):
+    return [f"If NOT EXISTS {path}", f'Echo >{path} "of the Shell"', "Else", "Echo theirs", "EndIf"]
+
+
+BOTH = [Race("both make a file", FILES, started(*unless_there("new")), f'echo "{LINE}" >>f/new', both_stand),
+        Race("both make a file of a new directory", FILES, started("MakeDir d", *unless_there("d/new")),
              f'mkdir -p f/d && echo "{LINE}" >>f/d/new', both_stand),
         Race("both lengthen a file", A, started('Echo >>a "of the Shell"'), f'echo "{LINE}" >>f/a', both_stand)]
 
@@ -172,7 +178,7 @@ def ends(trial):
 
 PIPES = [
     Race("a shared file becomes a pipe", A, started("Echo >b new", "Echo >>a more", "Delete n1", "sh -c true"), "rm -f f/a && mkfifo f/a", ends,
-         most=2, named="open .*a$"),
+         most=3, named="open .*a$"),
     Race("a shared file that is deleted becomes a pipe", A, started("Delete a", "sh -c true"), "rm -f f/a && mkfifo f/a", ends, most=2,
          named="open .*a$"),
     Race("a file that is brought in becomes a pipe", {"d/a": b"a\n", "d/b": b"b\n"}, "Echo hi\n", "rm -f d/a && mkfifo d/a", ends,
