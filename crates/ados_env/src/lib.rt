@@ -18,6 +18,7 @@ mod fail_at;
 mod fault;
 mod globals;
 mod operators;
+mod options;
 mod pairs;
 mod path;
 mod reads;

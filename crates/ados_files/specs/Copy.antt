@@ -1,5 +1,5 @@
 -- Copy: files to a file or into a directory.
-use Rattle.std.specs.Prelude.{Bool, true, false, not, cond, ◌&&◌, List, [], ◌∷◌, ◌++◌, codes, Option, Some, None, if◌then◌else◌}
+use Rattle.std.specs.Prelude.{Bool, true, false, not, cond, ◌&&◌, ◌||◌, List, [], ◌∷◌, ◌++◌, codes, Option, Some, None, if◌then◌else◌}
 use Rattle.std.specs.Option.{option_or}
 use Rattle.std.specs.FinMap as map
 use Rattle.ados_text.specs.Text.{Bytes, Text}
@@ -8,11 +8,12 @@ use Rattle.ados_text.specs.declared.codes.TheConstants.Result2.{ARGUMENT_MISSING
 use Rattle.ados_readargs.specs.declared.args.Arg.{Arg}
 use Rattle.ados_readargs.specs.Args.{option_texts, option_text, has_switch}
 use Rattle.ados_ram.specs.Place.{Place, key_of, last_name, is_same_key}
-use Rattle.ados_ram.specs.Entry.{is_directory, bytes_of}
+use Rattle.ados_ram.specs.Entry.{is_directory, bytes_of, fresh_bits}
 use Rattle.ados_ram.specs.Files.{Files, is_some_file, is_some_directory}
 use Rattle.ados_ram.specs.InUse.{InUse, is_output}
-use Rattle.ados_ram.specs.FileOperations.{read_fault, write_as_of, write_fault}
+use Rattle.ados_ram.specs.FileOperations.{comment_fault, comment_of, protect_fault, protect_of, read_fault, write_as_of, write_fault}
 use Rattle.ados_ram.specs.Written.{full_path}
+use Rattle.ados_ram.specs.declared.entries.Bits.{Bits}
 use Rattle.ados_ram.specs.declared.entries.Entry.{Entry}
 use Rattle.ados_find.specs.Codes.{fail_codes}
 use Rattle.ados_find.specs.Shared.{SharedState, with_files}
@@ -24,7 +25,9 @@ use Rattle.ados_files.specs.Names.{FoundPlaces}
 use Rattle.ados_files.specs.MakeDir.{make_one}
 use Rattle.ados_files.specs.Lines.{say}
 use Rattle.ados_files.specs.Jobs.{sources_of, all_jobs, target_jobs}
+use Rattle.ados_files.specs.declared.copy_one.Manner.{Manner}
 use Rattle.ados_files.specs.declared.jobs.Job.{Job}
+use Rattle.ados_files.specs.declared.options.TheConstants.{COPY_FROM, COPY_TO, COPY_ALL, COPY_QUIET, COPY_CLONE, COPY_COM, COPY_NOPRO}
 
 -- the directories between a place and one below it, from the top down
 abbrev pub middle_directories : Place → Place → List Place
@@ -52,29 +55,69 @@ copy_fault busy files source target =
 abbrev pub copied_line : Files → Place → Bytes
 copied_line files source = full_path files source ++ codes "..copied\n"
 
--- the bytes are written; a new file takes the source's bits and no comment
-abbrev pub copy_written : View → Bool → Place → Place → Entry → Done → Done
-copy_written view quiet source target e done =
-    refused_or (write_fault (is_output view.busy (key_of target)) done.shared.files (key_of target) (last_name target) (bytes_of e)) done
+-- how files are copied: CLONE and COM take the source's comment, CLONE without NOPRO takes its bits, and with NOPRO a new
+-- file takes those of a new object
+abbrev pub manner_of : List Arg → Manner
+manner_of args = record {
+  quiet = has_switch args COPY_QUIET;
+  comment = has_switch args COPY_CLONE || has_switch args COPY_COM;
+  bits = has_switch args COPY_CLONE && not (has_switch args COPY_NOPRO);
+  fresh = has_switch args COPY_NOPRO;
+}
+
+-- the bytes are written; a new file takes the source's bits, or fresh ones, and no comment
+abbrev pub new_bits : Manner → Entry → Bits
+new_bits manner e = if manner.fresh then fresh_bits else e.bits
+
+abbrev pub written_files : Manner → Files → Place → Entry → Files
+written_files manner files target e = write_as_of files (key_of target) (last_name target) (bytes_of e) (new_bits manner e)
+
+-- a change of the target alone is made unless it is refused; of a file that was just written none is, as its comment was a
+-- file's before
+abbrev pub files_unless : Option Result2 → Files → Files → Files
+files_unless None files changed = changed
+files_unless (Some fault) files changed = files
+
+-- the target, new or not, takes the source's comment
+abbrev pub noted_files : Bool → Files → Place → Entry → Files
+noted_files comment files target e =
+    if comment then files_unless (comment_fault files (key_of target) e.comment) files (comment_of files (key_of target) e.comment) else files
+
+-- and its bits, bit a included
+abbrev pub cloned_files : Bool → Files → Place → Entry → Files
+cloned_files bits files target e =
+    if bits then files_unless (protect_fault files (key_of target)) files (protect_of files (key_of target) e.bits) else files
+
+-- the files with a copy of an entry; the fault is that of writing
+abbrev pub copied_files : Manner → Files → Place → Entry → Files
+copied_files manner files target e =
+    cloned_files manner.bits (noted_files manner.comment (written_files manner files target e) target e) target e
+
+abbrev pub copied_fault : InUse → Files → Place → Entry → Option Result2
+copied_fault busy files target e = write_fault (is_output busy (key_of target)) files (key_of target) (last_name target) (bytes_of e)
+
+abbrev pub copy_written : View → Manner → Place → Place → Entry → Done → Done
+copy_written view manner source target e done =
+    refused_or (copied_fault view.busy done.shared.files target e) done
     (record done {
-      shared = with_files done.shared (write_as_of done.shared.files (key_of target) (last_name target) (bytes_of e) e.bits);
-      output = say quiet done.output (copied_line done.shared.files source);
+      shared = with_files done.shared (copied_files manner done.shared.files target e);
+      output = say manner.quiet done.output (copied_line done.shared.files source);
     })
 
-abbrev pub copy_unless : View → Bool → Place → Place → Entry → Done → Done
-copy_unless view quiet source target e done = unless_stopped done.stopped done (copy_written view quiet source target e done)
+abbrev pub copy_unless : View → Manner → Place → Place → Entry → Done → Done
+copy_unless view manner source target e done = unless_stopped done.stopped done (copy_written view manner source target e done)
 
 -- the source, if it exists, is copied to a place below TO: missing directories are created, and it is written
-abbrev pub copy_entry : View → Bool → Place → Done → Job → Option Entry → Done
-copy_entry view quiet to done job None = done
-copy_entry view quiet to done job (Some e) =
-    copy_unless view quiet job.source (to ++ job.names) e (act_on_each make_missing done (middle_directories to job.names))
+abbrev pub copy_entry : View → Manner → Place → Done → Job → Option Entry → Done
+copy_entry view manner to done job None = done
+copy_entry view manner to done job (Some e) =
+    copy_unless view manner job.source (to ++ job.names) e (act_on_each make_missing done (middle_directories to job.names))
 
 -- one file is copied, unless it is refused
-abbrev pub copy_one : View → Bool → Place → Done → Job → Done
-copy_one view quiet to done job =
+abbrev pub copy_one : View → Manner → Place → Done → Job → Done
+copy_one view manner to done job =
     refused_or (copy_fault view.busy done.shared.files job.source (to ++ job.names)) done
-    (copy_entry view quiet to done job (map.get done.shared.files (key_of job.source)))
+    (copy_entry view manner to done job (map.get done.shared.files (key_of job.source)))
 
 -- the entry at the source, if there is just one that is named by its path
 abbrev pub first_entry : Files → List Place → Option Entry
@@ -92,33 +135,33 @@ target_directory false to done None = refused_or (Some DIRECTORY_NOT_FOUND) done
 target_directory false to done (Some e) = ensure_directory done to (Some e)
 
 -- files are copied into a directory; the list of them is made before the first write
-abbrev pub copy_to_directory : View → Bool → Bool → FoundPlaces → Done → Place → Done
-copy_to_directory view all quiet found done to = (let files = done.shared.files in
-    act_on_each (copy_one view quiet to) (target_directory (is_some_directory (one_entry files found)) to done (map.get files (key_of to))) (all_jobs all files found.places))
+abbrev pub copy_to_directory : View → Bool → Manner → FoundPlaces → Done → Place → Done
+copy_to_directory view all manner found done to = (let files = done.shared.files in
+    act_on_each (copy_one view manner to) (target_directory (is_some_directory (one_entry files found)) to done (map.get files (key_of to))) (all_jobs all files found.places))
 
 -- just one file, and a TO that is not a directory: TO itself is written
 abbrev pub is_onto : Files → FoundPlaces → Place → Bool
 is_onto files found to = is_some_file (one_entry files found) && not (is_some_directory (map.get files (key_of to)))
 
-abbrev pub copy_found : View → Bool → Bool → FoundPlaces → Done → Place → Done
-copy_found view all quiet found done to =
-    if is_onto done.shared.files found to then act_on_each (copy_one view quiet to) done (target_jobs found.places)
-    else copy_to_directory view all quiet found done to
+abbrev pub copy_found : View → Bool → Manner → FoundPlaces → Done → Place → Done
+copy_found view all manner found done to =
+    if is_onto done.shared.files found to then act_on_each (copy_one view manner to) done (target_jobs found.places)
+    else copy_to_directory view all manner found done to
 
-abbrev pub copy_to_place : SharedState → View → Bool → Bool → FoundPlaces → Place → Effect
-copy_to_place shared view all quiet found to = end_effect (copy_found view all quiet found (fresh_work shared) to)
+abbrev pub copy_to_place : SharedState → View → Bool → Manner → FoundPlaces → Place → Effect
+copy_to_place shared view all manner found to = end_effect (copy_found view all manner found (fresh_work shared) to)
 
 -- first the sources are looked up, then TO
-abbrev pub copy_into_target : SharedState → View → Bool → Bool → Text → FoundPlaces → Effect
-copy_into_target shared view all quiet to found =
-    if_found (codes_effect shared) (place_of shared view.parts.directory to) (copy_to_place shared view all quiet found)
+abbrev pub copy_into_target : SharedState → View → Bool → Manner → Text → FoundPlaces → Effect
+copy_into_target shared view all manner to found =
+    if_found (codes_effect shared) (place_of shared view.parts.directory to) (copy_to_place shared view all manner found)
 
 -- without FROM an argument is missing; the template ensures that TO is not
-abbrev pub copy_by_texts : SharedState → View → Bool → Bool → List Text → Text → Effect
-copy_by_texts shared view all quiet [] to = codes_effect shared (fail_codes ARGUMENT_MISSING)
-copy_by_texts shared view all quiet (text ∷ texts) to =
-    if_found (codes_effect shared) (sources_of shared view.parts.directory (text ∷ texts)) (copy_into_target shared view all quiet to)
+abbrev pub copy_by_texts : SharedState → View → Bool → Manner → List Text → Text → Effect
+copy_by_texts shared view all manner [] to = codes_effect shared (fail_codes ARGUMENT_MISSING)
+copy_by_texts shared view all manner (text ∷ texts) to =
+    if_found (codes_effect shared) (sources_of shared view.parts.directory (text ∷ texts)) (copy_into_target shared view all manner to)
 
 abbrev pub copy_row : SharedState → View → List Arg → Effect
 copy_row shared view args =
-    if_given (codes_effect shared) (option_text args 1) (copy_by_texts shared view (has_switch args 2) (has_switch args 3) (option_texts args 0))
+    if_given (codes_effect shared) (option_text args COPY_TO) (copy_by_texts shared view (has_switch args COPY_ALL) (manner_of args) (option_texts args COPY_FROM))

@@ -12,6 +12,7 @@ use Rattle.ados_find.specs.Paths.{place_of}
 use Rattle.ados_files.specs.Acts.{at_names}
 use Rattle.ados_files.specs.Delete.{delete_place}
 use Rattle.ados_files.specs.Names.{FoundPlaces, named_places}
+use Rattle.ados_files.specs.declared.options.TheConstants.{COPY_TO}
 
 -- the key is at a place or below it, if there is one
 abbrev pub is_under : Result Place Codes → Key → Bool
@@ -41,7 +42,7 @@ is_under_worked act view done (text ∷ texts) key =
 
 -- Copy: TO, and what is below it
 abbrev pub copy_may_change : SharedState → View → List Arg → Key → Bool
-copy_may_change shared view args key = is_under_path shared view (option_text args 1) key
+copy_may_change shared view args key = is_under_path shared view (option_text args COPY_TO) key
 
 -- Delete: the objects that its arguments name when the turn of each comes, and what is below them
 abbrev pub delete_may_change : SharedState → View → List Arg → Key → Bool

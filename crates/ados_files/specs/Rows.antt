@@ -7,6 +7,8 @@ use Rattle.ados_find.specs.Views.{View}
 use Rattle.ados_find.specs.Effects.{Effect}
 use Rattle.ados_resident.specs.declared.commands.FilesCommand.{FilesCommand}
 use Rattle.ados_resident.specs.declared.commands.FilesCommand.TheVariants as files
+use Rattle.ados_resident.specs.declared.dialects.Dialect.{Dialect}
+use Rattle.ados_resident.specs.declared.dialects.Dialect.TheVariants.{Core, Full}
 use Rattle.ados_files.specs.MakeDir.{make_dir_row}
 use Rattle.ados_files.specs.Delete.{delete_row}
 use Rattle.ados_files.specs.TypeFiles.{type_row}
@@ -18,18 +20,28 @@ use Rattle.ados_files.specs.Rename.{rename_row}
 use Rattle.ados_files.specs.Join.{join_row}
 use Rattle.ados_files.specs.Copy.{copy_row}
 
--- the text of a command's template
-abbrev pub template_of : FilesCommand → Text
-template_of files.Copy = codes "FROM/M,TO/A,ALL/S,QUIET/S"
-template_of files.Delete = codes "FILE/M/A,ALL/S,QUIET/S"
-template_of files.Dir = codes "DIR,DIRS/S,FILES/S"
-template_of files.Filenote = codes "FILE/A,COMMENT"
-template_of files.Join = codes "FILE/M/A,AS=TO/K/A"
-template_of files.List = codes "DIR/M,P=PAT/K,QUICK/S,FILES/S,DIRS/S"
-template_of files.MakeDir = codes "NAME/M"
-template_of files.Protect = codes "FILE/A,FLAGS,ADD/S,SUB/S"
-template_of files.Rename = codes "FROM/A,TO=AS/A"
-template_of files.«Type» = codes "FROM/A/M"
+-- the text of a command's template in Core
+abbrev pub core_template_of : FilesCommand → Text
+core_template_of files.Copy = codes "FROM/M,TO/A,ALL/S,QUIET/S"
+core_template_of files.Delete = codes "FILE/M/A,ALL/S,QUIET/S"
+core_template_of files.Dir = codes "DIR,DIRS/S,FILES/S"
+core_template_of files.Filenote = codes "FILE/A,COMMENT"
+core_template_of files.Join = codes "FILE/M/A,AS=TO/K/A"
+core_template_of files.List = codes "DIR/M,P=PAT/K,QUICK/S,FILES/S,DIRS/S"
+core_template_of files.MakeDir = codes "NAME/M"
+core_template_of files.Protect = codes "FILE/A,FLAGS,ADD/S,SUB/S"
+core_template_of files.Rename = codes "FROM/A,TO=AS/A"
+core_template_of files.«Type» = codes "FROM/A/M"
+
+-- in Full it has more options behind those
+abbrev pub full_template_of : FilesCommand → Text
+full_template_of files.Copy = codes "FROM/M,TO/A,ALL/S,QUIET/S,CLONE/S,COM/S,NOPRO/S,DATES/S,NOREQ/S,BUF=BUFFER/K/N"
+full_template_of command = core_template_of command
+
+-- the text of a command's template in a dialect
+abbrev pub template_of : Dialect → FilesCommand → Text
+template_of Core command = core_template_of command
+template_of Full command = full_template_of command
 
 -- the definition of a command
 abbrev pub row_of : FilesCommand → SharedState → View → List Arg → Effect

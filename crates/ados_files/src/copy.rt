@@ -6,12 +6,13 @@ ghost use Rattle.ados_ram.specs.Files.{is_some_file};
 ghost use Rattle.ados_find.specs.Done.{done_of};
 ghost use Rattle.ados_find.specs.Shared.{version};
 ghost use Rattle.ados_find.specs.Effects.{effect_of};
-ghost use Rattle.ados_files.specs.Copy.{target_directory, copy_to_directory, is_onto, one_entry, copy_found, copy_into_target, copy_row};
+ghost use Rattle.ados_files.specs.Copy.{manner_of, target_directory, copy_to_directory, is_onto, one_entry, copy_found, copy_into_target, copy_row};
 
 use crate::acts::done_with;
-use crate::copy_one::{Copying, MakingMissing};
+use crate::copy_one::{Copying, MakingMissing, Manner};
 use crate::jobs::{all_jobs, jobs_onto, sources_of};
 use crate::names::Found;
+use crate::options::{COPY_ALL, COPY_CLONE, COPY_COM, COPY_FROM, COPY_NOPRO, COPY_QUIET, COPY_TO};
 use crate::rename::is_directory;
 use ados_find::{
     Act, Codes, CommandResult, Outcome, Shared, ShellView, Work, current, each, place_of,
@@ -26,10 +27,10 @@ use std::slice;
 pub fn copy_files(alloc: Global, shared: &Shared, view: &ShellView, args: &Args) -> CommandResult
     ensures { IfOk result (λ outcome. effect_of shared.now outcome ≡ copy_row shared.now view.now args.now) }
 {
-    let Some(to) = args.made_text(alloc, 1)? else {
+    let Some(to) = args.made_text(alloc, COPY_TO)? else {
         return Ok(Outcome::missing(alloc));
     };
-    let texts = args.made_texts(alloc, 0)?;
+    let texts = args.made_texts(alloc, COPY_FROM)?;
     let texts = texts.as_slice();
     if texts.is_empty() {
         return Ok(Outcome::missing(alloc));
@@ -39,12 +40,26 @@ pub fn copy_files(alloc: Global, shared: &Shared, view: &ShellView, args: &Args)
         Ok(found) => {
             let copy = Copy {
                 view,
-                all: args.has_switch(2),
-                quiet: args.has_switch(3),
+                all: args.has_switch(COPY_ALL),
+                manner: manner_of(args),
                 found,
             };
             copied_to(alloc, shared, &copy, &to)
         }
+    }
+}
+
+// How files are copied.
+fn manner_of(args: &Args) -> Manner
+    ensures { result ≡ manner_of args.now }
+{
+    let clone = args.has_switch(COPY_CLONE);
+    let fresh = args.has_switch(COPY_NOPRO);
+    Manner {
+        quiet: args.has_switch(COPY_QUIET),
+        comment: clone || args.has_switch(COPY_COM),
+        bits: clone && !fresh,
+        fresh,
     }
 }
 
@@ -53,12 +68,12 @@ pub fn copy_files(alloc: Global, shared: &Shared, view: &ShellView, args: &Args)
 pub struct Copy<'a> {
     pub view: &'a ShellView<'a>,
     pub all: bool,
-    pub quiet: bool,
+    pub manner: Manner,
     pub found: Found,
 }
 
 impl<'a> Act<Place> for Copy<'a> {
-    ghost act = { λ s. copy_found s.view.now s.all s.quiet s.found };
+    ghost act = { λ s. copy_found s.view.now s.all s.manner s.found };
 
     fn act(&self, shared: &Shared, work: &mut Work, to: &Place) -> Result<(), NoMemory> {
         let alloc = *work.output.allocator();
@@ -68,7 +83,7 @@ impl<'a> Act<Place> for Copy<'a> {
         let jobs = jobs_onto(alloc, self.found.places())?;
         let act = Copying {
             view: self.view,
-            quiet: self.quiet,
+            manner: self.manner,
             to,
         };
         each(&act, shared, work, &jobs)
@@ -77,7 +92,7 @@ impl<'a> Act<Place> for Copy<'a> {
 
 fn copied_to(alloc: Global, shared: &Shared, copy: &Copy, to: &Text) -> CommandResult
     ensures { IfOk result (λ outcome. effect_of shared.now outcome ≡
-        copy_into_target shared.now copy.now.view.now copy.now.all copy.now.quiet to.now copy.now.found) }
+        copy_into_target shared.now copy.now.view.now copy.now.all copy.now.manner to.now copy.now.found) }
 {
     let view = copy.view;
     match place_of(alloc, shared, view.directory, to) {
@@ -124,7 +139,7 @@ fn copy_to_directory(
     to: &Place,
 ) -> Result<(), NoMemory>
     ensures { OnOk result (done_of shared.now work.new ≡
-        copy_to_directory copy.now.view.now copy.now.all copy.now.quiet copy.now.found (done_of shared.now work.old) to.now) }
+        copy_to_directory copy.now.view.now copy.now.all copy.now.manner copy.now.found (done_of shared.now work.old) to.now) }
 {
     let alloc = *work.output.allocator();
     let ram = &current(shared, &work.shared).ram;
@@ -133,7 +148,7 @@ fn copy_to_directory(
     target_directory(one, to, shared, work)?;
     let act = Copying {
         view: copy.view,
-        quiet: copy.quiet,
+        manner: copy.manner,
         to,
     };
     each(&act, shared, work, &jobs)

@@ -1,29 +1,45 @@
 // The copying of one file.
-ghost use Rattle.std.specs.Prelude.{◌≡◌, ◌++◌, OnOk};
+ghost use Rattle.std.specs.Prelude.{◌≡◌, ◌++◌, Option, IfOk, OnOk};
 ghost use Rattle.std.specs.FinMap as map;
 ghost use Rattle.ados_ram.specs.Place.{key_of};
+ghost use Rattle.ados_ram.specs.Files.{Files};
+ghost use Rattle.ados_text.specs.Stop.{Answers};
+ghost use Rattle.ados_text.specs.declared.codes.Result2.{Result2};
 ghost use Rattle.ados_find.specs.Done.{done_of, act_on_each};
 ghost use Rattle.ados_find.specs.Shared.{version};
-ghost use Rattle.ados_files.specs.Copy.{middle_directories, make_missing, copy_fault, copy_written, copy_unless, copy_entry, copy_one};
+ghost use Rattle.ados_files.specs.Copy.{middle_directories, make_missing, copy_fault, files_unless, new_bits, noted_files, cloned_files, copied_files, copied_fault, copy_written, copy_unless, copy_entry, copy_one};
 
 use crate::acts::go_on_saying;
 use crate::jobs::Job;
 use crate::make_dir::Making;
 use ados_find::{Act, Codes, Shared, ShellView, Work, current, each};
-use ados_ram::{Busy, Entry, Place, Ram};
-use ados_text::{Name, NoMemory, Result2};
+use ados_ram::{Bits, Busy, Entry, Place, Ram};
+use ados_text::{Name, NoMemory, Result2, Stop};
 use std::slice;
+
+/// How files are copied.
+#[derive(Clone, Copy)]
+pub struct Manner {
+    /// Nothing is reported.
+    pub quiet: bool,
+    /// The target takes the source's comment.
+    pub comment: bool,
+    /// The target takes the source's bits, bit a included.
+    pub bits: bool,
+    /// A new file has the bits of a new object.
+    pub fresh: bool,
+}
 
 /// The copying of a file to a place below another.
 #[derive(Drop)]
 pub struct Copying<'a> {
     pub view: &'a ShellView<'a>,
-    pub quiet: bool,
+    pub manner: Manner,
     pub to: &'a Place,
 }
 
 impl<'a> Act<Job> for Copying<'a> {
-    ghost act = { λ s. copy_one s.view.now s.quiet s.to.now };
+    ghost act = { λ s. copy_one s.view.now s.manner s.to.now };
 
     fn act(&self, shared: &Shared, work: &mut Work, job: &Job) -> Result<(), NoMemory> {
         let view = self.view;
@@ -59,7 +75,7 @@ fn copy_entry(
 ) -> Result<(), NoMemory>
     requires { target.now ≡ copying.now.to.now ++ job.now.names }
     ensures { OnOk result (done_of shared.now work.new ≡
-        copy_entry copying.now.view.now copying.now.quiet copying.now.to.now (done_of shared.now work.old) job.now
+        copy_entry copying.now.view.now copying.now.manner copying.now.to.now (done_of shared.now work.old) job.now
         (map.get (version shared.now work.old.shared).files (key_of job.now.source))) }
 {
     match current(shared, &work.shared).ram.look(&job.source) {
@@ -81,7 +97,7 @@ fn copy_below(
     entry: &Entry,
 ) -> Result<(), NoMemory>
     ensures { OnOk result (done_of shared.now work.new ≡
-        copy_unless copying.now.view.now copying.now.quiet job.now.source target.now entry.now
+        copy_unless copying.now.view.now copying.now.manner job.now.source target.now entry.now
         (act_on_each make_missing (done_of shared.now work.old) (middle_directories copying.now.to.now job.now.names))) }
 {
     make_between(copying.to, shared, work, job)?;
@@ -145,10 +161,87 @@ fn copy_written(
     entry: &Entry,
 ) -> Result<(), NoMemory>
     ensures { OnOk result (done_of shared.now work.new ≡
-        copy_written copying.now.view.now copying.now.quiet source.now target.now entry.now (done_of shared.now work.old)) }
+        copy_written copying.now.view.now copying.now.manner source.now target.now entry.now (done_of shared.now work.old)) }
 {
     let ram = &current(shared, &work.shared).ram;
     let view = copying.view;
-    let change = ram.write_as(&view.busy, target, entry.bytes(), entry.bits);
-    go_on_saying(shared, work, change, copying.quiet, source, b"..copied\n")
+    let change = copied(&view.busy, copying.manner, ram, target, entry);
+    go_on_saying(
+        shared,
+        work,
+        change,
+        copying.manner.quiet,
+        source,
+        b"..copied\n",
+    )
+}
+
+// The files with a copy of an entry.
+fn copied(
+    busy: &Busy,
+    manner: Manner,
+    ram: &Ram,
+    target: &Place,
+    entry: &Entry,
+) -> Result<Ram, Stop>
+    ensures ok { IfOk result (λ new. new ≡ copied_files manner ram.now target.now entry.now) }
+    ensures fault { Answers result (copied_fault busy.now ram.now target.now entry.now) }
+{
+    match ram.write_as(busy, target, entry.bytes(), new_bits(manner, entry)) {
+        Err(stop) => Err(stop),
+        Ok(written) => Ok(changed(manner, written, target, entry)?),
+    }
+}
+
+// The target takes of the source what the manner says.
+fn changed(manner: Manner, ram: Ram, target: &Place, entry: &Entry) -> Result<Ram, NoMemory>
+    ensures { IfOk result (λ new. new ≡ cloned_files manner.bits (noted_files manner.comment ram target.now entry.now) target.now entry.now) }
+{
+    let noted = noted(manner.comment, ram, target, entry)?;
+    cloned(manner.bits, noted, target, entry)
+}
+
+// The bits of a new file.
+fn new_bits(manner: Manner, entry: &Entry) -> Bits
+    ensures { result ≡ new_bits manner entry.now }
+{
+    if manner.fresh {
+        Bits::FRESH
+    } else {
+        entry.bits
+    }
+}
+
+// The target takes the source's comment, or not.
+fn noted(comment: bool, ram: Ram, target: &Place, entry: &Entry) -> Result<Ram, NoMemory>
+    ensures { IfOk result (λ new. new ≡ noted_files comment ram target.now entry.now) }
+{
+    if !comment {
+        return Ok(ram);
+    }
+    let change = ram.comment(target, &entry.comment);
+    unless_refused(ram, change)
+}
+
+// The target takes the source's bits, or not.
+fn cloned(bits: bool, ram: Ram, target: &Place, entry: &Entry) -> Result<Ram, NoMemory>
+    ensures { IfOk result (λ new. new ≡ cloned_files bits ram target.now entry.now) }
+{
+    if !bits {
+        return Ok(ram);
+    }
+    let change = ram.protect(target, entry.bits);
+    unless_refused(ram, change)
+}
+
+// The changed files, or the same if the change is refused.
+fn unless_refused(ram: Ram, change: Result<Ram, Stop>) -> Result<Ram, NoMemory>
+    ensures { (fault : Option Result2) → (files : Files) → Answers change fault → IfOk change (λ new. new ≡ files) →
+        IfOk result (λ new. new ≡ files_unless fault ram files) }
+{
+    match change {
+        Ok(changed) => Ok(changed),
+        Err(Stop::Refused(_)) => Ok(ram),
+        Err(Stop::NoMemory) => Err(NoMemory),
+    }
 }

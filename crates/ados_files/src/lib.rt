@@ -16,6 +16,7 @@ mod lines;
 mod listing;
 mod make_dir;
 mod names;
+mod options;
 mod protect;
 mod rename;
 mod rows;

@@ -1,7 +1,7 @@
 // The outcome of each command.
 ghost use Rattle.std.specs.Prelude.{◌≡◌, IfOk};
 ghost use Rattle.ados_find.specs.Effects.{effect_of};
-ghost use Rattle.ados_files.specs.Rows.{row_of, template_of};
+ghost use Rattle.ados_files.specs.Rows.{row_of, core_template_of, full_template_of, template_of};
 
 use crate::copy::copy_files;
 use crate::delete::delete;
@@ -15,7 +15,7 @@ use crate::rename::rename_object;
 use crate::type_files::type_files;
 use ados_find::{CommandResult, Shared, ShellView};
 use ados_readargs::Args;
-use ados_resident::{Builtin, FilesCommand};
+use ados_resident::{Builtin, Dialect, FilesCommand};
 use std::alloc::Global;
 
 /// The commands of this crate, in the order in which they are declared.
@@ -32,9 +32,19 @@ pub const COMMANDS: [Builtin; 10] = [
     Builtin::Files(FilesCommand::Type),
 ];
 
-/// The text of a command's template.
-pub fn template(command: FilesCommand) -> &'static str
-    ensures { result.now ≡ template_of command }
+/// The text of a command's template in a dialect.
+pub fn template(dialect: Dialect, command: FilesCommand) -> &'static str
+    ensures { result.now ≡ template_of dialect command }
+{
+    match dialect {
+        Dialect::Core => core_template(command),
+        Dialect::Full => full_template(command),
+    }
+}
+
+/// The text of a command's template in Core.
+fn core_template(command: FilesCommand) -> &'static str
+    ensures { result.now ≡ core_template_of command }
 {
     match command {
         FilesCommand::Copy => "FROM/M,TO/A,ALL/S,QUIET/S",
@@ -47,6 +57,25 @@ pub fn template(command: FilesCommand) -> &'static str
         FilesCommand::Protect => "FILE/A,FLAGS,ADD/S,SUB/S",
         FilesCommand::Rename => "FROM/A,TO=AS/A",
         FilesCommand::Type => "FROM/A/M",
+    }
+}
+
+/// The text of a command's template in Full.
+fn full_template(command: FilesCommand) -> &'static str
+    ensures { result.now ≡ full_template_of command }
+{
+    match command {
+        FilesCommand::Copy =>
+            "FROM/M,TO/A,ALL/S,QUIET/S,CLONE/S,COM/S,NOPRO/S,DATES/S,NOREQ/S,BUF=BUFFER/K/N",
+        FilesCommand::Delete
+        | FilesCommand::Dir
+        | FilesCommand::Filenote
+        | FilesCommand::Join
+        | FilesCommand::List
+        | FilesCommand::MakeDir
+        | FilesCommand::Protect
+        | FilesCommand::Rename
+        | FilesCommand::Type => core_template(command),
     }
 }
 

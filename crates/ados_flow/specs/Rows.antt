@@ -8,6 +8,8 @@ use Rattle.ados_find.specs.Shared.{SharedState}
 use Rattle.ados_find.specs.Views.{View}
 use Rattle.ados_resident.specs.declared.commands.FlowCommand.{FlowCommand}
 use Rattle.ados_resident.specs.declared.commands.FlowCommand.TheVariants as flow
+use Rattle.ados_resident.specs.declared.dialects.Dialect.{Dialect}
+use Rattle.ados_resident.specs.declared.dialects.Dialect.TheVariants.{Core, Full}
 use Rattle.ados_flow.specs.Actions.{Action, Does}
 use Rattle.ados_flow.specs.Ask.{ask_row}
 use Rattle.ados_flow.specs.Branches.{if_row, else_row, skip_row}
@@ -15,17 +17,26 @@ use Rattle.ados_flow.specs.Execute.{execute_row}
 use Rattle.ados_flow.specs.Frames.{ScriptLine}
 use Rattle.ados_flow.specs.Quit.{quit_row}
 
--- the text of a command's template
-abbrev pub template_of : FlowCommand → Text
-template_of flow.Ask = codes "PROMPT/A"
-template_of flow.Else = []
-template_of flow.EndIf = []
-template_of flow.EndSkip = []
-template_of flow.Execute = codes "FILE/A,ARGS/F"
-template_of flow.If = codes "NOT/S,WARN/S,ERROR/S,FAIL/S,,EQ/K,GT/K,GE/K,VAL/S,EXISTS/K"
-template_of flow.Lab = codes "LABEL/F"
-template_of flow.Quit = codes "RC/N"
-template_of flow.Skip = codes "LABEL,BACK/S"
+-- the text of a command's template in Core
+abbrev pub core_template_of : FlowCommand → Text
+core_template_of flow.Ask = codes "PROMPT/A"
+core_template_of flow.Else = []
+core_template_of flow.EndIf = []
+core_template_of flow.EndSkip = []
+core_template_of flow.Execute = codes "FILE/A,ARGS/F"
+core_template_of flow.If = codes "NOT/S,WARN/S,ERROR/S,FAIL/S,,EQ/K,GT/K,GE/K,VAL/S,EXISTS/K"
+core_template_of flow.Lab = codes "LABEL/F"
+core_template_of flow.Quit = codes "RC/N"
+core_template_of flow.Skip = codes "LABEL,BACK/S"
+
+-- in Full it is the same
+abbrev pub full_template_of : FlowCommand → Text
+full_template_of command = core_template_of command
+
+-- the text of a command's template in a dialect
+abbrev pub template_of : Dialect → FlowCommand → Text
+template_of Core command = core_template_of command
+template_of Full command = full_template_of command
 
 -- a command that only marks its line
 abbrev pub marker_action : SharedState → Action

@@ -4,7 +4,7 @@ ghost use Rattle.std.specs.Option.{option_copied};
 ghost use Rattle.ados_find.specs.Views.{IgnoresShells};
 ghost use Rattle.ados_flow.specs.Actions.{action_effect};
 ghost use Rattle.ados_flow.specs.Frames.{script_line_of};
-ghost use Rattle.ados_flow.specs.Rows.{row_of, template_of};
+ghost use Rattle.ados_flow.specs.Rows.{row_of, core_template_of, full_template_of, template_of};
 
 use crate::actions::Action;
 use crate::ask::ask;
@@ -14,7 +14,7 @@ use crate::frames::Frame;
 use crate::quit::quit;
 use ados_find::{Codes, Shared, ShellView};
 use ados_readargs::Args;
-use ados_resident::{Builtin, FlowCommand};
+use ados_resident::{Builtin, Dialect, FlowCommand};
 use ados_text::NoMemory;
 use std::alloc::Global;
 
@@ -31,9 +31,19 @@ pub const COMMANDS: [Builtin; 9] = [
     Builtin::Flow(FlowCommand::Skip),
 ];
 
-/// The text of a command's template.
-pub fn template(command: FlowCommand) -> &'static str
-    ensures { result.now ≡ template_of command }
+/// The text of a command's template in a dialect.
+pub fn template(dialect: Dialect, command: FlowCommand) -> &'static str
+    ensures { result.now ≡ template_of dialect command }
+{
+    match dialect {
+        Dialect::Core => core_template(command),
+        Dialect::Full => full_template(command),
+    }
+}
+
+/// The text of a command's template in Core.
+fn core_template(command: FlowCommand) -> &'static str
+    ensures { result.now ≡ core_template_of command }
 {
     match command {
         FlowCommand::Ask => "PROMPT/A",
@@ -43,6 +53,23 @@ pub fn template(command: FlowCommand) -> &'static str
         FlowCommand::Lab => "LABEL/F",
         FlowCommand::Quit => "RC/N",
         FlowCommand::Skip => "LABEL,BACK/S",
+    }
+}
+
+/// The text of a command's template in Full.
+fn full_template(command: FlowCommand) -> &'static str
+    ensures { result.now ≡ full_template_of command }
+{
+    match command {
+        FlowCommand::Ask
+        | FlowCommand::Else
+        | FlowCommand::EndIf
+        | FlowCommand::EndSkip
+        | FlowCommand::Execute
+        | FlowCommand::If
+        | FlowCommand::Lab
+        | FlowCommand::Quit
+        | FlowCommand::Skip => core_template(command),
     }
 }
 

@@ -1,5 +1,6 @@
 -- The laws of the machine, applied to sessions.
 use Rattle.std.specs.Prelude.{◌≡◌, ◌⊎◌, ◌++◌, ℕ, List, [], Bool, true, Option, Some}
+use Rattle.ados_resident.specs.declared.dialects.Dialect.{Dialect}
 use Rattle.ados_resident.specs.declared.hosts.HostEntry.{HostEntry}
 use Rattle.ados_machine.specs.declared.events.BreakAt.{BreakAt}
 use Rattle.ados_machine.specs.World.{WorldState, fresh_world}
@@ -30,7 +31,7 @@ SessionsEndFramesOnce = (w : WorldState) (left : Option (List ℕ)) (breaks : Li
 
 -- a fresh world and a launcher without a call agree
 abbrev pub NewPairsAgree : Type 0
-NewPairsAgree = (w : WorldState) (hosts : List HostEntry) (calls : List Call) → w ≡ fresh_world hosts → calls ≡ [] → Agrees w calls
+NewPairsAgree = (w : WorldState) (dialect : Dialect) (hosts : List HostEntry) (calls : List Call) → w ≡ fresh_world dialect hosts → calls ≡ [] → Agrees w calls
 
 -- the one is a prefix of the other
 abbrev pub IsPrefixOfTaken : List TakenItem → List TakenItem → Type 0

@@ -114,7 +114,7 @@ after-all w (Err refusal) (Accepted world given items) all keeps = all
 after-all w (Err refusal) (Refused why) all keeps = all
 
 pub fresh-all : FreshWorldsHaveAllCodes
-fresh-all hosts = refl
+fresh-all dialect hosts = refl
 
 pub events-keep-all : EventsKeepAllCodes
 events-keep-all w event out all = after-all w out (step_of w event) all (step-all w event all)

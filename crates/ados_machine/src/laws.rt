@@ -42,6 +42,7 @@ ghost use Rattle.ados_machine.specs.Starts.{FailedStartsChangeTheCodes, FailedSt
 ghost use Rattle.ados_machine.specs.LoneReports.{AloneTellsReports};
 ghost use Rattle.ados_machine.specs.Typing.{LinesAreTakenIn, FullQueuesTakeNoLine};
 ghost use Rattle.ados_machine.specs.World.{fresh_world};
+ghost use Rattle.ados_resident.specs.declared.dialects.Dialect.{Dialect};
 ghost use Rattle.ados_resident.specs.declared.hosts.HostEntry.{HostEntry};
 ghost use Rattle.std.specs.Prelude.{List};
 
@@ -57,7 +58,7 @@ pub fn scripts_end_where_the_rule_says()
 /// does, and no event leaves one. So too each background shell runs a frame, and each shell has
 /// the number of its place.
 pub fn no_script_continues_after_a_failure()
-    ensures fresh { (hosts : List HostEntry) → IsSane (fresh_world hosts) }
+    ensures fresh { (dialect : Dialect) (hosts : List HostEntry) → IsSane (fresh_world dialect hosts) }
     ensures kept { EventsKeepWorldsSane }
 {}
 

@@ -14,6 +14,7 @@ use crate::seen::open_outputs;
 use crate::suspensions::Suspension;
 use ados_line::Line;
 use ados_machine::{Asking, Builtin, Wait, template};
+use ados_resident::Dialect;
 use ados_text::{NoMemory, Stop, Text, Texts};
 use std::alloc::Global;
 
@@ -85,7 +86,8 @@ impl Draft {
         ensures { HasEnded scene.now self.old self.new line.now.command result
             (prompt_completion builtin line.now (here_in scene.now self.old) (course_of scene.now self.old) (option_map (λ l. l.now) input.entry)) }
     {
-        push_prompt(&mut self.printed, builtin)?;
+        let dialect = self.current(scene).dialect;
+        push_prompt(&mut self.printed, dialect, builtin)?;
         match input {
             None => {
                 let line = line.copy()?;
@@ -162,11 +164,11 @@ fn first_of(alloc: Global, lines: &[Text]) -> Result<Text, NoMemory>
     }
 }
 
-/// Prints a command's prompt: its template, and `: `.
-fn push_prompt(out: &mut Vec<u8>, builtin: Builtin) -> Result<(), NoMemory>
-    ensures { OnOk result (out.new.items ≡ out.old.items ++ prompt builtin) }
+/// Prints a command's prompt: its template in a dialect, and `: `.
+fn push_prompt(out: &mut Vec<u8>, dialect: Dialect, builtin: Builtin) -> Result<(), NoMemory>
+    ensures { OnOk result (out.new.items ≡ out.old.items ++ prompt dialect builtin) }
 {
-    out.extend_from_slice(template(builtin).as_bytes())?;
+    out.extend_from_slice(template(dialect, builtin).as_bytes())?;
     out.extend_from_slice(b": ")?;
     Ok(())
 }

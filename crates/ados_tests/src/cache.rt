@@ -4,7 +4,7 @@ use crate::wrong::{Wrong, expect};
 use ados_assign::{Assigns, Binding, Places};
 use ados_find::{Refusal, Shared, place_of};
 use ados_ram::{Busy, Place};
-use ados_resident::Hosts;
+use ados_resident::{Dialect, Hosts};
 use ados_text::{NoMemory, Stop, Text};
 use std::alloc::Global;
 
@@ -13,7 +13,7 @@ fn text(alloc: Global, written: &str) -> Result<Text, NoMemory> {
 }
 
 fn first(alloc: Global) -> Result<Shared, NoMemory> {
-    Shared::first(alloc, Hosts::of(alloc, &[])?)
+    Shared::first(alloc, Dialect::Core, Hosts::of(alloc, &[])?)
 }
 
 // The same with the directory `T/d`.

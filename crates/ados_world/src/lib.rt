@@ -19,7 +19,7 @@ mod worlds;
 pub use ados_machine::{
     Answer, BreakKind, ChildState, Codes, EndReport, Event, Job, Out, Refusal, Reports, Request,
 };
-pub use ados_resident::HostEntry;
+pub use ados_resident::{Dialect, HostEntry};
 pub use ados_shell::Draft;
 pub use hosts::{NewFault, hosts_fault};
 pub use runs::{Outs, Run};

@@ -5,6 +5,7 @@ ghost use Rattle.ados_world.specs.Due.{first_number};
 ghost use Rattle.ados_world.specs.Hosts.{Answers, hosts_fault};
 ghost use Rattle.ados_world.specs.Scenes.{Shows};
 ghost use Rattle.ados_world.specs.Shells.{IsShellNumber};
+ghost use Rattle.ados_resident.specs.declared.dialects.Dialect.TheVariants.{Core};
 ghost use Rattle.ados_machine.specs.Children.{child_in};
 ghost use Rattle.ados_machine.specs.InUse.{has_request};
 ghost use Rattle.ados_machine.specs.Limits.{IsSane};
@@ -18,7 +19,7 @@ use ados_assign::Assigns;
 use ados_find::{Codes, Shared};
 use ados_machine::{ChildState, Request};
 use ados_ram::Ram;
-use ados_resident::{HostEntry, Hosts, Residents};
+use ados_resident::{Dialect, HostEntry, Hosts, Residents};
 use ados_shell::{Commands, Scene, Shell};
 use ados_text::{NoMemory, Text};
 use std::alloc::Global;
@@ -56,31 +57,43 @@ impl Model for World {
 }
 
 impl World {
-    /// A world with shell 1 alone, in which nothing was typed, with these commands that are programs of the host, and the initial
-    /// files.
+    /// As [`with_dialect`](World::with_dialect), in Core.
+    pub fn new(alloc: Global, hosts: &[HostEntry]) -> Result<World, NewFault>
+        ensures world { IfOk result (λ world. world ≡ fresh_world Core hosts.now) }
+        ensures fault { Answers result (hosts_fault hosts.now) }
+    {
+        World::with_dialect(alloc, hosts, Dialect::Core)
+    }
+
+    /// A world of a dialect with shell 1 alone, in which nothing was typed, with these commands that are programs of the host,
+    /// and the initial files.
     ///
     /// `TooMany` for more than 64 commands; otherwise, for the first of them that is refused, `BadName` if its name is not one,
     /// and `Double` if a command has it, or an earlier one of these; `NoMemory`, if nothing is refused and an allocation
     /// fails.
-    pub fn new(alloc: Global, hosts: &[HostEntry]) -> Result<World, NewFault>
-        ensures world { IfOk result (λ world. world ≡ fresh_world hosts.now) }
+    pub fn with_dialect(
+        alloc: Global,
+        hosts: &[HostEntry],
+        dialect: Dialect,
+    ) -> Result<World, NewFault>
+        ensures world { IfOk result (λ world. world ≡ fresh_world dialect hosts.now) }
         ensures fault { Answers result (hosts_fault hosts.now) }
     {
         if let Some(fault) = hosts_fault(hosts) {
             return Err(fault);
         }
-        match World::fresh(alloc, hosts) {
+        match World::fresh(alloc, hosts, dialect) {
             Ok(world) => Ok(world),
             Err(NoMemory) => Err(NewFault::NoMemory),
         }
     }
 
     // A world that begins.
-    fn fresh(alloc: Global, hosts: &[HostEntry]) -> Result<World, NoMemory>
-        ensures { IfOk result (λ world. world ≡ fresh_world hosts.now) }
+    fn fresh(alloc: Global, hosts: &[HostEntry], dialect: Dialect) -> Result<World, NoMemory>
+        ensures { IfOk result (λ world. world ≡ fresh_world dialect hosts.now) }
     {
-        let commands = Commands::new(alloc)?;
-        let shared = Shared::first(alloc, Hosts::of(alloc, hosts)?)?;
+        let commands = Commands::new(alloc, dialect)?;
+        let shared = Shared::first(alloc, dialect, Hosts::of(alloc, hosts)?)?;
         let first = Shell::new(alloc, 1)?;
         Ok(World {
             alloc,
@@ -91,6 +104,13 @@ impl World {
             input_ended: false,
             shared,
         })
+    }
+
+    /// Its dialect, which never changes.
+    pub fn dialect(&self) -> Dialect
+        ensures { result ≡ self.now.shared.dialect }
+    {
+        self.shared.dialect
     }
 
     /// The shell of this number, whose methods show each part of it. `None` if none runs: of one that has ended only its
