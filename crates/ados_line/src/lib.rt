@@ -20,6 +20,7 @@ mod spelling;
 mod ticks;
 mod values;
 
+pub use comments::without_comment;
 pub use expansion::{expand, resume};
 pub use faults::LineFault;
 pub use globals::asks_global;
