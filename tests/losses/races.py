@@ -56,6 +56,7 @@ ASIDE = [
     ("a file that becomes a directory with more in it", "a", A, ["Rename a t", "MakeDir a", "Rename t a/t", *INTO]),
     ("a file that is deleted and becomes a directory", "a", A, ["Delete a", "MakeDir a", "Echo >a/x new", "Echo >a/y new"]),
     ("a file that is moved out, and a directory in its place", "a", A, ["Rename a T:a", "MakeDir a", "Echo >a/x new"]),
+    ("a file that is moved out, and another in its place", "a", A, ["Rename a T:a", "Echo >a new"]),
     ("a file in a directory that becomes a file", "d/x", D, ["Rename d/x t", "Delete d", "Rename t d"]),
     ("a file that is lengthened", "a", A, ["Echo >>a more"]),
     ("a file that is written over", "a", A, ["Echo >a new"]),

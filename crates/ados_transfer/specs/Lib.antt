@@ -5,6 +5,7 @@ pub mod Paths
 pub mod StandIns
 pub mod Stamps
 pub mod Account
+pub mod Backups
 pub mod Here
 pub mod Records
 pub mod Changes

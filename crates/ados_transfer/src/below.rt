@@ -5,7 +5,9 @@
 //! Where there is no `/proc` the folder is used by its name: then a link that takes the name between the look and the call is followed.
 
 use crate::faults::TransferFault;
+use crate::here::Here;
 use crate::paths::last_piece;
+use crate::stamps::Stamp;
 use crate::writing::{BESIDE, joined};
 use std::alloc::{Alloc, AllocError, Allocator, Global};
 use std::cell::Cell;
@@ -66,6 +68,18 @@ impl<'a, R: AllocGlobal + Files> Below<'a, R> {
             }
         }
         Ok(left)
+    }
+
+    /// Deletes a file that was looked at; `false` if something else came to be there since. Its folder is open by then, so that only one
+    /// call comes between the last look and the deletion.
+    pub fn remove_unchanged(&self, path: &str, here: &Here) -> io::Result<bool> {
+        let way = self.way(path)?;
+        let found = fs::symlink_metadata(self.rt, way.path.as_str())?;
+        if !here.has_stamp(&Stamp::of(&found)) {
+            return Ok(false);
+        }
+        fs::remove_file(self.rt, way.path.as_str())?;
+        Ok(true)
     }
 
     // Notes a temporary file that was made. If there is no memory for that it is not reported, should it be left.

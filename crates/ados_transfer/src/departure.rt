@@ -6,6 +6,7 @@ ghost use Rattle.ados_text.specs.Text.{Bytes};
 ghost use Rattle.ados_transfer.specs.Paths.{IsBelow};
 ghost use Rattle.ados_transfer.specs.Records.{has_key};
 
+use crate::below::Below;
 use crate::faults::TransferFault;
 use crate::folders::{is_descendant, is_unshared};
 use crate::here::Here;
@@ -33,7 +34,8 @@ pub struct Departure<'a> {
     pub changes_kind: bool,
     /// It changes its kind so, or is below an object that does.
     pub is_within_kind_change: bool,
-    /// If it is a file that is to be deleted, the path of one with its bytes that the Shell has outside of the directory.
+    /// If it is a file that is to be deleted, the path of one with its bytes that the Shell has outside of the directory; if it is one
+    /// that is to be written over, of one that the Shell has anywhere.
     pub copy: Option<String>,
 }
 
@@ -145,17 +147,17 @@ pub fn write_entry<R: AllocGlobal + Files>(
 }
 
 /// Deletes a file or an empty folder that was looked at; `false` if something else came to be there since.
-pub fn remove<R: AllocGlobal + Files>(rt: &R, path: &str, here: &Here) -> io::Result<bool> {
+pub fn remove<R: AllocGlobal + Files>(
+    rt: &Below<'_, R>,
+    path: &str,
+    here: &Here,
+) -> io::Result<bool> {
     let whole = own_path(rt, path)?;
     if here.is_directory() {
         fs::remove_dir(rt, whole.as_str())?;
         return Ok(true);
     }
-    if !is_still(rt, whole.as_str(), here)? {
-        return Ok(false);
-    }
-    fs::remove_file(rt, whole.as_str())?;
-    Ok(true)
+    rt.remove_unchanged(whole.as_str(), here)
 }
 
 /// Moves a file that was looked at to the name of a temporary file in the folder of the share, or deletes an empty folder. Gives the

@@ -27,56 +27,77 @@ impl Mirror {
         files: &Ram,
         moment: Moment,
     ) -> Result<(), TransferFault> {
-        if !files.look(&self.place).is_some_and(Entry::is_directory) {
-            if moment == Moment::Meanwhile {
-                return Ok(());
-            }
-            let path = self.spelled(self.place.names())?;
-            let path = format!(in self.alloc; "RAM:{path}")?;
-            return self.reports.fail(
-                "",
-                "nothing is written, since there is no directory",
-                path.as_str(),
-            );
-        }
         let rt = &Below::new(rt);
+        let mut account = Account::new(self.alloc, moment);
+        let updated = self.update(rt, files, &mut account);
+        let finished = self.finish_backups(rt, files, moment);
+        self.report_temporaries(rt, &account)?;
+        updated?;
+        finished
+    }
+
+    // The same, but for the temporary files that are left.
+    fn update<R: AllocGlobal + Files + Clock>(
+        &mut self,
+        rt: &Below<'_, R>,
+        files: &Ram,
+        account: &mut Account,
+    ) -> Result<(), TransferFault> {
+        if !files.look(&self.place).is_some_and(Entry::is_directory) {
+            return self.report_no_directory(account.moment);
+        }
         if is_gone(rt) {
             let folder = self.folder.clone()?;
             return self.reports.fail("", "cannot write", folder.as_str());
         }
         self.forget("");
-        if moment == Moment::End {
+        if account.moment == Moment::End {
             self.forgive_deleted(files)?;
         }
         self.watch(files)?;
-        let mut account = Account::new(self.alloc, moment);
-        let asides = self.begin_moves(rt, files, &mut account)?;
-        let mut departures = self.departures(files, &mut account)?;
+        let asides = self.begin_moves(rt, files, account)?;
+        let mut departures = self.departures(files, account)?;
         self.find_copies(files, &mut departures)?;
         account.is_private = self.loses_private(rt, &departures);
         for is_new in [true, false] {
             for (key, departure) in &departures.by_key {
                 if departure.is_new == is_new && !departure.is_within_kind_change {
-                    self.write_here(rt, files, key.as_str(), departure, &mut account)?;
+                    self.write_here(rt, files, key.as_str(), departure, account)?;
                 }
             }
         }
-        self.change_kinds(rt, files, &departures, &mut account)?;
-        self.delete_gone(rt, files, &departures, &mut account)?;
-        if self.finish_moves(rt, files, asides, &mut account)? {
-            self.delete_gone(rt, files, &departures, &mut account)?;
+        self.change_kinds(rt, files, &departures, account)?;
+        self.delete_gone(rt, files, &departures, account)?;
+        if self.rename_all(rt, files)? {
+            self.delete_gone(rt, files, &departures, account)?;
         }
-        if moment == Moment::End {
+        if self.finish_moves(rt, files, asides, account)? {
+            self.delete_gone(rt, files, &departures, account)?;
+        }
+        if account.moment == Moment::End {
             self.report_waiting(files)?;
         }
-        self.report_temporaries(rt, &account)?;
-        self.report_account(&account)
+        self.report_account(account)
+    }
+
+    // Reports that the directory itself is gone in the Shell's files, unless the script goes on meanwhile.
+    fn report_no_directory(&mut self, moment: Moment) -> Result<(), TransferFault> {
+        if moment == Moment::Meanwhile {
+            return Ok(());
+        }
+        let path = self.spelled(self.place.names())?;
+        let path = format!(in self.alloc; "RAM:{path}")?;
+        self.reports.fail(
+            "",
+            "nothing is written, since there is no directory",
+            path.as_str(),
+        )
     }
 
     // Deletes what is gone, the deepest first. By now a large file may have got the name.
     fn delete_gone<R: AllocGlobal + Files>(
         &mut self,
-        rt: &R,
+        rt: &Below<'_, R>,
         files: &Ram,
         departures: &Departures<'_>,
         account: &mut Account,
@@ -109,7 +130,7 @@ impl Mirror {
     // it is written and nothing changed aside, otherwise it gets its place back.
     fn change_kinds<R: AllocGlobal + Files + Clock>(
         &mut self,
-        rt: &R,
+        rt: &Below<'_, R>,
         files: &Ram,
         departures: &Departures<'_>,
         account: &mut Account,
@@ -125,7 +146,7 @@ impl Mirror {
     // Moves aside what is in the way, and writes what needs the place.
     fn exchange_kinds<R: AllocGlobal + Files + Clock>(
         &mut self,
-        rt: &R,
+        rt: &Below<'_, R>,
         files: &Ram,
         departures: &Departures<'_>,
         account: &mut Account,
@@ -213,8 +234,9 @@ impl Mirror {
         account: &Account,
     ) -> Result<(), TransferFault> {
         for path in &rt.temporaries()? {
-            if !account.kept.contains(path) {
-                self.reports.report("temporary file left", path.as_str())?;
+            if !account.kept.contains(path) && !self.backups.has(path.as_str()) {
+                self.reports
+                    .report_once("temporary file left", path.as_str())?;
             }
         }
         Ok(())

@@ -5,8 +5,8 @@ use crate::departure::{is_key_left_out, own_path};
 use crate::faults::TransferFault;
 use crate::folders::{is_descendant, lower};
 use crate::mirror::Mirror;
-use crate::placing::place_new;
-use crate::records::Record;
+use crate::placing::{is_immovable, place_new};
+use crate::records::{Last, Record};
 use crate::stamps::Stamp;
 use crate::stand_ins::own_entry;
 use ados_ram::{Entry, Place, Ram};
@@ -27,8 +27,9 @@ pub struct Moved {
 }
 
 impl Mirror {
-    // Renames those large files whose new names are free. At a program's start and at the end one whose old name the script gave to
-    // another object is moved aside, if its new name is not free yet. What cannot be written because of one that stays is noted.
+    // Renames those large files whose new names are free. At a program's start and at the end those of the others are moved aside whose
+    // old names the script gave to other objects, or whose new ones are those of folders in which large files were. What cannot be
+    // written because of one that stays is noted.
     pub(crate) fn begin_moves<R: AllocGlobal + Files>(
         &mut self,
         rt: &R,
@@ -42,16 +43,37 @@ impl Mirror {
             return Ok(asides);
         }
         self.rename_all(rt, files)?;
-        for moved in &self.moved(files)? {
-            let Some(entry) = files.look(&self.place_of(moved.key.as_str())?) else {
+        let all = self.moved(files)?;
+        let mut are_blocked = Vec::new(self.alloc);
+        for moved in &all {
+            are_blocked.push(self.is_blocked_by_large(moved)?)?;
+        }
+        for (moved, is_blocked) in all.iter().zip(are_blocked) {
+            let entry = files.look(&self.place_of(moved.key.as_str())?);
+            if entry.is_none() && !is_blocked {
                 continue;
-            };
-            match self.set_large_aside(rt, moved, account)? {
-                Some(aside) => asides.push(aside)?,
-                None => self.note_taken_name(moved, entry, account)?,
+            }
+            match (self.set_large_aside(rt, moved, account)?, entry) {
+                (Some(aside), _) => asides.push(aside)?,
+                (None, Some(entry)) => self.note_taken_name(moved, entry, account)?,
+                (None, None) => {}
             }
         }
         Ok(asides)
+    }
+
+    // The new name of a large file is that of a folder which the script deleted, and which cannot go while it, or another one that was
+    // moved, is in it.
+    fn is_blocked_by_large(&self, moved: &Moved) -> Result<bool, TransferFault> {
+        let Some(path) = &moved.new_path else {
+            return Ok(false);
+        };
+        let key = lower(self.alloc, path.as_str())?;
+        let is_directory = self
+            .records
+            .get(key.as_str())
+            .is_some_and(|record| matches!(record.last, Last::Directory));
+        Ok(is_directory && self.has_moved_in(key.as_str())?)
     }
 
     // Renames those whose names are free by now, and reports the others. One that was moved aside gets its old name back if its new one
@@ -106,13 +128,17 @@ impl Mirror {
         Ok(Some(self.path_of(written.relative_names(&self.place))?))
     }
 
-    // Renames as many as possible; gives whether there was one.
-    fn rename_all<R: AllocGlobal + Files>(
+    // Renames as many as possible, but none with `dry`; gives whether there was one.
+    pub(crate) fn rename_all<R: AllocGlobal + Files>(
         &mut self,
         rt: &R,
         files: &Ram,
     ) -> Result<bool, TransferFault> {
-        let count = self.moved(files)?.len();
+        let count = if self.options.dry {
+            0
+        } else {
+            self.moved(files)?.len()
+        };
         let mut is_renamed = false;
         // One may free the name of another one.
         for _ in 0..count {
@@ -255,7 +281,7 @@ fn try_rename<R: AllocGlobal + Files>(
 ) -> io::Result<Option<Stamp>> {
     let found = fs::symlink_metadata(rt, from)?;
     let before = Stamp::of(&found);
-    if !found.is_file() || before.number != stamp.number {
+    if !found.is_file() || before.number != stamp.number || is_immovable(rt, from)? {
         return Ok(None);
     }
     let target = own_path(rt, path)?;

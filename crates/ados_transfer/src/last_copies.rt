@@ -58,27 +58,80 @@ impl Waiting {
     }
 }
 
-// A file of the Shell that has bytes.
+/// A file of the Shell that has bytes.
 #[derive(Drop)]
-struct Holder<'a> {
+pub struct Holder<'a> {
     place: Place,
     bytes: &'a FileBytes,
 }
 
+/// The files of the Shell that have bytes: those in the directory, and those outside of it.
+#[derive(Drop)]
+pub struct Holders<'a> {
+    inside: Vec<Holder<'a>>,
+    outside: Vec<Holder<'a>>,
+}
+
+impl<'a> Holders<'a> {
+    /// The first file that has these bytes, of those outside if one of them does.
+    pub fn first_with(&self, bytes: &FileBytes) -> Option<&Holder<'a>> {
+        match first_with(self.outside.as_slice(), bytes) {
+            Some(found) => Some(found),
+            None => first_with(self.inside.as_slice(), bytes),
+        }
+    }
+
+    // The file whose bytes would be lost with memory if those of a file of the folder are deleted or written over. For one that gives
+    // way to what is written in its place (`is_moved`) there is none if a file in the directory has them.
+    fn copy_of(
+        &self,
+        departure: &Departure<'_>,
+        bytes: &FileBytes,
+        is_moved: bool,
+    ) -> Option<&Holder<'a>> {
+        if !departure.is_gone() {
+            return self.first_with(bytes);
+        }
+        if is_moved && first_with(self.inside.as_slice(), bytes).is_some() {
+            return None;
+        }
+        first_with(self.outside.as_slice(), bytes)
+    }
+}
+
 impl Mirror {
-    // Begins an update: nothing waits yet. For each file that is to be deleted the Shell's file outside of the directory is noted which has
-    // its bytes. For one that gives way to what is written in its place, or would with `dry`, only if no file in the directory has them.
+    // Begins an update: nothing waits yet. For each file that is to be deleted or written over the Shell's file is noted which has its
+    // bytes. With `dry` nothing is written over.
     pub(crate) fn find_copies(
         &mut self,
         files: &Ram,
         departures: &mut Departures<'_>,
     ) -> Result<(), TransferFault> {
         self.waiting = Waiting::new(self.alloc);
-        if !departures.by_key.values().any(Departure::is_gone) {
+        let is_dry = self.options.dry;
+        if departures.by_key.values().all(|departure| departure.is_new
+            || is_dry && !departure.is_gone())
+        {
             return Ok(());
         }
-        let mut outside = Vec::new(self.alloc);
-        let mut inside = Vec::new(self.alloc);
+        let holders = self.holders(files)?;
+        for (key, departure) in &mut departures.by_key {
+            let is_moved = departure.is_within_kind_change || is_dry;
+            if let Some(bytes) = bytes_of(&self.records, key.as_str())
+                && let Some(found) = holders.copy_of(departure, bytes, is_moved)
+            {
+                departure.copy = Some(self.copy_path(files, found)?);
+            }
+        }
+        Ok(())
+    }
+
+    // The Shell's files that have bytes.
+    pub(crate) fn holders<'a>(&self, files: &'a Ram) -> Result<Holders<'a>, TransferFault> {
+        let mut holders = Holders {
+            inside: Vec::new(self.alloc),
+            outside: Vec::new(self.alloc),
+        };
         for place in files.contents(&Place::root(self.alloc))? {
             let Some(bytes) = files.look(&place).and_then(|entry| entry.file()) else {
                 continue;
@@ -87,29 +140,26 @@ impl Mirror {
                 continue;
             }
             if place.names().starts_with(self.place.names()) {
-                inside.push(Holder { place, bytes })?;
+                holders.inside.push(Holder { place, bytes })?;
             } else {
-                outside.push(Holder { place, bytes })?;
+                holders.outside.push(Holder { place, bytes })?;
             }
         }
-        for (key, departure) in &mut departures.by_key {
-            let is_replaced = departure.is_within_kind_change || self.options.dry;
-            if let (true, Some(bytes)) = (
-                departure.is_gone(),
-                bytes_of(&self.records, key.as_str()),
-            )
-                && !(is_replaced && first_with(inside.as_slice(), bytes).is_some())
-                && let Some(found) = first_with(outside.as_slice(), bytes)
-            {
-                let path = self.spelled(files.written(&found.place)?.names())?;
-                departure.copy = Some(format!(in self.alloc; "RAM:{path}")?);
-            }
-        }
-        Ok(())
+        Ok(holders)
     }
 
-    // The bytes of an object that is to be deleted are in a file of the Shell outside of the directory, and in no other file of the
-    // folder; or it is a folder in which such a file, or a large one, stays.
+    // The path of a file of the Shell, for lines.
+    pub(crate) fn copy_path(
+        &self,
+        files: &Ram,
+        holder: &Holder<'_>,
+    ) -> Result<String, TransferFault> {
+        let path = self.spelled(files.written(&holder.place)?.names())?;
+        Ok(format!(in self.alloc; "RAM:{path}")?)
+    }
+
+    // The bytes of an object that is to be deleted or written over are in a file of the Shell, and in no other file of the folder; or it is
+    // a folder in which such a file, or a large one, stays.
     pub(crate) fn is_last_copy<R: AllocGlobal + Files>(
         &self,
         rt: &R,
@@ -128,8 +178,8 @@ impl Mirror {
         }
     }
 
-    // Another file of the folder has these bytes now.
-    fn is_in_another<R: AllocGlobal + Files>(
+    // Another file of the folder than the one with this key has these bytes now.
+    pub(crate) fn is_in_another<R: AllocGlobal + Files>(
         &self,
         rt: &R,
         key: &str,

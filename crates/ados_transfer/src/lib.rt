@@ -5,6 +5,7 @@
 mod account;
 mod arrival_plan;
 mod arrivals;
+mod backups;
 mod below;
 mod bringing;
 mod changes;

@@ -4,6 +4,7 @@ ghost use Rattle.std.specs.BTreeMap.{IsOrdered};
 ghost use Rattle.std.specs.String.{string_cmp};
 ghost use Rattle.ados_transfer.specs.Records.{Sets};
 
+use crate::backups::Backups;
 use crate::bringing::parted;
 use crate::faults::{TransferFault, named};
 use crate::last_copies::Waiting;
@@ -46,6 +47,8 @@ pub struct Mirror {
     pub(crate) stand_ins: StandIns,
     // What is not deleted, since only the Shell has its bytes beside.
     pub(crate) waiting: Waiting,
+    // Copies of what was written over, while only the Shell has the bytes beside.
+    pub(crate) backups: Backups,
     pub(crate) reports: Reports,
     // The folder was looked at.
     pub(crate) has_begun: bool,
@@ -92,6 +95,7 @@ impl Mirror {
             records: BTreeMap::new(alloc),
             stand_ins: StandIns::new(alloc),
             waiting: Waiting::new(alloc),
+            backups: Backups::new(alloc),
             reports: Reports::new(alloc),
             has_begun: false,
             is_holding: false,
@@ -116,13 +120,14 @@ impl Mirror {
     }
 
     /// The two sides are not alike: something could not be read, written or brought in, and has not been since, or something is not
-    /// deleted because of that, or since its bytes would be only in memory; or the script changed something that the folder does not have
-    /// as the script left it.
+    /// deleted because of that, or since its bytes would be only in memory; what was written over stays under a name of its own, for the
+    /// same reason; or the script changed something that the folder does not have as the script left it.
     pub fn differs(&self) -> bool {
         self.is_holding
             || self.is_lacking
             || self.stand_ins.differ()
             || !self.waiting.is_empty()
+            || self.backups.have_stayed
             || self.reports.has_failed()
     }
 

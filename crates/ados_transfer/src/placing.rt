@@ -5,8 +5,9 @@
 
 use crate::bringing::bytes_of;
 use crate::here::Here;
-use crate::writing::{Manner, link_beside, write_beside};
+use crate::writing::{Manner, link_beside, open_beside, write_beside};
 use ados_ram::Entry;
+use std::fs::Metadata;
 use std::io::{Error, ErrorKind};
 use std::os::unix::fs::{MetadataExt, PermissionsExt};
 use std::rt::Files;
@@ -26,12 +27,24 @@ pub struct Draft<'a> {
     pub here: &'a Here,
     /// The mode of the file of which it is a copy.
     pub mode: Option<u32>,
+    /// Only the Shell has beside what this machine had, so that it must not be lost.
+    pub is_last_copy: bool,
 }
 
 impl<'a> Draft<'a> {
     /// What the Shell has in place of what this machine had, with the mode of the file of which it is a copy.
-    pub fn new(entry: &'a Entry, here: &'a Here, mode: Option<u32>) -> Draft<'a> {
-        Draft { entry, here, mode }
+    pub fn new(
+        entry: &'a Entry,
+        here: &'a Here,
+        mode: Option<u32>,
+        is_last_copy: bool,
+    ) -> Draft<'a> {
+        Draft {
+            entry,
+            here,
+            mode,
+            is_last_copy,
+        }
     }
 }
 
@@ -111,16 +124,40 @@ fn place_over<R: AllocGlobal + Files>(
     exchange(rt, kept.as_str(), (beside, target), bytes)
 }
 
-// A sticky folder keeps another owner's file in its place: it cannot be replaced, and a second name of it could not be removed.
+// A sticky folder keeps another owner's file in its place: it cannot be replaced, and a second name of it could not be removed. The file
+// beside it is this user's.
 fn is_bound<R: Files>(rt: &R, folder: &str, beside: &str, target: &str) -> io::Result<bool> {
-    let folder = if folder.is_empty() { "." } else { folder };
-    let folder = fs::symlink_metadata(rt, folder)?;
-    if folder.permissions().mode() & STICKY == 0 {
+    let folder = found_folder(rt, folder)?;
+    if !is_sticky(&folder) {
         return Ok(false);
     }
     let own = fs::symlink_metadata(rt, beside)?.uid();
     let owner = fs::symlink_metadata(rt, target)?.uid();
     Ok(own != SUPERUSER && own != folder.uid() && own != owner)
+}
+
+/// The same for a file that is to get another name.
+pub fn is_immovable<R: AllocGlobal + Files>(rt: &R, path: &str) -> io::Result<bool> {
+    let folder = path.rsplit_once('/').map_or("", |(folder, _)| folder);
+    if !is_sticky(&found_folder(rt, folder)?) {
+        return Ok(false);
+    }
+    // Whose the files are that this user makes is known by one of them.
+    let (beside, file) = open_beside(rt, folder, 0o600)?;
+    drop(file);
+    let is_immovable = is_bound(rt, folder, beside.as_str(), path);
+    fs::remove_file(rt, beside.as_str())?;
+    is_immovable
+}
+
+// What a folder is; the empty path is that of the folder of the share.
+fn found_folder<R: Files>(rt: &R, folder: &str) -> io::Result<Metadata> {
+    fs::symlink_metadata(rt, if folder.is_empty() { "." } else { folder })
+}
+
+// Only owners remove what is in the folder.
+fn is_sticky(folder: &Metadata) -> bool {
+    folder.permissions().mode() & STICKY != 0
 }
 
 // Gives the first file the name of the second, whose other name is `kept`; if that was changed before, it gets its name back.

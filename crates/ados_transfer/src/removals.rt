@@ -1,6 +1,7 @@
 //! How an object of the folder of a share that is gone in the Shell's files, or of another kind there, is deleted.
 
 use crate::account::{Account, Aside, Moment};
+use crate::below::Below;
 use crate::decision::{Removal, Terms, decide_removal};
 use crate::departure::{Departure, move_aside, own_path, remove};
 use crate::faults::TransferFault;
@@ -22,17 +23,18 @@ impl Mirror {
     // if everything is written.
     pub(crate) fn delete_here<R: AllocGlobal + Files>(
         &mut self,
-        rt: &R,
+        rt: &Below<'_, R>,
         key: &str,
         departure: &Departure<'_>,
         account: &mut Account,
     ) -> Result<(), TransferFault> {
         let path = departure.path.as_str();
-        let is_last_copy = self.is_last_copy(rt, key, departure)?;
+        let here = Here::look(rt, path)?;
+        let is_last_copy = self.is_last_copy(rt, key, departure)?
+            && !self.is_backed_up(rt, (key, path), departure, &here, account)?;
         let Some(record) = self.records.get(key) else {
             return Ok(());
         };
-        let here = Here::look(rt, path)?;
         let is_large = record.is_stand_in();
         let terms = Terms {
             may_delete: record.watch.may_delete(),
@@ -70,10 +72,38 @@ impl Mirror {
         }
     }
 
+    // A file that is in the way of an object of another kind has a backup from now on, so that it may go. There is none if the file changed,
+    // if nothing is to be deleted, or if it can't be made.
+    fn is_backed_up<R: AllocGlobal + Files>(
+        &mut self,
+        rt: &R,
+        object: (&str, &str),
+        departure: &Departure<'_>,
+        here: &Here,
+        account: &Account,
+    ) -> Result<bool, TransferFault> {
+        let Here::File { bytes, .. } = here else {
+            return Ok(false);
+        };
+        let is_same = self
+            .records
+            .get(object.0)
+            .is_some_and(|record| record.is_file_of(bytes.as_slice()));
+        let is_needed = departure.is_within_kind_change && !self.options.dry;
+        if !is_same || !is_needed || account.has_unwritten() {
+            return Ok(false);
+        }
+        match self.back_up(rt, object, here) {
+            Ok(()) => Ok(true),
+            Err(error) if error.kind() == ErrorKind::OutOfMemory => Err(TransferFault::NoMemory),
+            Err(_) => Ok(false),
+        }
+    }
+
     // Deletes an object on this machine; one that is in the way of another one is moved aside.
     fn delete<R: AllocGlobal + Files>(
         &mut self,
-        rt: &R,
+        rt: &Below<'_, R>,
         key: &str,
         departure: &Departure<'_>,
         here: &Here,

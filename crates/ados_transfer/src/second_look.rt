@@ -1,6 +1,7 @@
 //! A second look at what was moved aside, before it goes: what another program wrote to it meanwhile is nowhere else.
 
 use crate::account::{Account, Aside};
+use crate::below::Below;
 use crate::decision::Decision;
 use crate::departure::{Departure, Departures, remove};
 use crate::faults::TransferFault;
@@ -17,7 +18,7 @@ impl Mirror {
     // moved aside gets its place back.
     pub(crate) fn heed_changes_aside<R: AllocGlobal + Files>(
         &mut self,
-        rt: &R,
+        rt: &Below<'_, R>,
         departures: &Departures<'_>,
         account: &mut Account,
     ) -> Result<(), TransferFault> {
@@ -44,7 +45,7 @@ impl Mirror {
     // Deletes an object that was written, if it is still that.
     fn take_back<R: AllocGlobal + Files>(
         &mut self,
-        rt: &R,
+        rt: &Below<'_, R>,
         key: &str,
         departure: &Departure<'_>,
         account: &mut Account,

@@ -4,6 +4,7 @@ ghost use Rattle.ados_ram.specs.Entry.{bytes_of};
 ghost use Rattle.ados_transfer.specs.Here.{is_moved_away};
 
 use crate::account::{Account, is_substring};
+use crate::backups::needs_backup;
 use crate::decision::Decision;
 use crate::departure::{Departure, Departures, write_entry};
 use crate::faults::TransferFault;
@@ -55,7 +56,8 @@ impl Mirror {
             Decision::Write if self.options.dry => self.reports.report_once("would write", path),
             Decision::Write => {
                 let mode = self.mode_of(rt, files, entry, account)?;
-                let draft = Draft::new(entry, &here, mode);
+                let is_last_copy = self.is_last_copy(rt, key, departure)?;
+                let draft = Draft::new(entry, &here, mode, is_last_copy);
                 self.write(rt, (key, path), &draft, account)
             }
         }
@@ -79,7 +81,7 @@ impl Mirror {
             self.forget(key);
             return account.hold(path);
         }
-        match write_entry(rt, path, draft) {
+        match self.replace(rt, object, draft) {
             Ok(Some(stamp)) => self.keep_written(rt, object, draft.entry, stamp),
             Ok(None) => {
                 account.add_unwritten_entry(path, draft.entry)?;
@@ -90,6 +92,19 @@ impl Mirror {
                 self.not_done(&error, "cannot write", key, path)
             }
         }
+    }
+
+    // Writes an object to this machine, after a backup of what it takes the place of, if that needs one.
+    fn replace<R: AllocGlobal + Files>(
+        &mut self,
+        rt: &R,
+        object: (&str, &str),
+        draft: &Draft<'_>,
+    ) -> io::Result<Option<Stamp>> {
+        if needs_backup(draft) {
+            self.back_up(rt, object, draft.here)?;
+        }
+        write_entry(rt, object.1, draft)
     }
 
     // A file is gone that gave no rights to group and others, and no object that is written has its bytes.
@@ -133,7 +148,11 @@ impl Mirror {
                 original = Some(record);
             }
         }
-        match (account.mode_of(entry.bytes()), original) {
+        let moved = match account.mode_of(entry.bytes()) {
+            Some(mode) => Some(mode),
+            None => self.backups.mode_of(entry.bytes()),
+        };
+        match (moved, original) {
             (Some(mode), _) => Ok(Some(mode)),
             (None, Some(record)) if !entry.bytes().is_empty() => {
                 let mode = self.mode_here(rt, record)?;

@@ -1,0 +1,290 @@
+//! Copies of files of the folder of a share that are written over while only the Shell has their bytes beside.
+ghost use Rattle.std.specs.Prelude.{◌≡◌, ◌⊎◌, true, false};
+ghost use Rattle.ados_ram.specs.Entry.{bytes_of};
+ghost use Rattle.ados_transfer.specs.Backups.{needs_backup, retention_of};
+
+use crate::account::{Moment, is_substring};
+use crate::departure::own_path;
+use crate::faults::TransferFault;
+use crate::here::Here;
+use crate::mirror::Mirror;
+use crate::paths::last_piece;
+use crate::placing::{Draft, holds, place_new};
+use crate::records::Last;
+use crate::writing::{Manner, write_beside};
+use ados_ram::{FileBytes, Ram};
+use std::alloc::Global;
+use std::collections::BTreeMap;
+use std::io::{Error, ErrorKind};
+use std::rt::Files;
+use std::{fs, io};
+
+// As many names are tried for one that stays.
+const NAMES: u32 = 1000;
+
+/// The backups of a share.
+#[derive(Drop)]
+pub struct Backups {
+    alloc: Global,
+    // Each by its path, which is that of a temporary file.
+    by_path: BTreeMap<String, Backup>,
+    /// At the end some of them stay.
+    pub have_stayed: bool,
+}
+
+// What it is a copy of: the path of the file, what that held, and its mode.
+#[derive(Drop)]
+struct Backup {
+    original: String,
+    bytes: FileBytes,
+    mode: u32,
+}
+
+// A backup that stays at the end: its path, and that of the Shell's file of the same bytes.
+#[derive(Drop)]
+struct Remainder {
+    path: String,
+    copy: String,
+}
+
+/// What becomes of a backup after an update.
+#[derive(Clone, Copy, PartialEq, Eq)]
+pub enum Retention {
+    /// It is deleted.
+    Goes,
+    /// It waits under its temporary name.
+    Waits,
+    /// It gets a name of its own.
+    Stays,
+}
+
+impl Backups {
+    /// There are none.
+    pub fn new(alloc: Global) -> Backups {
+        Backups {
+            alloc,
+            by_path: BTreeMap::new(alloc),
+            have_stayed: false,
+        }
+    }
+
+    /// A temporary file of this path is a backup.
+    pub fn has(&self, path: &str) -> bool {
+        self.by_path.contains_key(path)
+    }
+
+    /// The mode of a file with these bytes that was written over.
+    pub fn mode_of(&self, bytes: &[u8]) -> Option<u32> {
+        self.by_path
+            .values()
+            .find(|backup| backup.bytes.as_bytes() == bytes)
+            .map(|backup| backup.mode)
+    }
+
+    // Keeps the path of a backup.
+    fn add(&mut self, path: &str, backup: Backup) -> Result<(), TransferFault> {
+        self.by_path
+            .insert(String::from_str(self.alloc, path)?, backup)?;
+        Ok(())
+    }
+
+    // The line that reports what stays, given the name that the first one has now.
+    fn line(&self, name: &str, first: &Remainder, more: usize) -> Result<String, TransferFault> {
+        let copy = &first.copy;
+        let original = match self.by_path.get(first.path.as_str()) {
+            Some(backup) => backup.original.as_str(),
+            None => "",
+        };
+        if more == 0 {
+            return Ok(format!(in self.alloc;
+                "kept as {name}, since its only other copy is {copy}: {original}"
+            )?);
+        }
+        Ok(format!(in self.alloc;
+            "kept as {name}, since its only other copy is {copy}: {original} and {more} more"
+        )?)
+    }
+}
+
+impl Mirror {
+    // Copies a file that is to be written over to a temporary file, which has its permissions.
+    pub(crate) fn back_up<R: AllocGlobal + Files>(
+        &mut self,
+        rt: &R,
+        object: (&str, &str),
+        here: &Here,
+    ) -> io::Result<()> {
+        let (key, path) = object;
+        let (Here::File { mode, .. }, Some(record)) = (here, self.records.get(key)) else {
+            return Ok(());
+        };
+        let Last::File(bytes) = &record.last else {
+            return Ok(());
+        };
+        let backup = Backup {
+            original: String::from_str(self.alloc, path)?,
+            bytes: bytes.clone()?,
+            mode: *mode,
+        };
+        let beside = write_beside(rt, "", bytes.as_bytes(), Manner::Mode(*mode))?;
+        match self.backups.add(beside.as_str(), backup) {
+            Ok(()) => Ok(()),
+            Err(_) => {
+                let _ = fs::remove_file(rt, beside.as_str());
+                Err(Error::from(ErrorKind::OutOfMemory))
+            }
+        }
+    }
+
+    // After an update the backups go that are not needed any longer. At the end the others get names of their own, and one line names the
+    // first.
+    pub(crate) fn finish_backups<R: AllocGlobal + Files>(
+        &mut self,
+        rt: &R,
+        files: &Ram,
+        moment: Moment,
+    ) -> Result<(), TransferFault> {
+        if self.backups.by_path.is_empty() {
+            return Ok(());
+        }
+        let holders = self.holders(files)?;
+        let mut over = Vec::new(self.alloc);
+        let mut remainders = Vec::new(self.alloc);
+        for (path, backup) in &self.backups.by_path {
+            let holder = holders.first_with(&backup.bytes);
+            let in_folder = self.is_in_folder(rt, backup)?;
+            match (
+                retention_of(holder.is_some(), in_folder, moment == Moment::End),
+                holder,
+            ) {
+                (Retention::Stays, Some(holder)) => remainders.push(Remainder {
+                    path: path.clone()?,
+                    copy: self.copy_path(files, holder)?,
+                })?,
+                (Retention::Goes, _) => over.push(path.clone()?)?,
+                _ => {}
+            }
+        }
+        for path in &over {
+            self.let_go(rt, path.as_str())?;
+        }
+        self.keep_remainders(rt, remainders.as_slice())
+    }
+
+    // A file of the folder has the bytes of a backup.
+    fn is_in_folder<R: AllocGlobal + Files>(
+        &self,
+        rt: &R,
+        backup: &Backup,
+    ) -> Result<bool, TransferFault> {
+        if holds(rt, backup.original.as_str(), backup.bytes.as_bytes()) {
+            return Ok(true);
+        }
+        self.is_in_another(rt, "", &backup.bytes)
+    }
+
+    // Deletes a backup.
+    fn let_go<R: Files>(&mut self, rt: &R, path: &str) -> Result<(), TransferFault> {
+        self.backups.by_path.remove(path);
+        if fs::remove_file(rt, path).is_err() && fs::symlink_metadata(rt, path).is_ok() {
+            return self.reports.report_once("temporary file left", path);
+        }
+        Ok(())
+    }
+
+    // Gives the backups that stay names of their own, and reports the first. One that another program deleted has none.
+    fn keep_remainders<R: AllocGlobal + Files>(
+        &mut self,
+        rt: &R,
+        remainders: &[Remainder],
+    ) -> Result<(), TransferFault> {
+        let mut named = Vec::new(self.alloc);
+        for remainder in remainders {
+            self.backups.have_stayed = true;
+            if fs::symlink_metadata(rt, remainder.path.as_str()).is_ok() {
+                let name = self.own_name(rt, remainder.path.as_str())?;
+                named.push((name, remainder))?;
+            }
+        }
+        let [(name, first), more @ ..] = named.as_slice() else {
+            return Ok(());
+        };
+        let line = self.backups.line(name.as_str(), first, more.len())?;
+        self.reports.report_line(line)
+    }
+
+    // Gives a backup a name of its own: beside the place of the file, or else in the folder of the share itself. Gives the name; that is
+    // the temporary one if it can have no other.
+    fn own_name<R: AllocGlobal + Files>(
+        &self,
+        rt: &R,
+        path: &str,
+    ) -> Result<String, TransferFault> {
+        if let Some(backup) = self.backups.by_path.get(path) {
+            let original = backup.original.as_str();
+            for stem in [original, last_piece(original)] {
+                if let Some(name) = placed_as(rt, path, stem)? {
+                    return Ok(name);
+                }
+            }
+        }
+        Ok(String::from_str(self.alloc, path)?)
+    }
+}
+
+// Gives a file a name that begins like this and that nothing has; nothing if that can't be done.
+fn placed_as<R: AllocGlobal + Files>(
+    rt: &R,
+    path: &str,
+    stem: &str,
+) -> Result<Option<String>, TransferFault> {
+    for number in 0..NAMES {
+        let name = if number == 0 {
+            format!(in rt.alloc(); "{stem}.kept")?
+        } else {
+            format!(in rt.alloc(); "{stem}.kept{number}")?
+        };
+        match try_place(rt, path, name.as_str()) {
+            Ok(true) => return Ok(Some(name)),
+            Ok(false) => {}
+            Err(error) if error.kind() == ErrorKind::OutOfMemory => {
+                return Err(TransferFault::NoMemory);
+            }
+            Err(_) => return Ok(None),
+        }
+    }
+    Ok(None)
+}
+
+// Gives a file a path below the folder of the share; `false` if something has it.
+fn try_place<R: AllocGlobal + Files>(rt: &R, path: &str, name: &str) -> io::Result<bool> {
+    let target = own_path(rt, name)?;
+    place_new(rt, path, target.as_str())
+}
+
+/// A file that was seen needs a backup before another one takes its place: only the Shell has its bytes beside.
+pub fn needs_backup(draft: &Draft<'_>) -> bool
+    ensures { result ≡ needs_backup draft.now.here.now (bytes_of draft.now.entry.now) draft.now.is_last_copy }
+{
+    match draft.here {
+        Here::File { bytes, .. } => {
+            draft.is_last_copy && !is_substring(bytes.as_slice(), draft.entry.bytes())
+        }
+        _ => false,
+    }
+}
+
+// What becomes of a backup whose bytes the Shell has in a file (`in_memory`), or a file of the folder (`in_folder`).
+fn retention_of(in_memory: bool, in_folder: bool, at_end: bool) -> Retention
+    ensures retention { result ≡ retention_of in_memory in_folder at_end }
+    // What goes is in the folder, or the Shell does not have it.
+    ensures safe { result ≡ Retention.Goes → (in_folder ≡ true) ⊎ (in_memory ≡ false) }
+{
+    if !in_memory || in_folder {
+        Retention::Goes
+    } else if at_end {
+        Retention::Stays
+    } else {
+        Retention::Waits
+    }
+}
