@@ -67,13 +67,13 @@ fn full_template(command: FilesCommand) -> &'static str
     match command {
         FilesCommand::Copy =>
             "FROM/M,TO/A,ALL/S,QUIET/S,CLONE/S,COM/S,NOPRO/S,DATES/S,NOREQ/S,BUF=BUFFER/K/N",
+        FilesCommand::Dir => "DIR,DIRS/S,FILES/S,ALL/S,OPT/K,INTER/S",
+        FilesCommand::Filenote => "FILE/A,COMMENT,ALL/S,QUIET/S",
+        FilesCommand::Protect => "FILE/A,FLAGS,ADD/S,SUB/S,ALL/S,QUIET/S",
         FilesCommand::Delete
-        | FilesCommand::Dir
-        | FilesCommand::Filenote
         | FilesCommand::Join
         | FilesCommand::List
         | FilesCommand::MakeDir
-        | FilesCommand::Protect
         | FilesCommand::Rename
         | FilesCommand::Type => core_template(command),
     }
