@@ -1,8 +1,8 @@
--- Filenote: a comment on objects.
-use Rattle.std.specs.Prelude.{List}
+-- Filenote: a comment on objects, with ALL on all that is below them too.
+use Rattle.std.specs.Prelude.{Bool, List}
 use Rattle.ados_text.specs.Text.{Text}
 use Rattle.ados_readargs.specs.declared.args.Arg.{Arg}
-use Rattle.ados_readargs.specs.Args.{option_texts, option_text}
+use Rattle.ados_readargs.specs.Args.{option_texts, option_text, has_switch}
 use Rattle.ados_ram.specs.Place.{Place, key_of}
 use Rattle.ados_ram.specs.FileOperations.{comment_of, comment_fault}
 use Rattle.ados_find.specs.Shared.{SharedState, with_files}
@@ -11,6 +11,8 @@ use Rattle.ados_find.specs.Effects.{Effect}
 use Rattle.ados_find.specs.Done.{Done, fresh_work, refused_or, act_on_each, end_effect}
 use Rattle.ados_files.specs.Texts.{text_or_empty}
 use Rattle.ados_files.specs.Acts.{at_names}
+use Rattle.ados_files.specs.Below.{objects_of}
+use Rattle.ados_files.specs.declared.options.TheConstants.{FILENOTE_FILE, FILENOTE_COMMENT, FILENOTE_ALL}
 
 -- one object gets the comment
 abbrev pub note_one : Text → Done → Place → Done
@@ -18,9 +20,14 @@ note_one comment done place =
     refused_or (comment_fault done.shared.files (key_of place) comment) done
     (record done { shared = with_files done.shared (comment_of done.shared.files (key_of place) comment) })
 
+-- the objects that a place stands for get it
+abbrev pub note_place : Bool → Text → Done → Place → Done
+note_place all comment done place = act_on_each (note_one comment) done (objects_of all done.shared.files place)
+
 -- without COMMENT the comment is cleared
-abbrev pub note_all : SharedState → View → Text → List Text → Effect
-note_all shared view comment texts = end_effect (act_on_each (at_names (note_one comment) view) (fresh_work shared) texts)
+abbrev pub comment_given : List Arg → Text
+comment_given args = text_or_empty (option_text args FILENOTE_COMMENT)
 
 abbrev pub filenote_row : SharedState → View → List Arg → Effect
-filenote_row shared view args = note_all shared view (text_or_empty (option_text args 1)) (option_texts args 0)
+filenote_row shared view args =
+    end_effect (act_on_each (at_names (note_place (has_switch args FILENOTE_ALL) (comment_given args)) view) (fresh_work shared) (option_texts args FILENOTE_FILE))

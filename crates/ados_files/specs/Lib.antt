@@ -1,4 +1,5 @@
 pub mod Bases
+pub mod Below
 pub mod Names
 pub mod Acts
 pub mod Texts

@@ -1,4 +1,4 @@
--- Protect: the bits of objects.
+-- Protect: the bits of objects, with ALL of all that is below them too.
 use Rattle.std.specs.Prelude.{ℕ, List, [], ◌∷◌, drop, codes, Bool, true, false, not, ◌&&◌, ◌||◌, ◌==◌, Option, Some, None, Result, Ok, Err, if◌then◌else◌}
 use Rattle.std.specs.List.{list_all, list_any}
 use Rattle.std.specs.FinMap as map
@@ -19,6 +19,8 @@ use Rattle.ados_find.specs.Effects.{Effect, codes_effect}
 use Rattle.ados_find.specs.Done.{Done, fresh_work, refused_or, act_on_each, end_effect}
 use Rattle.ados_files.specs.Texts.{text_or_empty}
 use Rattle.ados_files.specs.Acts.{at_names}
+use Rattle.ados_files.specs.Below.{objects_of}
+use Rattle.ados_files.specs.declared.options.TheConstants.{PROTECT_FILE, PROTECT_FLAGS, PROTECT_ADD, PROTECT_SUB, PROTECT_ALL}
 use Rattle.ados_files.specs.declared.protect.Way.{Way}
 use Rattle.ados_files.specs.declared.protect.Way.TheVariants.{Set, Add, Take}
 use Rattle.ados_files.specs.declared.protect.Change.{Change}
@@ -105,10 +107,15 @@ protect_one change done place = (let bits = changed_bits change (object_bits (ma
     refused_or (protect_fault done.shared.files (key_of place)) done
     (record done { shared = with_files done.shared (protect_of done.shared.files (key_of place) bits) }))
 
-abbrev pub protect_all : SharedState → View → Result Change Result2 → List Text → Effect
-protect_all shared view (Err fault) texts = codes_effect shared (fail_codes fault)
-protect_all shared view (Ok change) texts = end_effect (act_on_each (at_names (protect_one change) view) (fresh_work shared) texts)
+-- those of the objects that a place stands for
+abbrev pub protect_place : Bool → Change → Done → Place → Done
+protect_place all change done place = act_on_each (protect_one change) done (objects_of all done.shared.files place)
+
+abbrev pub protect_texts : SharedState → View → Bool → Result Change Result2 → List Text → Effect
+protect_texts shared view all (Err fault) texts = codes_effect shared (fail_codes fault)
+protect_texts shared view all (Ok change) texts = end_effect (act_on_each (at_names (protect_place all change) view) (fresh_work shared) texts)
 
 abbrev pub protect_row : SharedState → View → List Arg → Effect
 protect_row shared view args =
-    protect_all shared view (change_of (text_or_empty (option_text args 1)) (has_switch args 2) (has_switch args 3)) (option_texts args 0)
+    protect_texts shared view (has_switch args PROTECT_ALL)
+    (change_of (text_or_empty (option_text args PROTECT_FLAGS)) (has_switch args PROTECT_ADD) (has_switch args PROTECT_SUB)) (option_texts args PROTECT_FILE)

@@ -37,6 +37,9 @@ core_template_of files.«Type» = codes "FROM/A/M"
 abbrev pub full_template_of : FilesCommand → Text
 full_template_of files.Copy = codes "FROM/M,TO/A,ALL/S,QUIET/S,CLONE/S,COM/S,NOPRO/S,DATES/S,NOREQ/S,BUF=BUFFER/K/N"
 full_template_of files.Delete = codes "FILE/M/A,ALL/S,QUIET/S,FORCE/S"
+full_template_of files.Dir = codes "DIR,DIRS/S,FILES/S,ALL/S,OPT/K,INTER/S"
+full_template_of files.Filenote = codes "FILE/A,COMMENT,ALL/S,QUIET/S"
+full_template_of files.Protect = codes "FILE/A,FLAGS,ADD/S,SUB/S,ALL/S,QUIET/S"
 full_template_of command = core_template_of command
 
 -- the text of a command's template in a dialect

@@ -1,17 +1,18 @@
-ghost use Rattle.std.specs.Prelude.{◌≡◌, ◌++◌, IfOk, OnOk};
+ghost use Rattle.std.specs.Prelude.{◌≡◌, IfOk};
 ghost use Rattle.std.specs.Option.{option_copied};
 ghost use Rattle.ados_find.specs.Effects.{effect_of};
 ghost use Rattle.ados_find.specs.Paths.{Gives};
-ghost use Rattle.ados_files.specs.Bases.{all_children};
-ghost use Rattle.ados_files.specs.Dir.{directory_line, file_line, directories_text, files_text, dir_text, dir_effect, directories_given, dir_row};
+ghost use Rattle.ados_files.specs.Dir.{choice_by, choice_of, dir_by, dir_effect, directories_given, dir_row, is_dir_letter, are_dir_letters};
 
 use crate::bases::{all_children, entry_at};
-use crate::lines::{Line, keeps, push_lines, put_between};
+use crate::dir_lines::{Choice, dir_text};
+use crate::options::{DIR_ALL, DIR_DIR, DIR_DIRS, DIR_FILES, DIR_INTER, DIR_OPT};
+use crate::protect::{has_letter, text_or_empty};
 use ados_assign::Places;
 use ados_find::{Codes, CommandResult, Outcome, Refusal, Shared, ShellView, bases_of};
-use ados_ram::{Entry, Place, Ram, list_refusal};
+use ados_ram::{Place, list_refusal};
 use ados_readargs::Args;
-use ados_text::{NoMemory, Text};
+use ados_text::{Result2, Text, fold};
 use std::alloc::Global;
 
 /// Dir shows what is in a directory.
@@ -23,16 +24,61 @@ pub fn show_directory(
 ) -> CommandResult
     ensures { IfOk result (λ outcome. effect_of shared.now outcome ≡ dir_row shared.now view.now args.now) }
 {
-    let directory = args.made_text(alloc, 0)?;
-    match directories_given(alloc, shared, view, directory.as_ref()) {
+    let directory = args.made_text(alloc, DIR_DIR)?;
+    match choice_of(args, text_or_empty(args.text(DIR_OPT))) {
+        Err(codes) => Ok(Outcome::answering(alloc, codes)),
+        Ok(choice) => show(alloc, shared, view, directory.as_ref(), choice),
+    }
+}
+
+// What the switches and the letters of OPT ask for.
+fn choice_of(args: &Args, letters: &[u8]) -> Result<Choice, Codes>
+    ensures { result ≡ choice_of args.now letters.now }
+{
+    if args.has_switch(DIR_INTER) || has_letter(b'i', letters) {
+        return Err(Codes::erred(Result2::NOT_IMPLEMENTED));
+    }
+    if !are_dir_letters(letters) {
+        return Err(Codes::failed(Result2::BAD_NUMBER));
+    }
+    Ok(choice_by(args, letters))
+}
+
+// Whether each is a letter of OPT.
+fn are_dir_letters(letters: &[u8]) -> bool
+    ensures { result ≡ are_dir_letters letters.now }
+{
+    letters.iter().all(|letter| is_dir_letter(*letter))
+}
+
+fn is_dir_letter(letter: u8) -> bool
+    ensures { result ≡ is_dir_letter letter }
+{
+    has_letter(fold(letter), b"adf")
+}
+
+fn choice_by(args: &Args, letters: &[u8]) -> Choice
+    ensures { result ≡ choice_by args.now letters.now }
+{
+    Choice {
+        dirs: args.has_switch(DIR_DIRS) || has_letter(b'd', letters),
+        files: args.has_switch(DIR_FILES) || has_letter(b'f', letters),
+        all: args.has_switch(DIR_ALL) || has_letter(b'a', letters),
+    }
+}
+
+fn show(
+    alloc: Global,
+    shared: &Shared,
+    view: &ShellView,
+    text: Option<&Text>,
+    choice: Choice,
+) -> CommandResult
+    ensures { IfOk result (λ outcome. effect_of shared.now outcome ≡ dir_by shared.now view.now (option_copied text.entry) choice) }
+{
+    match directories_given(alloc, shared, view, text) {
         Err(refusal) => Ok(Outcome::answering(alloc, refusal.codes()?)),
-        Ok(bases) => dir_effect(
-            alloc,
-            shared,
-            args.has_switch(1),
-            args.has_switch(2),
-            bases.as_slice(),
-        ),
+        Ok(bases) => dir_effect(alloc, shared, choice, bases.as_slice()),
     }
 }
 
@@ -51,94 +97,15 @@ fn directories_given(
     }
 }
 
-fn dir_effect(
-    alloc: Global,
-    shared: &Shared,
-    dirs: bool,
-    files: bool,
-    bases: &[Place],
-) -> CommandResult
-    ensures { IfOk result (λ outcome. effect_of shared.now outcome ≡ dir_effect shared.now dirs files bases.now) }
+fn dir_effect(alloc: Global, shared: &Shared, choice: Choice, bases: &[Place]) -> CommandResult
+    ensures { IfOk result (λ outcome. effect_of shared.now outcome ≡ dir_effect shared.now choice bases.now) }
 {
     match list_refusal(entry_at(&shared.ram, bases)) {
         Some(fault) => Ok(Outcome::answering(alloc, Codes::erred(fault))),
         None => {
-            let output = dir_text(alloc, dirs, files, &shared.ram, bases)?;
+            let places = all_children(alloc, &shared.ram, bases)?;
+            let output = dir_text(alloc, choice, &shared.ram, &places)?;
             Ok(Outcome::putting(output))
-        }
-    }
-}
-
-fn dir_text(
-    alloc: Global,
-    dirs: bool,
-    files: bool,
-    ram: &Ram,
-    bases: &[Place],
-) -> Result<Vec<u8>, NoMemory>
-    ensures { IfOk result (λ text. text.items ≡ dir_text dirs files ram.now (all_children ram.now bases.now)) }
-{
-    let places = all_children(alloc, ram, bases)?;
-    let mut output = Vec::new(alloc);
-    push_directories(&mut output, keeps(dirs, files), ram, &places)?;
-    push_files(&mut output, keeps(files, dirs), ram, &places)?;
-    Ok(output)
-}
-
-fn push_directories(
-    output: &mut Vec<u8>,
-    kept: bool,
-    ram: &Ram,
-    places: &[Place],
-) -> Result<(), NoMemory>
-    ensures { OnOk result (output.new.items ≡ output.old.items ++ directories_text kept ram.now places.now) }
-{
-    if !kept {
-        return Ok(());
-    }
-    push_lines(output, &DirectoryLine, ram, places)
-}
-
-fn push_files(output: &mut Vec<u8>, kept: bool, ram: &Ram, places: &[Place]) -> Result<(), NoMemory>
-    ensures { OnOk result (output.new.items ≡ output.old.items ++ files_text kept ram.now places.now) }
-{
-    if !kept {
-        return Ok(());
-    }
-    push_lines(output, &FileLine, ram, places)
-}
-
-/// The line of a directory, if there is one.
-#[derive(Drop)]
-pub struct DirectoryLine;
-
-impl Line for DirectoryLine {
-    ghost line = { λ _. directory_line };
-
-    fn push(&self, output: &mut Vec<u8>, there: Option<&Entry>) -> Result<(), NoMemory> {
-        match there {
-            Some(entry) if entry.is_directory() => {
-                let name = entry.name.text().as_bytes();
-                put_between(output, b"     ", name, b" (dir)\n")
-            }
-            _ => Ok(()),
-        }
-    }
-}
-
-/// The line of a file, if there is one.
-#[derive(Drop)]
-pub struct FileLine;
-
-impl Line for FileLine {
-    ghost line = { λ _. file_line };
-
-    fn push(&self, output: &mut Vec<u8>, there: Option<&Entry>) -> Result<(), NoMemory> {
-        match there {
-            Some(entry) if !entry.is_directory() => {
-                put_between(output, b"  ", entry.name.text().as_bytes(), b"\n")
-            }
-            _ => Ok(()),
         }
     }
 }

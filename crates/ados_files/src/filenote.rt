@@ -1,9 +1,11 @@
 ghost use Rattle.std.specs.Prelude.{◌≡◌, IfOk};
 ghost use Rattle.ados_find.specs.Effects.{effect_of};
-ghost use Rattle.ados_files.specs.Filenote.{note_one, note_all, filenote_row};
+ghost use Rattle.ados_files.specs.Filenote.{comment_given, note_one, note_place, filenote_row};
 
 use crate::acts::{done_with_named, go_on};
-use ados_find::{Act, CommandResult, Shared, ShellView, Work, current};
+use crate::below::objects_of;
+use crate::options::{FILENOTE_ALL, FILENOTE_COMMENT, FILENOTE_FILE};
+use ados_find::{Act, CommandResult, Shared, ShellView, Work, current, each};
 use ados_ram::Place;
 use ados_readargs::Args;
 use ados_text::{NoMemory, Text};
@@ -13,32 +15,52 @@ use std::alloc::Global;
 pub fn filenote(alloc: Global, shared: &Shared, view: &ShellView, args: &Args) -> CommandResult
     ensures { IfOk result (λ outcome. effect_of shared.now outcome ≡ filenote_row shared.now view.now args.now) }
 {
-    let texts = args.made_texts(alloc, 0)?;
-    match args.made_text(alloc, 1)? {
-        None => noted(alloc, shared, view, &Text::new(alloc), texts.as_slice()),
-        Some(comment) => noted(alloc, shared, view, &comment, texts.as_slice()),
+    let comment = comment_given(alloc, args)?;
+    let act = Noting {
+        all: args.has_switch(FILENOTE_ALL),
+        comment: &comment,
+    };
+    let texts = args.made_texts(alloc, FILENOTE_FILE)?;
+    done_with_named(alloc, shared, view, &act, texts.as_slice())
+}
+
+// The text of COMMENT; without it the comment is cleared.
+fn comment_given(alloc: Global, args: &Args) -> Result<Text, NoMemory>
+    ensures { IfOk result (λ comment. comment ≡ comment_given args.now) }
+{
+    match args.made_text(alloc, FILENOTE_COMMENT)? {
+        None => Ok(Text::new(alloc)),
+        Some(comment) => Ok(comment),
     }
 }
 
-fn noted(
-    alloc: Global,
-    shared: &Shared,
-    view: &ShellView,
-    comment: &Text,
-    texts: &[Text],
-) -> CommandResult
-    ensures { IfOk result (λ outcome. effect_of shared.now outcome ≡ note_all shared.now view.now comment.now texts.now) }
-{
-    done_with_named(alloc, shared, view, &Noting { comment }, texts)
-}
-
-/// The setting of one object's comment.
+/// The setting of the comment of the objects that a place stands for.
 #[derive(Drop)]
 pub struct Noting<'a> {
+    pub all: bool,
     pub comment: &'a Text,
 }
 
 impl<'a> Act<Place> for Noting<'a> {
+    ghost act = { λ s. note_place s.all s.comment.now };
+
+    fn act(&self, shared: &Shared, work: &mut Work, place: &Place) -> Result<(), NoMemory> {
+        let alloc = *work.output.allocator();
+        let places = objects_of(alloc, self.all, &current(shared, &work.shared).ram, place)?;
+        let act = NotingOne {
+            comment: self.comment,
+        };
+        each(&act, shared, work, &places)
+    }
+}
+
+/// The setting of one object's comment.
+#[derive(Drop)]
+pub struct NotingOne<'a> {
+    pub comment: &'a Text,
+}
+
+impl<'a> Act<Place> for NotingOne<'a> {
     ghost act = { λ s. note_one s.comment.now };
 
     fn act(&self, shared: &Shared, work: &mut Work, place: &Place) -> Result<(), NoMemory> {

@@ -3,11 +3,13 @@
 
 mod acts;
 mod bases;
+mod below;
 mod copy;
 mod copy_one;
 mod delete;
 mod devices;
 mod dir;
+mod dir_lines;
 mod filenote;
 mod jobs;
 mod join;

@@ -3,10 +3,12 @@ ghost use Rattle.std.specs.Option.{option_copied, option_map};
 ghost use Rattle.ados_find.specs.Effects.{effect_of};
 
 use crate::acts::{done_with_named, go_on};
-use ados_find::{Act, Codes, CommandResult, Outcome, Shared, ShellView, Work, current};
+use crate::below::objects_of;
+use crate::options::{PROTECT_ADD, PROTECT_ALL, PROTECT_FILE, PROTECT_FLAGS, PROTECT_SUB};
+use ados_find::{Act, Codes, CommandResult, Outcome, Shared, ShellView, Work, current, each};
 use ados_ram::{Bits, Entry, Place};
 use ados_readargs::Args;
-use ados_text::{NoMemory, Result2, Text, fold};
+use ados_text::{NoMemory, Result2, fold};
 use std::alloc::Global;
 
 /// How the given bits change those of an object.
@@ -25,7 +27,7 @@ pub struct Change {
 }
 
 ghost use Rattle.ados_files.specs.Protect.{begins_with, flag_letters, has_letter, bits_of, is_letter, are_letters, way_of, change_of};
-ghost use Rattle.ados_files.specs.Protect.{changed_bit, changed_bits, object_bits, protect_one, protect_all, protect_row};
+ghost use Rattle.ados_files.specs.Protect.{changed_bit, changed_bits, object_bits, protect_one, protect_place, protect_row};
 ghost use Rattle.ados_files.specs.Texts.{text_or_empty};
 
 /// Protect changes the bits of objects.
@@ -33,31 +35,23 @@ pub fn protect(alloc: Global, shared: &Shared, view: &ShellView, args: &Args) ->
     ensures { IfOk result (λ outcome. effect_of shared.now outcome ≡ protect_row shared.now view.now args.now) }
 {
     let change = change_of(
-        text_or_empty(args.text(1)),
-        args.has_switch(2),
-        args.has_switch(3),
+        text_or_empty(args.text(PROTECT_FLAGS)),
+        args.has_switch(PROTECT_ADD),
+        args.has_switch(PROTECT_SUB),
     );
-    let texts = args.made_texts(alloc, 0)?;
-    protected_by(alloc, shared, view, change, texts.as_slice())
-}
-
-fn protected_by(
-    alloc: Global,
-    shared: &Shared,
-    view: &ShellView,
-    change: Result<Change, Result2>,
-    texts: &[Text],
-) -> CommandResult
-    ensures { IfOk result (λ outcome. effect_of shared.now outcome ≡ protect_all shared.now view.now change texts.now) }
-{
+    let texts = args.made_texts(alloc, PROTECT_FILE)?;
     match change {
         Err(fault) => Ok(Outcome::answering(alloc, Codes::failed(fault))),
-        Ok(change) => done_with_named(alloc, shared, view, &Protecting { change }, texts),
+        Ok(change) => {
+            let all = args.has_switch(PROTECT_ALL);
+            let act = Protecting { all, change };
+            done_with_named(alloc, shared, view, &act, texts.as_slice())
+        }
     }
 }
 
-// The given text, or the empty one.
-fn text_or_empty(text: Option<&[u8]>) -> &[u8]
+/// The given text, or the empty one.
+pub fn text_or_empty(text: Option<&[u8]>) -> &[u8]
     ensures { result.now ≡ text_or_empty (option_map (λ t. t.now) text.entry) }
 {
     match text {
@@ -131,8 +125,8 @@ fn is_letter(letter: u8) -> bool
     has_letter(fold(letter), b"hsparwed")
 }
 
-// Whether the letter is among others, with case ignored.
-fn has_letter(letter: u8, letters: &[u8]) -> bool
+/// Whether the letter is among others, with case ignored.
+pub fn has_letter(letter: u8, letters: &[u8]) -> bool
     ensures { result ≡ has_letter letter letters.now }
 {
     letters.iter().any(|other| fold(*other) == letter)
@@ -189,13 +183,33 @@ fn object_bits(there: Option<&Entry>) -> Bits
     }
 }
 
-/// The change of one object's bits.
+/// The change of the bits of the objects that a place stands for.
 #[derive(Drop)]
 pub struct Protecting {
+    pub all: bool,
     pub change: Change,
 }
 
 impl Act<Place> for Protecting {
+    ghost act = { λ s. protect_place s.all s.change };
+
+    fn act(&self, shared: &Shared, work: &mut Work, place: &Place) -> Result<(), NoMemory> {
+        let alloc = *work.output.allocator();
+        let places = objects_of(alloc, self.all, &current(shared, &work.shared).ram, place)?;
+        let act = ProtectingOne {
+            change: self.change,
+        };
+        each(&act, shared, work, &places)
+    }
+}
+
+/// The change of one object's bits.
+#[derive(Drop)]
+pub struct ProtectingOne {
+    pub change: Change,
+}
+
+impl Act<Place> for ProtectingOne {
     ghost act = { λ s. protect_one s.change };
 
     fn act(&self, shared: &Shared, work: &mut Work, place: &Place) -> Result<(), NoMemory> {

@@ -68,12 +68,12 @@ fn full_template(command: FilesCommand) -> &'static str
         FilesCommand::Copy =>
             "FROM/M,TO/A,ALL/S,QUIET/S,CLONE/S,COM/S,NOPRO/S,DATES/S,NOREQ/S,BUF=BUFFER/K/N",
         FilesCommand::Delete => "FILE/M/A,ALL/S,QUIET/S,FORCE/S",
-        FilesCommand::Dir
-        | FilesCommand::Filenote
-        | FilesCommand::Join
+        FilesCommand::Dir => "DIR,DIRS/S,FILES/S,ALL/S,OPT/K,INTER/S",
+        FilesCommand::Filenote => "FILE/A,COMMENT,ALL/S,QUIET/S",
+        FilesCommand::Protect => "FILE/A,FLAGS,ADD/S,SUB/S,ALL/S,QUIET/S",
+        FilesCommand::Join
         | FilesCommand::List
         | FilesCommand::MakeDir
-        | FilesCommand::Protect
         | FilesCommand::Rename
         | FilesCommand::Type => core_template(command),
     }
