@@ -11,6 +11,7 @@ pub mod Operators
 pub mod Numerals
 pub mod Tokens
 pub mod Expression
+pub mod Grammar
 pub mod EvalFormat
 pub mod EvalFull
 pub mod Eval

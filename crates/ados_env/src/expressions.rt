@@ -1,6 +1,7 @@
 //! The value of an expression, by its tokens from left to right.
-ghost use Rattle.std.specs.Prelude.{◌≡◌, IfOk};
+ghost use Rattle.std.specs.Prelude.{◌≡◌, ℤ, [], Option, IfOk};
 ghost use Rattle.ados_text.specs.Stop.{Gives};
+ghost use Rattle.ados_env.specs.Grammar.{IsExpression};
 ghost use Rattle.ados_env.specs.Tokens.{tokens_of};
 ghost use Rattle.ados_env.specs.Expression.{closed, expression_value, limit_read, operator_read, settled_value, state_after, state_of, value_read, waits_left, waits_of, wanting_after, whole_value};
 
@@ -40,9 +41,12 @@ pub enum Reader {
 
 /// The value of an expression.
 ///
-/// 116 where a value is wanted and the text ends; 115 for any other fault of form, and for a value that is no number.
+/// 116 where a value is wanted and the text ends; 115 for any other fault of form, and for a value that is no number. What the
+/// grammar writes has the value that it says.
+#[tactic(auto, using(crate::proofs::GrammarLemmas::grammar_read))]
 pub fn expression_value(alloc: Global, text: &[u8]) -> Result<i32, Stop>
-    ensures { Gives result (expression_value text.now) }
+    ensures value { Gives result (expression_value text.now) }
+    ensures grammar { (value : Option ℤ) → IsExpression (tokens_of text.now) value → expression_value text.now ≡ whole_value value [] }
 {
     let tokens = tokens_of(alloc, text)?;
     read(alloc, Reader::Wanting(Waits::Nothing), tokens.as_slice())?.ended()
