@@ -3,10 +3,17 @@ pub mod AssignNames
 pub mod AssignLines
 pub mod AssignList
 pub mod AssignRequest
+pub mod AssignListing
 pub mod Assign
 pub mod Cd
 pub mod Echo
 pub mod Operators
+pub mod Numerals
+pub mod Tokens
+pub mod Expression
+pub mod Grammar
+pub mod EvalFormat
+pub mod EvalFull
 pub mod Eval
 pub mod FailAt
 pub mod Fault
@@ -16,6 +23,8 @@ pub mod Variables
 pub mod Aliases
 pub mod Globals
 pub mod Path
+pub mod Sought
+pub mod WhichHits
 pub mod Which
 pub mod Status
 pub mod Resident

@@ -53,7 +53,8 @@ impl Request {
         self.adds || self.removes
     }
 
-    fn has_target(&self) -> bool
+    /// It has texts of TARGET.
+    pub fn has_target(&self) -> bool
         ensures { result ≡ has_target self.now }
     {
         self.targets.len() > 0

@@ -5,9 +5,13 @@ ghost use Rattle.ados_assign.specs.Uses.{reached_devices};
 ghost use Rattle.ados_readargs.specs.Args.{has_switch, option_text, option_texts};
 ghost use Rattle.ados_find.specs.Search.{device_named};
 ghost use Rattle.ados_resident.specs.declared.commands.EnvCommand.TheVariants.{Assign};
+ghost use Rattle.ados_env.specs.declared.options.TheConstants.{WHICH_FILE};
+ghost use Rattle.ados_env.specs.Sought.{sought_of};
 ghost use Rattle.ados_env.specs.Devices.{devices_of, paths_in, program_paths, search_devices};
 
-use ados_find::{Shared, ShellView, find};
+use crate::options::{EVAL_TO, WHICH_FILE};
+use crate::sought::Sought;
+use ados_find::{Shared, ShellView};
 use ados_readargs::Args;
 use ados_resident::EnvCommand;
 use ados_text::{Name, NoMemory};
@@ -33,6 +37,9 @@ pub fn push_devices(
         EnvCommand::Assign => push_targets(alloc, shared, args, used),
         EnvCommand::Cd | EnvCommand::Path => {
             shared.push_devices_of(used, args.made_texts(alloc, 0)?.as_slice())
+        }
+        EnvCommand::Eval => {
+            shared.push_devices_of(used, args.made_texts(alloc, EVAL_TO)?.as_slice())
         }
         EnvCommand::Resident => push_program(alloc, shared, args, used),
         _ => Ok(()),
@@ -80,12 +87,15 @@ fn push_sought(
     args: &Args,
     used: &mut Vec<Name>,
 ) -> Result<(), NoMemory>
-    ensures { OnOk result (used.new.items ≡ used.old.items ++ flat_map (reached_devices shared.now.assigns) (search_devices shared.now view.now.parts (option_text args.now 0))) }
+    ensures { OnOk result (used.new.items ≡ used.old.items ++ flat_map (reached_devices shared.now.assigns) (search_devices shared.now view.now.parts (sought_of args.now) (option_text args.now WHICH_FILE))) }
 {
-    let Some(word) = args.made_text(alloc, 0)? else {
+    let Some(word) = args.made_text(alloc, WHICH_FILE)? else {
         return Ok(());
     };
-    let path = view.settings.path.entries();
-    let search = find(alloc, &word, shared, view.directory, path)?;
-    shared.push_searched(alloc, used, search.route, &word)
+    let sought = Sought::of(args);
+    if !sought.files {
+        return Ok(());
+    }
+    let route = sought.route(alloc, shared, view, &word)?;
+    shared.push_searched(alloc, used, route, &word)
 }

@@ -1,0 +1,39 @@
+-- Which with ALL: what the search for a word meets.
+use Rattle.std.specs.Prelude.{Bool, not, ◌&&◌, ◌||◌, List, [], ◌++◌, codes, Option, Some, None, is_some, Result, Ok, Err, if◌then◌else◌}
+use Rattle.std.specs.List.{flat_map}
+use Rattle.std.specs.FinMap as map
+use Rattle.ados_text.specs.Text.{Bytes, Text}
+use Rattle.ados_ram.specs.Place.{Place, key_of}
+use Rattle.ados_ram.specs.Entry.{is_directory, bytes_of}
+use Rattle.ados_ram.specs.declared.entries.Entry.{Entry}
+use Rattle.ados_find.specs.declared.codes.Codes.{Codes}
+use Rattle.ados_find.specs.Parts.{Parts}
+use Rattle.ados_find.specs.Paths.{place_of}
+use Rattle.ados_find.specs.Search.{is_path, places_of_entries}
+use Rattle.ados_find.specs.Shared.{SharedState}
+use Rattle.ados_resident.specs.declared.hosts.HostEntry.{HostEntry}
+use Rattle.ados_resident.specs.Programs.{recognized_program}
+use Rattle.ados_env.specs.Directories.{path_line}
+
+-- a script, or a program by its bytes that has bit e
+abbrev pub is_command : List HostEntry → Entry → Bool
+is_command hosts e = not (is_directory e) && (e.bits.script || (e.bits.execute && is_some (recognized_program hosts (bytes_of e))))
+
+-- a script or a program has a line
+abbrev pub entry_line : SharedState → Place → Option Entry → Bytes
+entry_line shared place None = []
+entry_line shared place (Some e) = if is_command shared.hosts e then path_line shared.files place else []
+
+abbrev pub place_line : SharedState → Result Place Codes → Bytes
+place_line shared (Err codes) = []
+place_line shared (Ok place) = entry_line shared place (map.get shared.files (key_of place))
+
+-- unless the word is a path it is also looked up in the directories of the path, and in C:
+abbrev pub further_lines : SharedState → Parts → Text → Bytes
+further_lines shared parts word =
+    if is_path word then []
+    else flat_map (place_line shared) (places_of_entries shared parts.settings.path word) ++ place_line shared (place_of shared parts.directory (codes "C:" ++ word))
+
+-- the lines of the files at the places where a word is looked up, in their order
+abbrev pub file_lines : SharedState → Parts → Text → Bytes
+file_lines shared parts word = place_line shared (place_of shared parts.directory word) ++ further_lines shared parts word
