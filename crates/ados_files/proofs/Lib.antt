@@ -5,3 +5,4 @@ pub mod DeleteStays
 pub mod ShellsLemmas
 mod RenameLemmas
 pub mod DeviceLemmas
+mod ShapeLemmas

@@ -9,6 +9,7 @@ mod delete;
 mod devices;
 mod dir;
 mod filenote;
+mod formats;
 mod jobs;
 mod join;
 mod laws;
@@ -20,6 +21,8 @@ mod options;
 mod protect;
 mod rename;
 mod rows;
+mod shapes;
+mod spellings;
 mod type_files;
 
 pub use devices::push_devices;
