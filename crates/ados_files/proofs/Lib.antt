@@ -6,3 +6,4 @@ pub mod ShellsLemmas
 mod RenameLemmas
 pub mod DeviceLemmas
 pub mod LevelLemmas
+mod ShapeLemmas

@@ -9,6 +9,10 @@ pub mod TypeFiles
 pub mod Filenote
 pub mod Protect
 pub mod Lines
+pub mod Options
+pub mod Formats
+pub mod Shapes
+pub mod Spellings
 pub mod Listing
 pub mod Dir
 pub mod Rename

@@ -1,7 +1,9 @@
 -- List: objects, and what is in directories.
-use Rattle.std.specs.Prelude.{Bool, true, false, cond, ◌&&◌, List, [], ◌∷◌, ◌++◌, Option, Some, None, Result, Ok, Err, if◌then◌else◌}
+use Rattle.std.specs.Prelude.{ℕ, Bool, true, false, ◌||◌, cond, List, [], ◌∷◌, ◌++◌, Option, Some, None, Result, Ok, Err, option_map, if◌then◌else◌}
 use Rattle.std.specs.FinMap as map
-use Rattle.ados_text.specs.Text.{Bytes, Text}
+use Rattle.ados_text.specs.Text.{Text}
+use Rattle.ados_text.specs.declared.codes.Result2.{Result2}
+use Rattle.ados_text.specs.declared.codes.TheConstants.Result2.{NOT_IMPLEMENTED}
 use Rattle.ados_pattern.specs.Meaning.{Meaning}
 use Rattle.ados_readargs.specs.declared.args.Arg.{Arg}
 use Rattle.ados_readargs.specs.Args.{option_texts, option_text, has_switch}
@@ -14,34 +16,17 @@ use Rattle.ados_ram.specs.declared.entries.Entry.{Entry}
 use Rattle.ados_find.specs.declared.codes.Codes.{Codes}
 use Rattle.ados_find.specs.Shared.{SharedState}
 use Rattle.ados_find.specs.Views.{View}
-use Rattle.ados_find.specs.Effects.{Effect, codes_effect, if_found}
+use Rattle.ados_find.specs.Effects.{Effect, codes_effect, if_found, unless_refused}
 use Rattle.ados_find.specs.Done.{Done, fresh_work, stop_with_codes, refused_or, act_on_each, end_effect}
-use Rattle.ados_pattern.specs.Matching.{is_match}
 use Rattle.ados_files.specs.Bases.{all_children, entry_at}
+use Rattle.ados_files.specs.Formats.{format_of}
 use Rattle.ados_files.specs.Names.{FoundPlaces, pattern_of, named_bases}
-use Rattle.ados_files.specs.Lines.{keeps, entry_lines, list_line}
-use Rattle.ados_files.specs.declared.listing.Shape.{Shape}
-
--- PAT keeps names that match
-abbrev pub passes : Option Meaning → Entry → Bool
-passes None e = true
-passes (Some pattern) e = is_match pattern.form e.name
-
--- FILES shows files alone, DIRS directories alone; both or neither show both
-abbrev pub is_selected : Shape → Entry → Bool
-is_selected shape e = cond (is_directory e) (keeps shape.dirs shape.files) (keeps shape.files shape.dirs)
-
--- QUICK shows the name alone
-abbrev pub shown_line : Bool → Entry → Bytes
-shown_line true e = e.name ++ 10 ∷ []
-shown_line false e = list_line e
-
-abbrev pub kept_line : Shape → Entry → Bytes
-kept_line shape e = if is_selected shape e && passes shape.pattern e then shown_line shape.quick e else []
-
-abbrev pub line_by_shape : Shape → Option Entry → Bytes
-line_by_shape shape None = []
-line_by_shape shape (Some e) = kept_line shape e
+use Rattle.ados_files.specs.Options.{is_given}
+use Rattle.ados_files.specs.Shapes.{group_lines}
+use Rattle.ados_files.specs.Spellings.{spelled_path}
+use Rattle.ados_files.specs.declared.options.TheConstants.{LIST_DIR, LIST_PAT, LIST_QUICK, LIST_FILES, LIST_DIRS, LIST_SUB, LIST_LFORMAT, LIST_ALL, LIST_SINCE, LIST_UPTO}
+use Rattle.ados_files.specs.declared.shapes.Shape.{Shape}
+use Rattle.ados_files.specs.declared.shapes.TheConstants.{DEEPEST}
 
 -- what places that are named by a path stand for: directories for the objects in them
 abbrev pub entries_of : Files → List Place → Option Entry → List Place
@@ -52,20 +37,22 @@ entries_of files places (Some e) = cond (is_directory e) (all_children files pla
 abbrev pub listed_places : Files → FoundPlaces → List Place
 listed_places files found = if found.literal then entries_of files found.places (entry_at files found.places) else found.places
 
-abbrev pub list_places : Shape → Done → List Place → Done
-list_places shape done places = record done { output = done.output ++ entry_lines (line_by_shape shape) done.shared.files places }
+-- the lines of objects, with the path before their names, and of what is below them
+abbrev pub list_places : Shape → Text → Done → List Place → Done
+list_places shape path done places = record done { output = done.output ++ group_lines shape done.shared.files shape.depth path places }
 
-abbrev pub list_found : Shape → Done → FoundPlaces → Done
-list_found shape done found = list_places shape done (listed_places done.shared.files found)
+abbrev pub list_found : Shape → Text → Done → FoundPlaces → Done
+list_found shape text done found =
+    list_places shape (spelled_path done.shared.files text found) done (listed_places done.shared.files found)
 
 abbrev pub list_text : Shape → View → Done → Text → Done
-list_text shape view done text = if_found (stop_with_codes done) (named_bases done.shared view.parts.directory text) (list_found shape done)
+list_text shape view done text = if_found (stop_with_codes done) (named_bases done.shared view.parts.directory text) (list_found shape text done)
 
 -- the objects in a directory
 abbrev pub list_directory : Shape → Done → Place → Done
 list_directory shape done place =
     refused_or (list_fault (map.get done.shared.files (key_of place))) done
-    (list_places shape done (children (key_of place) (map.entries done.shared.files)))
+    (list_places shape [] done (children (key_of place) (map.entries done.shared.files)))
 
 -- without arguments the current directory
 abbrev pub list_texts : Shape → View → Done → List Text → Done
@@ -81,10 +68,31 @@ abbrev pub pattern_given : Option Text → Result (Option Meaning) Codes
 pattern_given None = Ok None
 pattern_given (Some text) = some_pattern (pattern_of text)
 
+-- ALL looks as far below as there are objects
+abbrev pub depth_of : Bool → ℕ
+depth_of true = DEEPEST
+depth_of false = 0
+
+-- what is shown
+abbrev pub shape_of : List Arg → Option Meaning → Shape
+shape_of args pattern = record {
+  pattern = pattern;
+  part = option_text args LIST_SUB;
+  quick = has_switch args LIST_QUICK;
+  files = has_switch args LIST_FILES;
+  dirs = has_switch args LIST_DIRS;
+  format = option_map format_of (option_text args LIST_LFORMAT);
+  depth = depth_of (has_switch args LIST_ALL);
+}
+
 abbrev pub list_by : SharedState → View → List Arg → Option Meaning → Effect
-list_by shared view args pattern =
-    end_effect
-    (list_texts (record { pattern = pattern; quick = has_switch args 2; files = has_switch args 3; dirs = has_switch args 4 }) view (fresh_work shared) (option_texts args 0))
+list_by shared view args pattern = end_effect (list_texts (shape_of args pattern) view (fresh_work shared) (option_texts args LIST_DIR))
+
+-- dates are not kept, so SINCE and UPTO are refused
+abbrev pub since_fault : List Arg → Option Result2
+since_fault args = if is_given args LIST_SINCE || is_given args LIST_UPTO then Some NOT_IMPLEMENTED else None
 
 abbrev pub list_row : SharedState → View → List Arg → Effect
-list_row shared view args = if_found (codes_effect shared) (pattern_given (option_text args 1)) (list_by shared view args)
+list_row shared view args =
+    unless_refused (codes_effect shared) (since_fault args)
+    (if_found (codes_effect shared) (pattern_given (option_text args LIST_PAT)) (list_by shared view args))

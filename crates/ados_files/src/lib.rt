@@ -11,6 +11,7 @@ mod devices;
 mod dir;
 mod dir_lines;
 mod filenote;
+mod formats;
 mod jobs;
 mod join;
 mod laws;
@@ -22,6 +23,8 @@ mod options;
 mod protect;
 mod rename;
 mod rows;
+mod shapes;
+mod spellings;
 mod type_files;
 
 pub use devices::push_devices;

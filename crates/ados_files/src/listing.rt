@@ -1,51 +1,79 @@
-ghost use Rattle.std.specs.Prelude.{◌≡◌, ◌++◌, IfOk, OnOk};
+ghost use Rattle.std.specs.Prelude.{◌≡◌, ◌++◌, IfOk, OnOk, option_map};
 ghost use Rattle.std.specs.Option.{option_copied};
+ghost use Rattle.ados_readargs.specs.Args.{option_text};
+ghost use Rattle.ados_files.specs.declared.options.TheConstants.{LIST_LFORMAT};
+ghost use Rattle.ados_files.specs.Shapes.{group_lines};
 ghost use Rattle.ados_files.specs.Bases.{entry_at};
+ghost use Rattle.ados_files.specs.Formats.{format_of};
 ghost use Rattle.ados_find.specs.Done.{fresh_work, end_effect};
 ghost use Rattle.ados_find.specs.Effects.{effect_of};
 ghost use Rattle.ados_find.specs.Paths.{Gives};
+ghost use Rattle.ados_files.specs.Listing.{entries_of, listed_places, list_text, list_directory, list_texts, pattern_given, depth_of, shape_of, list_row};
 
 use crate::acts::done_with;
 use crate::bases::{all_children, entry_at};
-use crate::lines::{Line, keeps, push_line, push_lines};
+use crate::formats::Format;
 use crate::names::{Found, named_bases, pattern_of};
+use crate::options::{
+    LIST_ALL, LIST_DIR, LIST_DIRS, LIST_FILES, LIST_LFORMAT, LIST_PAT, LIST_QUICK, LIST_SINCE,
+    LIST_SUB, LIST_UPTO, is_given,
+};
+use crate::shapes::{DEEPEST, Shape, Shown, push_group};
+use crate::spellings::spelled_path;
 use ados_find::{Act, Codes, CommandResult, Outcome, Refusal, Shared, ShellView, Work, current};
 use ados_pattern::Pattern;
-use ados_ram::{Entry, Place, Ram, list_refusal, push_places};
+use ados_ram::{Place, Ram, list_refusal, push_places};
 use ados_readargs::Args;
-use ados_text::{NoMemory, Text};
+use ados_text::{NoMemory, Result2, Text};
 use std::alloc::Global;
 use std::slice;
-
-/// What List shows: the names that match a pattern, the name alone, files, directories.
-#[derive(Drop)]
-pub struct Shape {
-    pub pattern: Option<Pattern>,
-    pub quick: bool,
-    pub files: bool,
-    pub dirs: bool,
-}
-
-ghost use Rattle.ados_files.specs.Listing.{passes, is_selected, shown_line, kept_line, line_by_shape, entries_of, listed_places};
-ghost use Rattle.ados_files.specs.Listing.{list_text, list_directory, list_texts, pattern_given, list_row};
 
 /// List shows lines of objects, and of what is in directories.
 pub fn list(alloc: Global, shared: &Shared, view: &ShellView, args: &Args) -> CommandResult
     ensures { IfOk result (λ outcome. effect_of shared.now outcome ≡ list_row shared.now view.now args.now) }
 {
-    let pattern = args.made_text(alloc, 1)?;
+    if is_given(args, LIST_SINCE) || is_given(args, LIST_UPTO) {
+        return Ok(Outcome::answering(alloc, Codes::erred(Result2::NOT_IMPLEMENTED)));
+    }
+    let pattern = args.made_text(alloc, LIST_PAT)?;
     match pattern_given(alloc, pattern.as_ref()) {
         Err(refusal) => Ok(Outcome::answering(alloc, refusal.codes()?)),
         Ok(pattern) => {
-            let shape = Shape {
-                pattern,
-                quick: args.has_switch(2),
-                files: args.has_switch(3),
-                dirs: args.has_switch(4),
-            };
-            let texts = args.made_texts(alloc, 0)?;
+            let shape = shape_of(alloc, args, pattern)?;
+            let texts = args.made_texts(alloc, LIST_DIR)?;
             list_texts(alloc, shared, view, &shape, texts.as_slice())
         }
+    }
+}
+
+fn shape_of(alloc: Global, args: &Args, pattern: Option<Pattern>) -> Result<Shape, NoMemory>
+    ensures { IfOk result (λ shape. shape ≡ shape_of args.now pattern) }
+{
+    Ok(Shape {
+        pattern,
+        part: args.made_text(alloc, LIST_SUB)?,
+        quick: args.has_switch(LIST_QUICK),
+        files: args.has_switch(LIST_FILES),
+        dirs: args.has_switch(LIST_DIRS),
+        format: format_given(alloc, args)?,
+        depth: depth_of(args.has_switch(LIST_ALL)),
+    })
+}
+
+// How far below it looks: with ALL as far as there are objects.
+fn depth_of(all: bool) -> usize
+    ensures { result ≡ depth_of all }
+{
+    if all { DEEPEST } else { 0 }
+}
+
+// The format of LFORMAT, if it is given.
+fn format_given(alloc: Global, args: &Args) -> Result<Option<Format>, NoMemory>
+    ensures { IfOk result (λ format. format ≡ option_map format_of (option_text args.now LIST_LFORMAT)) }
+{
+    match args.made_text(alloc, LIST_LFORMAT)? {
+        None => Ok(None),
+        Some(text) => Ok(Some(Format::of(alloc, &text)?)),
     }
 }
 
@@ -97,8 +125,9 @@ impl<'a> Act<Text> for Listing<'a> {
                 Ok(())
             }
             Ok(found) => {
+                let path = spelled_path(alloc, &now.ram, text, &found)?;
                 let places = listed(alloc, &now.ram, &found)?;
-                push_lines(&mut work.output, self.shape, &now.ram, &places)
+                push_listed(&mut work.output, self.shape, &path, &now.ram, &places)
             }
         }
     }
@@ -121,11 +150,25 @@ impl<'a> Act<Place> for ListingAt<'a> {
                 Ok(())
             }
             None => {
+                let path = Text::new(*work.output.allocator());
                 let places = ram.children(place)?;
-                push_lines(&mut work.output, self.shape, ram, &places)
+                push_listed(&mut work.output, self.shape, &path, ram, &places)
             }
         }
     }
+}
+
+// Appends the lines of objects, with the path before their names, and of what is below them.
+fn push_listed(
+    output: &mut Vec<u8>,
+    shape: &Shape,
+    path: &Text,
+    ram: &Ram,
+    places: &[Place],
+) -> Result<(), NoMemory>
+    ensures { OnOk result (output.new.items ≡ output.old.items ++ group_lines shape.now ram.now shape.now.depth path.now places.now) }
+{
+    push_group(output, &Shown { shape, path }, shape.depth, ram, places)
 }
 
 // What is listed for an argument.
@@ -153,60 +196,4 @@ fn entries_of(alloc: Global, ram: &Ram, places: &[Place]) -> Result<Vec<Place>, 
             Ok(own)
         }
     }
-}
-
-impl Line for Shape {
-    ghost line = { λ s. line_by_shape s };
-
-    fn push(&self, output: &mut Vec<u8>, there: Option<&Entry>) -> Result<(), NoMemory> {
-        push_there(output, self, there)
-    }
-}
-
-fn push_there(output: &mut Vec<u8>, shape: &Shape, there: Option<&Entry>) -> Result<(), NoMemory>
-    ensures { OnOk result (output.new.items ≡ output.old.items ++ line_by_shape shape.now (option_copied there.entry)) }
-{
-    match there {
-        None => Ok(()),
-        Some(entry) => push_kept(output, shape, entry),
-    }
-}
-
-fn push_kept(output: &mut Vec<u8>, shape: &Shape, entry: &Entry) -> Result<(), NoMemory>
-    ensures { OnOk result (output.new.items ≡ output.old.items ++ kept_line shape.now entry.now) }
-{
-    if !is_selected(shape, entry) || !passes(&shape.pattern, entry)? {
-        return Ok(());
-    }
-    push_shown(output, shape.quick, entry)
-}
-
-fn is_selected(shape: &Shape, entry: &Entry) -> bool
-    ensures { result ≡ is_selected shape.now entry.now }
-{
-    if entry.is_directory() {
-        keeps(shape.dirs, shape.files)
-    } else {
-        keeps(shape.files, shape.dirs)
-    }
-}
-
-fn passes(pattern: &Option<Pattern>, entry: &Entry) -> Result<bool, NoMemory>
-    ensures { IfOk result (λ b. b ≡ passes pattern.now entry.now) }
-{
-    match pattern {
-        None => Ok(true),
-        Some(pattern) => pattern.matches(entry.name.text()),
-    }
-}
-
-fn push_shown(output: &mut Vec<u8>, quick: bool, entry: &Entry) -> Result<(), NoMemory>
-    ensures { OnOk result (output.new.items ≡ output.old.items ++ shown_line quick entry.now) }
-{
-    if quick {
-        output.extend_from_slice(entry.name.text().as_bytes())?;
-        output.push(b'\n')?;
-        return Ok(());
-    }
-    push_line(output, entry)
 }

@@ -83,15 +83,15 @@ pub fn named_bases(alloc: Global, shared: &Shared, directory: &Place, text: &Tex
     }
 }
 
-// The path before the last piece of a text.
-fn directory_part(text: &Text) -> Result<Text, NoMemory>
+/// The path before the last piece of a text.
+pub fn directory_part(text: &Text) -> Result<Text, NoMemory>
     ensures { IfOk result (λ head. head ≡ directory_part text.now) }
 {
     text.part(0, last_piece(text))
 }
 
-// The last piece of a text.
-fn piece_of(text: &Text) -> Result<Text, NoMemory>
+/// The last piece of a text.
+pub fn piece_of(text: &Text) -> Result<Text, NoMemory>
     ensures { IfOk result (λ piece. piece ≡ piece_of text.now) }
 {
     text.part(last_piece(text), text.as_bytes().len())

@@ -70,9 +70,10 @@ fn full_template(command: FilesCommand) -> &'static str
         FilesCommand::Delete => "FILE/M/A,ALL/S,QUIET/S,FORCE/S",
         FilesCommand::Dir => "DIR,DIRS/S,FILES/S,ALL/S,OPT/K,INTER/S",
         FilesCommand::Filenote => "FILE/A,COMMENT,ALL/S,QUIET/S",
+        FilesCommand::List =>
+            "DIR/M,P=PAT/K,QUICK/S,FILES/S,DIRS/S,SUB/K,LFORMAT/K,ALL/S,KEYS/S,DATES/S,NODATES/S,BLOCK/S,NOHEAD/S,SINCE/K,UPTO/K",
         FilesCommand::Protect => "FILE/A,FLAGS,ADD/S,SUB/S,ALL/S,QUIET/S",
         FilesCommand::Join
-        | FilesCommand::List
         | FilesCommand::MakeDir
         | FilesCommand::Rename
         | FilesCommand::Type => core_template(command),
