@@ -73,10 +73,8 @@ fn full_template(command: FilesCommand) -> &'static str
         FilesCommand::List =>
             "DIR/M,P=PAT/K,QUICK/S,FILES/S,DIRS/S,SUB/K,LFORMAT/K,ALL/S,KEYS/S,DATES/S,NODATES/S,BLOCK/S,NOHEAD/S,SINCE/K,UPTO/K",
         FilesCommand::Protect => "FILE/A,FLAGS,ADD/S,SUB/S,ALL/S,QUIET/S",
-        FilesCommand::Join
-        | FilesCommand::MakeDir
-        | FilesCommand::Rename
-        | FilesCommand::Type => core_template(command),
+        FilesCommand::Join | FilesCommand::MakeDir | FilesCommand::Rename | FilesCommand::Type =>
+            core_template(command),
     }
 }
 
