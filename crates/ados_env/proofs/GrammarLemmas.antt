@@ -1,5 +1,5 @@
 -- What the grammar writes is read with its value.
-use Rattle.std.proofs.Common.{◌≡◌, ℕ, suc, ℤ, pos, neg_ℤ, ◌^◌, ◌<◌, ◌≤◌, List, [], ◌∷◌, ◌++◌, Bool, true, false, if◌then◌else◌, Option, Some, None, refl, sym, ◌∙◌, ap, arith}
+use Rattle.std.proofs.Common.{◌≡◌, ℕ, suc, ℤ, pos, neg_ℤ, ◌^◌, ◌<◌, ◌≤◌, List, [], ◌∷◌, ◌++◌, if◌then◌else◌, Option, Some, refl, ◌∙◌, ap, arith}
 use Rattle.std.proofs.lemmas.Bool.{le-leb, lt-leb}
 use Rattle.ados_env.specs.declared.operators.Operator.{Operator as BinaryOperator}
 use Rattle.ados_env.specs.declared.operators.Operator.TheVariants.{Plus, Minus, Times, Divide, Modulo, ShiftLeft, ShiftRight, And, Xor, Equal, Or}
@@ -8,8 +8,8 @@ use Rattle.ados_env.specs.declared.tokens.Token.{Token}
 use Rattle.ados_env.specs.declared.tokens.Token.TheVariants as token
 use Rattle.ados_env.specs.declared.expressions.Wait.{Wait}
 use Rattle.ados_env.specs.declared.expressions.Wait.TheVariants.{Bracket, Prefix, Operator}
-use Rattle.ados_env.specs.Operators.{binary_level, value_of_operation, prefixed_value}
-use Rattle.ados_env.specs.Expression.{State, wanting, having, failing, settled_value, waits_left, closed, with_token, state_after, ended, whole_value}
+use Rattle.ados_env.specs.Operators.{binary_level, value_of_operation}
+use Rattle.ados_env.specs.Expression.{State, wanting, having, settled_value, waits_left, closed, with_token, state_after, ended, whole_value}
 use Rattle.ados_env.specs.Grammar.{Writes, number, least, negative, complement, bracket, operation, higher}
 
 -- nothing that waits acts on a value before an operator of a level does

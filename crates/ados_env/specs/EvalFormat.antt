@@ -1,5 +1,5 @@
 -- What Eval prints of a value with LFORMAT.
-use Rattle.std.specs.Prelude.{ℕ, ℤ, ◌+◌, ◌-◌, ◌%◌, ◌==◌, nat_lt, true, false, List, [], ◌∷◌, ◌++◌, take, length, Option, Some, None, if◌then◌else◌}
+use Rattle.std.specs.Prelude.{ℕ, ℤ, ◌+◌, ◌-◌, ◌%◌, ◌==◌, nat_lt, true, false, [], ◌∷◌, ◌++◌, take, length, Option, Some, None, if◌then◌else◌}
 use Rattle.std.proofs.Math.ListN.{replicate}
 use Rattle.std.specs.Fmt.{digits, signed_decimal}
 use Rattle.std.specs.Int.{w32, cast_unsigned}

@@ -6,7 +6,6 @@ use Rattle.ados_text.specs.declared.codes.Result2.{Result2}
 use Rattle.ados_text.specs.declared.codes.TheConstants.Result2.{BAD_NUMBER, ARGUMENT_MISSING}
 use Rattle.ados_env.specs.declared.operators.Operator.{Operator as BinaryOperator}
 use Rattle.ados_env.specs.declared.operators.Operator.TheVariants.{Minus}
-use Rattle.ados_env.specs.declared.operators.Prefix.{Prefix as PrefixSign}
 use Rattle.ados_env.specs.declared.operators.Prefix.TheVariants as prefix
 use Rattle.ados_env.specs.declared.tokens.Token.{Token}
 use Rattle.ados_env.specs.declared.tokens.Token.TheVariants as token

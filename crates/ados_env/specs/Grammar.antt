@@ -1,5 +1,5 @@
 -- Which tokens write an expression, and its value: the grammar.
-use Rattle.std.specs.Prelude.{◌≡◌, ℕ, suc, ℤ, pos, neg_ℤ, ◌^◌, List, [], ◌∷◌, ◌++◌, Option, Some}
+use Rattle.std.specs.Prelude.{ℕ, suc, ℤ, pos, neg_ℤ, ◌^◌, List, [], ◌∷◌, ◌++◌, Option, Some}
 use Rattle.ados_env.specs.declared.operators.Operator.{Operator}
 use Rattle.ados_env.specs.declared.operators.Operator.TheVariants.{Minus}
 use Rattle.ados_env.specs.declared.operators.Prefix.TheVariants.{Negative, Complement}
