@@ -6,7 +6,6 @@ use Rattle.ados_text.specs.Text.{Bytes, Text}
 use Rattle.ados_text.specs.declared.codes.Result2.{Result2}
 use Rattle.ados_find.specs.Codes.{fail_codes}
 use Rattle.ados_find.specs.Shared.{SharedState}
-use Rattle.ados_find.specs.Views.{View}
 use Rattle.ados_find.specs.Effects.{Effect, codes_effect, output_effect}
 use Rattle.ados_readargs.specs.declared.args.Arg.{Arg}
 use Rattle.ados_readargs.specs.Args.{option_text, option_texts}
@@ -33,8 +32,5 @@ abbrev pub print_value : SharedState → Option Text → Result ℤ Result2 → 
 print_value shared format (Err fault) = codes_effect shared (fail_codes fault)
 print_value shared format (Ok value) = output_effect shared (value_output value format)
 
-abbrev pub print_expression : List Arg → SharedState → Effect
-print_expression args shared = print_value shared (option_text args EVAL_LFORMAT) (expression_value (eval_text args))
-
-abbrev pub full_eval_row : SharedState → View → List Arg → Effect
-full_eval_row shared view args = print_expression args shared
+abbrev pub full_eval_row : SharedState → List Arg → Effect
+full_eval_row shared args = print_value shared (option_text args EVAL_LFORMAT) (expression_value (eval_text args))

@@ -1,11 +1,10 @@
 -- What the commands read of the shells that run.
 use Rattle.std.specs.Prelude.{Bool, true, false}
 use Rattle.ados_resident.specs.declared.commands.EnvCommand.{EnvCommand}
-use Rattle.ados_resident.specs.declared.commands.EnvCommand.TheVariants.{Break, Eval, Resident, SetEnv, Status, UnsetEnv}
+use Rattle.ados_resident.specs.declared.commands.EnvCommand.TheVariants.{Break, Resident, SetEnv, Status, UnsetEnv}
 
--- whether a command reads what is in use: those that change files do, as Eval with TO, and Resident, which reads one
+-- whether a command reads what is in use: those that change files do, and Resident, which reads one
 abbrev pub reads_in_use : EnvCommand → Bool
-reads_in_use Eval = true
 reads_in_use Resident = true
 reads_in_use SetEnv = true
 reads_in_use UnsetEnv = true

@@ -2,14 +2,14 @@
 ghost use Rattle.std.specs.Prelude.{◌≡◌, ◌++◌, IfOk, OnOk};
 ghost use Rattle.std.specs.List.{flat_map};
 ghost use Rattle.std.specs.Option.{option_map};
-ghost use Rattle.ados_find.specs.Effects.{DoesTo, effect_of};
+ghost use Rattle.ados_find.specs.Effects.{DoesTo};
 ghost use Rattle.ados_readargs.specs.Args.{option_texts};
-ghost use Rattle.ados_env.specs.EvalFull.{after_blank, eval_text, full_eval_row, print_expression, value_output};
+ghost use Rattle.ados_env.specs.EvalFull.{after_blank, eval_text, full_eval_row, value_output};
 
 use crate::eval_format::formatted_value;
 use crate::expressions::expression_value;
 use crate::options::{EVAL_LFORMAT, EVAL_OP, EVAL_VALUE1, EVAL_VALUE2};
-use ados_find::{Codes, CommandResult, Outcome, Shared, ShellView};
+use ados_find::{Codes, CommandResult, Outcome};
 use ados_readargs::Args;
 use ados_text::{NoMemory, Stop, push_number};
 use std::alloc::Global;
@@ -18,14 +18,8 @@ use std::alloc::Global;
 ///
 /// 116 where a value is wanted and the text ends; 115 for any other fault of form, and for a value that is no number: all
 /// with 20.
-pub fn eval_in_full(alloc: Global, shared: &Shared, view: &ShellView, args: &Args) -> CommandResult
-    ensures { IfOk result (λ outcome. effect_of shared.now outcome ≡ full_eval_row shared.now view.now args.now) }
-{
-    print_expression(alloc, args)
-}
-
-fn print_expression(alloc: Global, args: &Args) -> CommandResult
-    ensures { IfOk result (λ outcome. DoesTo outcome (print_expression args.now)) }
+pub fn eval_in_full(alloc: Global, args: &Args) -> CommandResult
+    ensures { IfOk result (λ outcome. DoesTo outcome (λ shared. full_eval_row shared args.now)) }
 {
     let text = eval_text(alloc, args)?;
     match expression_value(alloc, text.as_slice()) {

@@ -16,7 +16,7 @@ pub fn reads_in_use(command: EnvCommand) -> bool
 {
     matches!(
         command,
-        EnvCommand::Eval | EnvCommand::Resident | EnvCommand::SetEnv | EnvCommand::UnsetEnv
+        EnvCommand::Resident | EnvCommand::SetEnv | EnvCommand::UnsetEnv
     )
 }
 
