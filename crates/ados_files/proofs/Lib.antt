@@ -6,3 +6,4 @@ pub mod ShellsLemmas
 mod RenameLemmas
 pub mod DeviceLemmas
 mod ShapeLemmas
+mod DumpLemmas

@@ -8,6 +8,7 @@ mod copy_one;
 mod delete;
 mod devices;
 mod dir;
+mod dumps;
 mod filenote;
 mod formats;
 mod jobs;

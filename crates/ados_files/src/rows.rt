@@ -69,14 +69,14 @@ fn full_template(command: FilesCommand) -> &'static str
             "FROM/M,TO/A,ALL/S,QUIET/S,CLONE/S,COM/S,NOPRO/S,DATES/S,NOREQ/S,BUF=BUFFER/K/N",
         FilesCommand::List =>
             "DIR/M,P=PAT/K,QUICK/S,FILES/S,DIRS/S,SUB/K,LFORMAT/K,ALL/S,KEYS/S,DATES/S,NODATES/S,BLOCK/S,NOHEAD/S,SINCE/K,UPTO/K",
+        FilesCommand::Type => "FROM/A/M,HEX/S,NUMBER/S,OPT/K",
         FilesCommand::Delete
         | FilesCommand::Dir
         | FilesCommand::Filenote
         | FilesCommand::Join
         | FilesCommand::MakeDir
         | FilesCommand::Protect
-        | FilesCommand::Rename
-        | FilesCommand::Type => core_template(command),
+        | FilesCommand::Rename => core_template(command),
     }
 }
 
