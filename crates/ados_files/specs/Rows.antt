@@ -36,8 +36,8 @@ core_template_of files.«Type» = codes "FROM/A/M"
 -- in Full it has more options behind those
 abbrev pub full_template_of : FilesCommand → Text
 full_template_of files.Copy = codes "FROM/M,TO/A,ALL/S,QUIET/S,CLONE/S,COM/S,NOPRO/S,DATES/S,NOREQ/S,BUF=BUFFER/K/N"
-full_template_of files.List = codes "DIR/M,P=PAT/K,QUICK/S,FILES/S,DIRS/S,SUB/K,LFORMAT/K,ALL/S,KEYS/S,DATES/S,NODATES/S,BLOCK/S,NOHEAD/S,SINCE/K,UPTO/K"
-full_template_of files.«Type» = codes "FROM/A/M,HEX/S,NUMBER/S,OPT/K"
+full_template_of files.List = codes "DIR/M,P=PAT/K,QUICK/S,FILES/S,DIRS/S,TO/K,SUB/K,LFORMAT/K,ALL/S,KEYS/S,DATES/S,NODATES/S,BLOCK/S,NOHEAD/S,SINCE/K,UPTO/K"
+full_template_of files.«Type» = codes "FROM/A/M,TO/K,HEX/S,NUMBER/S,OPT/K"
 full_template_of command = core_template_of command
 
 -- the text of a command's template in a dialect

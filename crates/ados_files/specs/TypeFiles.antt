@@ -16,10 +16,11 @@ use Rattle.ados_find.specs.Shared.{SharedState}
 use Rattle.ados_find.specs.Views.{View}
 use Rattle.ados_find.specs.Effects.{Effect, codes_effect, if_found}
 use Rattle.ados_find.specs.Done.{Done, fresh_work, refused_or, act_on_each, end_effect}
+use Rattle.ados_find.specs.OutputFile.{output_to}
 use Rattle.ados_files.specs.Acts.{at_names}
 use Rattle.ados_files.specs.Dumps.{hex_text, numbered_text}
 use Rattle.ados_files.specs.Texts.{text_or_empty}
-use Rattle.ados_files.specs.declared.options.TheConstants.{TYPE_FROM, TYPE_HEX, TYPE_NUMBER, TYPE_OPT}
+use Rattle.ados_files.specs.declared.options.TheConstants.{TYPE_FROM, TYPE_TO, TYPE_HEX, TYPE_NUMBER, TYPE_OPT}
 use Rattle.ados_files.specs.declared.type_files.Printing.{Printing}
 use Rattle.ados_files.specs.declared.type_files.Printing.TheVariants.{Plain, Hex, Numbered}
 
@@ -69,6 +70,9 @@ printing_of args letters =
     if list_all is_type_letter letters then printing_by (is_asked args TYPE_HEX letters 104) (is_asked args TYPE_NUMBER letters 110)
     else Err (fail_codes BAD_NUMBER)
 
-abbrev pub type_row : SharedState → View → List Arg → Effect
-type_row shared view args =
+abbrev pub type_by_options : SharedState → View → List Arg → Effect
+type_by_options shared view args =
     if_found (codes_effect shared) (printing_of args (text_or_empty (option_text args TYPE_OPT))) (type_printed shared view (option_texts args TYPE_FROM))
+
+abbrev pub type_row : SharedState → View → List Arg → Effect
+type_row shared view args = output_to view (option_text args TYPE_TO) (type_by_options shared view args)

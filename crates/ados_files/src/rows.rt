@@ -68,8 +68,8 @@ fn full_template(command: FilesCommand) -> &'static str
         FilesCommand::Copy =>
             "FROM/M,TO/A,ALL/S,QUIET/S,CLONE/S,COM/S,NOPRO/S,DATES/S,NOREQ/S,BUF=BUFFER/K/N",
         FilesCommand::List =>
-            "DIR/M,P=PAT/K,QUICK/S,FILES/S,DIRS/S,SUB/K,LFORMAT/K,ALL/S,KEYS/S,DATES/S,NODATES/S,BLOCK/S,NOHEAD/S,SINCE/K,UPTO/K",
-        FilesCommand::Type => "FROM/A/M,HEX/S,NUMBER/S,OPT/K",
+            "DIR/M,P=PAT/K,QUICK/S,FILES/S,DIRS/S,TO/K,SUB/K,LFORMAT/K,ALL/S,KEYS/S,DATES/S,NODATES/S,BLOCK/S,NOHEAD/S,SINCE/K,UPTO/K",
+        FilesCommand::Type => "FROM/A/M,TO/K,HEX/S,NUMBER/S,OPT/K",
         FilesCommand::Delete
         | FilesCommand::Dir
         | FilesCommand::Filenote

@@ -6,13 +6,14 @@ ghost use Rattle.ados_find.specs.Effects.{effect_of};
 ghost use Rattle.ados_find.specs.Paths.{Gives};
 ghost use Rattle.ados_files.specs.Texts.{text_or_empty};
 ghost use Rattle.ados_files.specs.declared.options.TheConstants.{TYPE_OPT};
-ghost use Rattle.ados_files.specs.TypeFiles.{file_text, type_one, all_text, type_printed, is_letter, is_type_letter, is_asked, printing_by, printing_of, type_row};
+ghost use Rattle.ados_files.specs.TypeFiles.{file_text, type_one, all_text, type_printed, is_letter, is_type_letter, is_asked, printing_by, printing_of, type_by_options, type_row};
 
 use crate::acts::Names;
 use crate::dumps::{numbered, push_hex};
-use crate::options::{TYPE_FROM, TYPE_HEX, TYPE_NUMBER, TYPE_OPT};
+use crate::options::{TYPE_FROM, TYPE_HEX, TYPE_NUMBER, TYPE_OPT, TYPE_TO};
 use ados_find::{
     Act, Codes, CommandResult, Lookup, Outcome, Refusal, Shared, ShellView, Work, current, each,
+    output_to,
 };
 use ados_ram::Place;
 use ados_readargs::Args;
@@ -34,6 +35,15 @@ pub enum Printing {
 /// Type writes the bytes of files to the output.
 pub fn type_files(alloc: Global, shared: &Shared, view: &ShellView, args: &Args) -> CommandResult
     ensures { IfOk result (λ outcome. effect_of shared.now outcome ≡ type_row shared.now view.now args.now) }
+{
+    let to = args.made_text(alloc, TYPE_TO)?;
+    let outcome = type_by_options(alloc, shared, view, args)?;
+    output_to(alloc, shared, view, to.as_ref(), outcome)
+}
+
+// What Type does without TO.
+fn type_by_options(alloc: Global, shared: &Shared, view: &ShellView, args: &Args) -> CommandResult
+    ensures { IfOk result (λ outcome. effect_of shared.now outcome ≡ type_by_options shared.now view.now args.now) }
 {
     let letters = letters_given(alloc, args)?;
     match printing_of(args, letters.as_bytes()) {
