@@ -7,3 +7,4 @@ mod RenameLemmas
 pub mod DeviceLemmas
 pub mod LevelLemmas
 mod ShapeLemmas
+mod DumpLemmas

@@ -12,6 +12,7 @@ use Rattle.ados_find.specs.Effects.{Effect, codes_effect, if_given}
 use Rattle.ados_find.specs.Done.{Done, fresh_work, refused_or, unless_stopped, act_on_each, end_effect}
 use Rattle.ados_files.specs.Acts.{at_path}
 use Rattle.ados_files.specs.TypeFiles.{type_one}
+use Rattle.ados_files.specs.declared.type_files.Printing.TheVariants.{Plain}
 
 -- bytes are written to a file
 abbrev pub write_one : View → Bytes → Done → Place → Done
@@ -29,7 +30,7 @@ write_read view to read = unless_stopped read.stopped (without_output read) (at_
 
 -- all files are read first
 abbrev pub join_to_target : View → List Text → Done → Text → Done
-join_to_target view texts done to = write_read view to (act_on_each (at_path (type_one view) view) done texts)
+join_to_target view texts done to = write_read view to (act_on_each (at_path (type_one Plain view) view) done texts)
 
 -- the template ensures that TO is not missing
 abbrev pub join_by_texts : SharedState → View → List Text → Text → Effect

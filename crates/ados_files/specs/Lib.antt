@@ -5,6 +5,7 @@ pub mod Acts
 pub mod Texts
 pub mod MakeDir
 pub mod Delete
+pub mod Dumps
 pub mod TypeFiles
 pub mod Filenote
 pub mod Protect

@@ -18,13 +18,14 @@ use Rattle.ados_find.specs.Shared.{SharedState}
 use Rattle.ados_find.specs.Views.{View}
 use Rattle.ados_find.specs.Effects.{Effect, codes_effect, if_found, unless_refused}
 use Rattle.ados_find.specs.Done.{Done, fresh_work, stop_with_codes, refused_or, act_on_each, end_effect}
+use Rattle.ados_find.specs.OutputFile.{output_to}
 use Rattle.ados_files.specs.Bases.{all_children, entry_at}
 use Rattle.ados_files.specs.Formats.{format_of}
 use Rattle.ados_files.specs.Names.{FoundPlaces, pattern_of, named_bases}
 use Rattle.ados_files.specs.Options.{is_given}
 use Rattle.ados_files.specs.Shapes.{group_lines}
 use Rattle.ados_files.specs.Spellings.{spelled_path}
-use Rattle.ados_files.specs.declared.options.TheConstants.{LIST_DIR, LIST_PAT, LIST_QUICK, LIST_FILES, LIST_DIRS, LIST_SUB, LIST_LFORMAT, LIST_ALL, LIST_SINCE, LIST_UPTO}
+use Rattle.ados_files.specs.declared.options.TheConstants.{LIST_DIR, LIST_PAT, LIST_QUICK, LIST_FILES, LIST_DIRS, LIST_TO, LIST_SUB, LIST_LFORMAT, LIST_ALL, LIST_SINCE, LIST_UPTO}
 use Rattle.ados_files.specs.declared.shapes.Shape.{Shape}
 use Rattle.ados_files.specs.declared.shapes.TheConstants.{DEEPEST}
 
@@ -88,6 +89,9 @@ shape_of args pattern = record {
 abbrev pub list_by : SharedState → View → List Arg → Option Meaning → Effect
 list_by shared view args pattern = end_effect (list_texts (shape_of args pattern) view (fresh_work shared) (option_texts args LIST_DIR))
 
+abbrev pub list_printed : SharedState → View → List Arg → Effect
+list_printed shared view args = if_found (codes_effect shared) (pattern_given (option_text args LIST_PAT)) (list_by shared view args)
+
 -- dates are not kept, so SINCE and UPTO are refused
 abbrev pub since_fault : List Arg → Option Result2
 since_fault args = if is_given args LIST_SINCE || is_given args LIST_UPTO then Some NOT_IMPLEMENTED else None
@@ -95,4 +99,4 @@ since_fault args = if is_given args LIST_SINCE || is_given args LIST_UPTO then S
 abbrev pub list_row : SharedState → View → List Arg → Effect
 list_row shared view args =
     unless_refused (codes_effect shared) (since_fault args)
-    (if_found (codes_effect shared) (pattern_given (option_text args LIST_PAT)) (list_by shared view args))
+    (output_to view (option_text args LIST_TO) (list_printed shared view args))

@@ -40,7 +40,8 @@ full_template_of files.Delete = codes "FILE/M/A,ALL/S,QUIET/S,FORCE/S"
 full_template_of files.Dir = codes "DIR,DIRS/S,FILES/S,ALL/S,OPT/K,INTER/S"
 full_template_of files.Filenote = codes "FILE/A,COMMENT,ALL/S,QUIET/S"
 full_template_of files.Protect = codes "FILE/A,FLAGS,ADD/S,SUB/S,ALL/S,QUIET/S"
-full_template_of files.List = codes "DIR/M,P=PAT/K,QUICK/S,FILES/S,DIRS/S,SUB/K,LFORMAT/K,ALL/S,KEYS/S,DATES/S,NODATES/S,BLOCK/S,NOHEAD/S,SINCE/K,UPTO/K"
+full_template_of files.List = codes "DIR/M,P=PAT/K,QUICK/S,FILES/S,DIRS/S,TO/K,SUB/K,LFORMAT/K,ALL/S,KEYS/S,DATES/S,NODATES/S,BLOCK/S,NOHEAD/S,SINCE/K,UPTO/K"
+full_template_of files.«Type» = codes "FROM/A/M,TO/K,HEX/S,NUMBER/S,OPT/K"
 full_template_of command = core_template_of command
 
 -- the text of a command's template in a dialect

@@ -4,6 +4,7 @@ ghost use Rattle.std.specs.List.{flat_map};
 ghost use Rattle.ados_assign.specs.Uses.{reached_devices};
 ghost use Rattle.ados_files.specs.Devices.{devices_of};
 
+use crate::options::{LIST_TO, TYPE_TO};
 use ados_find::Shared;
 use ados_readargs::Args;
 use ados_resident::FilesCommand;
@@ -26,6 +27,12 @@ pub fn push_devices(
     match command {
         FilesCommand::Copy | FilesCommand::Join | FilesCommand::Rename => {
             shared.push_devices_of(used, args.made_texts(alloc, 1)?.as_slice())
+        }
+        FilesCommand::List => {
+            shared.push_devices_of(used, args.made_texts(alloc, LIST_TO)?.as_slice())
+        }
+        FilesCommand::Type => {
+            shared.push_devices_of(used, args.made_texts(alloc, TYPE_TO)?.as_slice())
         }
         _ => Ok(()),
     }

@@ -4,7 +4,7 @@ ghost use Rattle.ados_find.specs.Effects.{effect_of};
 ghost use Rattle.ados_files.specs.Join.{write_one, write_read, join_to_target, join_row};
 
 use crate::acts::{Paths, at_path, done_with, go_on};
-use crate::type_files::Typing;
+use crate::type_files::{Printing, Typing};
 use ados_find::{Act, CommandResult, Outcome, Shared, ShellView, Work, current, each};
 use ados_ram::Place;
 use ados_readargs::Args;
@@ -39,7 +39,10 @@ impl<'a> Act<Text> for Joining<'a> {
 
     fn act(&self, shared: &Shared, work: &mut Work, to: &Text) -> Result<(), NoMemory> {
         let view = self.view;
-        let act = Typing { view: &*view };
+        let act = Typing {
+            view: &*view,
+            printing: Printing::Plain,
+        };
         let paths = Paths {
             act: &act,
             view: &*view,

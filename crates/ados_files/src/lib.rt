@@ -10,6 +10,7 @@ mod delete;
 mod devices;
 mod dir;
 mod dir_lines;
+mod dumps;
 mod filenote;
 mod formats;
 mod jobs;

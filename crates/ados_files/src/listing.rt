@@ -8,7 +8,7 @@ ghost use Rattle.ados_files.specs.Formats.{format_of};
 ghost use Rattle.ados_find.specs.Done.{fresh_work, end_effect};
 ghost use Rattle.ados_find.specs.Effects.{effect_of};
 ghost use Rattle.ados_find.specs.Paths.{Gives};
-ghost use Rattle.ados_files.specs.Listing.{entries_of, listed_places, list_text, list_directory, list_texts, pattern_given, depth_of, shape_of, list_row};
+ghost use Rattle.ados_files.specs.Listing.{entries_of, listed_places, list_text, list_directory, list_texts, pattern_given, depth_of, shape_of, list_printed, list_row};
 
 use crate::acts::done_with;
 use crate::bases::{all_children, entry_at};
@@ -16,11 +16,13 @@ use crate::formats::Format;
 use crate::names::{Found, named_bases, pattern_of};
 use crate::options::{
     LIST_ALL, LIST_DIR, LIST_DIRS, LIST_FILES, LIST_LFORMAT, LIST_PAT, LIST_QUICK, LIST_SINCE,
-    LIST_SUB, LIST_UPTO, is_given,
+    LIST_SUB, LIST_TO, LIST_UPTO, is_given,
 };
 use crate::shapes::{DEEPEST, Shape, Shown, push_group};
 use crate::spellings::spelled_path;
-use ados_find::{Act, Codes, CommandResult, Outcome, Refusal, Shared, ShellView, Work, current};
+use ados_find::{
+    Act, Codes, CommandResult, Outcome, Refusal, Shared, ShellView, Work, current, output_to,
+};
 use ados_pattern::Pattern;
 use ados_ram::{Place, Ram, list_refusal, push_places};
 use ados_readargs::Args;
@@ -35,6 +37,15 @@ pub fn list(alloc: Global, shared: &Shared, view: &ShellView, args: &Args) -> Co
     if is_given(args, LIST_SINCE) || is_given(args, LIST_UPTO) {
         return Ok(Outcome::answering(alloc, Codes::erred(Result2::NOT_IMPLEMENTED)));
     }
+    let to = args.made_text(alloc, LIST_TO)?;
+    let outcome = list_printed(alloc, shared, view, args)?;
+    output_to(alloc, shared, view, to.as_ref(), outcome)
+}
+
+// What List does without TO.
+fn list_printed(alloc: Global, shared: &Shared, view: &ShellView, args: &Args) -> CommandResult
+    ensures { IfOk result (λ outcome. effect_of shared.now outcome ≡ list_printed shared.now view.now args.now) }
+{
     let pattern = args.made_text(alloc, LIST_PAT)?;
     match pattern_given(alloc, pattern.as_ref()) {
         Err(refusal) => Ok(Outcome::answering(alloc, refusal.codes()?)),

@@ -71,10 +71,10 @@ fn full_template(command: FilesCommand) -> &'static str
         FilesCommand::Dir => "DIR,DIRS/S,FILES/S,ALL/S,OPT/K,INTER/S",
         FilesCommand::Filenote => "FILE/A,COMMENT,ALL/S,QUIET/S",
         FilesCommand::List =>
-            "DIR/M,P=PAT/K,QUICK/S,FILES/S,DIRS/S,SUB/K,LFORMAT/K,ALL/S,KEYS/S,DATES/S,NODATES/S,BLOCK/S,NOHEAD/S,SINCE/K,UPTO/K",
+            "DIR/M,P=PAT/K,QUICK/S,FILES/S,DIRS/S,TO/K,SUB/K,LFORMAT/K,ALL/S,KEYS/S,DATES/S,NODATES/S,BLOCK/S,NOHEAD/S,SINCE/K,UPTO/K",
         FilesCommand::Protect => "FILE/A,FLAGS,ADD/S,SUB/S,ALL/S,QUIET/S",
-        FilesCommand::Join | FilesCommand::MakeDir | FilesCommand::Rename | FilesCommand::Type =>
-            core_template(command),
+        FilesCommand::Type => "FROM/A/M,TO/K,HEX/S,NUMBER/S,OPT/K",
+        FilesCommand::Join | FilesCommand::MakeDir | FilesCommand::Rename => core_template(command),
     }
 }
 

@@ -1,30 +1,156 @@
-ghost use Rattle.std.specs.Prelude.{◌≡◌, IfOk};
+// Type: the bytes of files, unchanged or by HEX or NUMBER.
+ghost use Rattle.std.specs.Prelude.{◌≡◌, ◌++◌, IfOk, OnOk};
+ghost use Rattle.std.specs.List.{list_all, list_any};
+ghost use Rattle.ados_readargs.specs.Args.{option_text};
 ghost use Rattle.ados_find.specs.Effects.{effect_of};
-ghost use Rattle.ados_files.specs.TypeFiles.{type_one, type_row};
+ghost use Rattle.ados_find.specs.Paths.{Gives};
+ghost use Rattle.ados_files.specs.Texts.{text_or_empty};
+ghost use Rattle.ados_files.specs.declared.options.TheConstants.{TYPE_OPT};
+ghost use Rattle.ados_files.specs.TypeFiles.{file_text, type_one, all_text, type_printed, is_letter, is_type_letter, is_asked, printing_by, printing_of, type_by_options, type_row};
 
-use crate::acts::done_with_named;
-use ados_find::{Act, Codes, CommandResult, Shared, ShellView, Work, current};
+use crate::acts::Names;
+use crate::dumps::{numbered, push_hex};
+use crate::options::{TYPE_FROM, TYPE_HEX, TYPE_NUMBER, TYPE_OPT, TYPE_TO};
+use ados_find::{
+    Act, Codes, CommandResult, Lookup, Outcome, Refusal, Shared, ShellView, Work, current, each,
+    output_to,
+};
 use ados_ram::Place;
 use ados_readargs::Args;
-use ados_text::NoMemory;
+use ados_text::{NoMemory, Result2, Text, fold};
 use std::alloc::Global;
+use std::mem;
+
+/// How Type prints bytes.
+#[derive(Clone, Copy)]
+pub enum Printing {
+    /// Unchanged.
+    Plain,
+    /// HEX: as hexadecimal digits and as characters.
+    Hex,
+    /// NUMBER: each line with its number.
+    Numbered,
+}
 
 /// Type writes the bytes of files to the output.
 pub fn type_files(alloc: Global, shared: &Shared, view: &ShellView, args: &Args) -> CommandResult
     ensures { IfOk result (λ outcome. effect_of shared.now outcome ≡ type_row shared.now view.now args.now) }
 {
-    let texts = args.made_texts(alloc, 0)?;
-    done_with_named(alloc, shared, view, &Typing { view }, texts.as_slice())
+    let to = args.made_text(alloc, TYPE_TO)?;
+    let outcome = type_by_options(alloc, shared, view, args)?;
+    output_to(alloc, shared, view, to.as_ref(), outcome)
+}
+
+// What Type does without TO.
+fn type_by_options(alloc: Global, shared: &Shared, view: &ShellView, args: &Args) -> CommandResult
+    ensures { IfOk result (λ outcome. effect_of shared.now outcome ≡ type_by_options shared.now view.now args.now) }
+{
+    let letters = letters_given(alloc, args)?;
+    match printing_of(args, letters.as_bytes()) {
+        Err(refusal) => Ok(Outcome::answering(alloc, refusal.codes()?)),
+        Ok(printing) => {
+            let texts = args.made_texts(alloc, TYPE_FROM)?;
+            type_printed(alloc, shared, view, texts.as_slice(), printing)
+        }
+    }
+}
+
+// The letters of OPT.
+fn letters_given(alloc: Global, args: &Args) -> Result<Text, NoMemory>
+    ensures { IfOk result (λ letters. letters ≡ text_or_empty (option_text args.now TYPE_OPT)) }
+{
+    match args.made_text(alloc, TYPE_OPT)? {
+        None => Ok(Text::new(alloc)),
+        Some(text) => Ok(text),
+    }
+}
+
+fn printing_of(args: &Args, letters: &[u8]) -> Lookup<Printing>
+    ensures { Gives result (printing_of args.now letters.now) }
+{
+    if !are_type_letters(letters) {
+        return Err(Refusal::Stopped(Codes::failed(Result2::BAD_NUMBER)));
+    }
+    printing_by(
+        is_asked(args, TYPE_HEX, letters, b'h'),
+        is_asked(args, TYPE_NUMBER, letters, b'n'),
+    )
+}
+
+fn are_type_letters(letters: &[u8]) -> bool
+    ensures { result ≡ list_all is_type_letter letters.now }
+{
+    letters.iter().all(|byte| is_type_letter(*byte))
+}
+
+// Whether a switch is given, or its letter in OPT.
+fn is_asked(args: &Args, place: usize, letters: &[u8], letter: u8) -> bool
+    ensures { result ≡ is_asked args.now place letters.now letter }
+{
+    args.has_switch(place) || has_letter(letters, letter)
+}
+
+fn is_type_letter(byte: u8) -> bool
+    ensures { result ≡ is_type_letter byte }
+{
+    let letter = fold(byte);
+    letter == b'h' || letter == b'n'
+}
+
+// Whether a letter is among those of OPT, in either case.
+fn has_letter(letters: &[u8], letter: u8) -> bool
+    ensures { result ≡ list_any (is_letter letter) letters.now }
+{
+    letters.iter().any(|byte| fold(*byte) == letter)
+}
+
+fn printing_by(hex: bool, numbered: bool) -> Lookup<Printing>
+    ensures { Gives result (printing_by hex numbered) }
+{
+    match (hex, numbered) {
+        (false, false) => Ok(Printing::Plain),
+        (true, false) => Ok(Printing::Hex),
+        (false, true) => Ok(Printing::Numbered),
+        (true, true) => Err(Refusal::Stopped(Codes::failed(Result2::TOO_MANY_ARGUMENTS))),
+    }
+}
+
+// Prints all files.
+fn type_printed(
+    alloc: Global,
+    shared: &Shared,
+    view: &ShellView,
+    texts: &[Text],
+    printing: Printing,
+) -> CommandResult
+    ensures { IfOk result (λ outcome. effect_of shared.now outcome ≡ type_printed shared.now view.now texts.now printing) }
+{
+    let act = Typing { view, printing };
+    let mut work = Work::new(alloc);
+    each(&Names { act: &act, view }, shared, &mut work, texts)?;
+    let bytes = mem::replace(&mut work.output, Vec::new(alloc));
+    work.output = all_text(alloc, printing, bytes)?;
+    Ok(work.end())
+}
+
+fn all_text(alloc: Global, printing: Printing, bytes: Vec<u8>) -> Result<Vec<u8>, NoMemory>
+    ensures { IfOk result (λ output. output.items ≡ all_text printing bytes.items) }
+{
+    match printing {
+        Printing::Plain | Printing::Hex => Ok(bytes),
+        Printing::Numbered => numbered(alloc, bytes.as_slice()),
+    }
 }
 
 /// The printing of one file.
 #[derive(Drop)]
 pub struct Typing<'a> {
     pub view: &'a ShellView<'a>,
+    pub printing: Printing,
 }
 
 impl<'a> Act<Place> for Typing<'a> {
-    ghost act = { λ s. type_one s.view.now };
+    ghost act = { λ s. type_one s.printing s.view.now };
 
     fn act(&self, shared: &Shared, work: &mut Work, place: &Place) -> Result<(), NoMemory> {
         let view = self.view;
@@ -33,10 +159,17 @@ impl<'a> Act<Place> for Typing<'a> {
                 work.stopped = Some(Codes::erred(fault));
                 Ok(())
             }
-            Ok(bytes) => {
-                work.output.extend_from_slice(bytes)?;
-                Ok(())
-            }
+            Ok(bytes) => push_file(&mut work.output, self.printing, bytes),
         }
     }
+}
+
+fn push_file(output: &mut Vec<u8>, printing: Printing, bytes: &[u8]) -> Result<(), NoMemory>
+    ensures { OnOk result (output.new.items ≡ output.old.items ++ file_text printing bytes.now) }
+{
+    match printing {
+        Printing::Plain | Printing::Numbered => output.extend_from_slice(bytes)?,
+        Printing::Hex => push_hex(output, bytes)?,
+    }
+    Ok(())
 }

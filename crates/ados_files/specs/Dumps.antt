@@ -1,0 +1,61 @@
+-- How Type shows bytes: HEX and NUMBER.
+use Rattle.std.specs.Prelude.{ℕ, zero, suc, ◌+◌, ◌*◌, ◌/◌, ◌%◌, Bool, true, false, ◌&&◌, nat_lt, nat_le, List, [], ◌∷◌, ◌++◌, map, take, drop, length, codes, decimal, slice_get, Option, Some, None, if◌then◌else◌}
+use Rattle.ados_text.specs.Text.{Bytes}
+use Rattle.ados_text.specs.Columns.{right_aligned_text}
+use Rattle.ados_text.specs.Lines.{is_newline}
+
+-- a number below 16 as a hexadecimal digit, in capitals
+abbrev pub hex_digit : ℕ → ℕ
+hex_digit number = if nat_lt number 10 then 48 + number else 55 + number
+
+abbrev pub hex_byte : ℕ → Bytes
+hex_byte byte = hex_digit (byte / 16) ∷ hex_digit (byte % 16) ∷ []
+
+-- a place in a file: four digits, as files have at most 65,536 bytes
+abbrev pub hex_place : ℕ → Bytes
+hex_place place =
+    hex_digit (place / 4096 % 16) ∷ hex_digit (place / 256 % 16) ∷ hex_digit (place / 16 % 16) ∷ hex_digit (place % 16) ∷ []
+
+-- a missing byte is two blanks
+abbrev pub hex_or_blanks : Option ℕ → Bytes
+hex_or_blanks None = 32 ∷ 32 ∷ []
+hex_or_blanks (Some byte) = hex_byte byte
+
+-- four bytes, with a blank behind them
+abbrev pub hex_group : Bytes → Bytes
+hex_group bytes =
+    hex_or_blanks (slice_get bytes 0) ++ (hex_or_blanks (slice_get bytes 1) ++ (hex_or_blanks (slice_get bytes 2) ++ (hex_or_blanks (slice_get bytes 3) ++ 32 ∷ [])))
+
+-- a byte as a character, if it is one
+abbrev pub character_of : ℕ → ℕ
+character_of byte = if nat_le 32 byte && nat_le byte 126 then byte else 46
+
+-- the line of up to 16 bytes: their place, four groups of four, and the bytes as characters
+abbrev pub hex_line : ℕ → Bytes → Bytes
+hex_line place bytes =
+    hex_place place ++ (codes ": " ++ (hex_group bytes ++ (hex_group (drop 4 bytes) ++ (hex_group (drop 8 bytes) ++ (hex_group (drop 12 bytes)
+    ++ (codes "    " ++ (map character_of bytes ++ 10 ∷ [])))))))
+
+-- so many lines, of 16 bytes each, from the one with a number on
+abbrev pub hex_lines : ℕ → ℕ → Bytes → Bytes
+hex_lines zero number bytes = []
+hex_lines (suc count) number bytes = hex_line (number * 16) (take 16 bytes) ++ hex_lines count (number + 1) (drop 16 bytes)
+
+-- HEX: all bytes of a file
+abbrev pub hex_text : Bytes → Bytes
+hex_text bytes = hex_lines ((length bytes + 15) / 16) 0 bytes
+
+-- what stands before a byte: at the beginning of a line its number, right in 5 places, and a blank
+abbrev pub line_number : Bool → ℕ → Bytes
+line_number true number = right_aligned_text 5 (decimal number) ++ 32 ∷ []
+line_number false number = []
+
+-- the bytes from one on that is in the line with this number, at its beginning or not
+abbrev pub numbered_from : Bool → ℕ → Bytes → Bytes
+numbered_from begins number [] = []
+numbered_from begins number (byte ∷ bytes) =
+    line_number begins number ++ (byte ∷ numbered_from (is_newline byte) (if is_newline byte then number + 1 else number) bytes)
+
+-- NUMBER: all lines, with numbers from 1 on
+abbrev pub numbered_text : Bytes → Bytes
+numbered_text bytes = numbered_from true 1 bytes

@@ -1,0 +1,154 @@
+// How Type shows bytes: HEX and NUMBER.
+ghost use Rattle.std.specs.Prelude.{◌≡◌, ◌≤◌, ◌<◌, ◌+◌, ◌*◌, ◌^◌, ◌++◌, drop, length, map as each, take, IfOk, OnOk};
+ghost use Rattle.std.specs.Option.{option_copied};
+ghost use Rattle.ados_files.specs.Dumps.{hex_digit, hex_byte, hex_place, hex_or_blanks, hex_group, character_of, hex_line, hex_lines, hex_text, line_number, numbered_text};
+
+use crate::lines::{at_most, without};
+use ados_text::{NoMemory, Text, push_right};
+use std::alloc::Global;
+
+/// Appends the bytes of a file by HEX.
+pub fn push_hex(output: &mut Vec<u8>, bytes: &[u8]) -> Result<(), NoMemory>
+    ensures { OnOk result (output.new.items ≡ output.old.items ++ hex_text bytes.now) }
+{
+    push_hex_lines(output, (bytes.len() + 15) / 16, 0, bytes)
+}
+
+// Appends so many lines, from the one with a number on.
+fn push_hex_lines(
+    output: &mut Vec<u8>,
+    count: usize,
+    number: usize,
+    bytes: &[u8],
+) -> Result<(), NoMemory>
+    requires within { number + count < 2 ^ 60 }
+    ensures { OnOk result (output.new.items ≡ output.old.items ++ hex_lines count number bytes.now) }
+{
+    if count == 0 {
+        return Ok(());
+    }
+    push_hex_line(output, number * 16, at_most(bytes, 16))?;
+    push_hex_lines(output, count - 1, number + 1, without(bytes, 16))?;
+    Ok(())
+}
+
+// Appends the line of up to 16 bytes.
+fn push_hex_line(output: &mut Vec<u8>, place: usize, bytes: &[u8]) -> Result<(), NoMemory>
+    ensures { OnOk result (output.new.items ≡ output.old.items ++ hex_line place bytes.now) }
+{
+    output.extend_from_slice(&hex_place(place))?;
+    output.extend_from_slice(b": ")?;
+    push_group(output, bytes)?;
+    push_group(output, without(bytes, 4))?;
+    push_group(output, without(bytes, 8))?;
+    push_group(output, without(bytes, 12))?;
+    output.extend_from_slice(b"    ")?;
+    push_characters(output, bytes)?;
+    output.push(b'\n')?;
+    Ok(())
+}
+
+// The digits of a place in a file.
+fn hex_place(place: usize) -> [u8; 4]
+    ensures { result ≡ hex_place place }
+{
+    [
+        hex_digit(place / 4096 % 16),
+        hex_digit(place / 256 % 16),
+        hex_digit(place / 16 % 16),
+        hex_digit(place % 16),
+    ]
+}
+
+// A number below 16 as a digit, in capitals.
+fn hex_digit(number: usize) -> u8
+    requires { number < 16 }
+    ensures { result ≡ hex_digit number }
+{
+    if number < 10 {
+        b'0' + number as u8
+    } else {
+        b'A' - 10 + number as u8
+    }
+}
+
+// Appends four bytes, with a blank behind them.
+fn push_group(output: &mut Vec<u8>, bytes: &[u8]) -> Result<(), NoMemory>
+    ensures { OnOk result (output.new.items ≡ output.old.items ++ hex_group bytes.now) }
+{
+    push_byte(output, bytes.first())?;
+    push_byte(output, bytes.get(1))?;
+    push_byte(output, bytes.get(2))?;
+    push_byte(output, bytes.get(3))?;
+    output.push(b' ')?;
+    Ok(())
+}
+
+// Appends the digits of a byte; two blanks if it is missing.
+fn push_byte(output: &mut Vec<u8>, byte: Option<&u8>) -> Result<(), NoMemory>
+    ensures { OnOk result (output.new.items ≡ output.old.items ++ hex_or_blanks (option_copied byte.entry)) }
+{
+    match byte {
+        None => output.extend_from_slice(b"  ")?,
+        Some(byte) => output.extend_from_slice(&hex_byte(*byte))?,
+    }
+    Ok(())
+}
+
+fn hex_byte(byte: u8) -> [u8; 2]
+    ensures { result ≡ hex_byte byte }
+{
+    let number = usize::from(byte);
+    [hex_digit(number / 16), hex_digit(number % 16)]
+}
+
+// Appends bytes as characters.
+fn push_characters(output: &mut Vec<u8>, bytes: &[u8]) -> Result<(), NoMemory>
+    ensures { OnOk result (output.new.items ≡ output.old.items ++ each character_of bytes.now) }
+{
+    for byte in bytes {
+        output.push(character_of(*byte))?;
+    }
+    Ok(())
+}
+
+fn character_of(byte: u8) -> u8
+    ensures { result ≡ character_of byte }
+{
+    if (32..=126).contains(&byte) {
+        byte
+    } else {
+        b'.'
+    }
+}
+
+/// The lines of bytes by NUMBER.
+pub fn numbered(alloc: Global, bytes: &[u8]) -> Result<Vec<u8>, NoMemory>
+    ensures { IfOk result (λ output. output.items ≡ numbered_text bytes.now) }
+{
+    let mut output = Vec::new(alloc);
+    let mut begins = true;
+    let mut number = 1;
+    for byte in bytes {
+        push_number(&mut output, begins, number)?;
+        output.push(*byte)?;
+        begins = *byte == b'\n';
+        if begins {
+            number += 1;
+        }
+    }
+    Ok(output)
+}
+
+// Appends the number of a line at its beginning.
+fn push_number(output: &mut Vec<u8>, begins: bool, number: usize) -> Result<(), NoMemory>
+    ensures { OnOk result (output.new.items ≡ output.old.items ++ line_number begins number) }
+{
+    if !begins {
+        return Ok(());
+    }
+    let text = Text::of_number(*output.allocator(), number)?;
+    push_right(output, 5, text.as_bytes())?;
+    output.push(b' ')?;
+    Ok(())
+}
