@@ -1,4 +1,4 @@
--- Delete: objects are deleted, with ALL after all that is below them.
+-- Delete: objects are deleted, with ALL after all that is below them, with FORCE whatever their bit d.
 use Rattle.std.specs.Prelude.{Bool, true, false, List, [], ◌∷◌, ◌++◌, codes}
 use Rattle.std.specs.FinMap as map
 use Rattle.ados_text.specs.Text.{Bytes}
@@ -13,19 +13,25 @@ use Rattle.ados_find.specs.Shared.{SharedState, with_files}
 use Rattle.ados_find.specs.Views.{View}
 use Rattle.ados_find.specs.Effects.{Effect}
 use Rattle.ados_find.specs.Done.{Done, fresh_work, refused_or, act_on_each, end_effect}
+use Rattle.ados_files.specs.declared.delete.DeleteManner.{DeleteManner}
+use Rattle.ados_files.specs.declared.options.TheConstants.{DELETE_FILE, DELETE_ALL, DELETE_QUIET, DELETE_FORCE}
 use Rattle.ados_files.specs.Lines.{say}
 use Rattle.ados_files.specs.Acts.{at_names}
 
 abbrev pub deleted_line : Files → Place → Bytes
 deleted_line files place = full_path files place ++ codes "  Deleted\n"
 
+-- how objects are deleted
+abbrev pub delete_manner : List Arg → DeleteManner
+delete_manner args = record { quiet = has_switch args DELETE_QUIET; force = has_switch args DELETE_FORCE }
+
 -- one object is deleted, and its path is reported as it was
-abbrev pub delete_one : View → Bool → Done → Place → Done
-delete_one view quiet done place =
-    refused_or (delete_fault view.busy done.shared.files (key_of place)) done
+abbrev pub delete_one : View → DeleteManner → Done → Place → Done
+delete_one view manner done place =
+    refused_or (delete_fault view.busy manner.force done.shared.files (key_of place)) done
     (record done {
       shared = with_files done.shared (map.remove done.shared.files (key_of place));
-      output = say quiet done.output (deleted_line done.shared.files place);
+      output = say manner.quiet done.output (deleted_line done.shared.files place);
     })
 
 -- the places that are deleted with a place: with ALL those below it first
@@ -33,9 +39,9 @@ abbrev pub targets : Bool → Files → Place → List Place
 targets true files place = contents (key_of place) (map.entries files) ++ place ∷ []
 targets false files place = place ∷ []
 
-abbrev pub delete_place : View → Bool → Bool → Done → Place → Done
-delete_place view all quiet done place = act_on_each (delete_one view quiet) done (targets all done.shared.files place)
+abbrev pub delete_place : View → Bool → DeleteManner → Done → Place → Done
+delete_place view all manner done place = act_on_each (delete_one view manner) done (targets all done.shared.files place)
 
 abbrev pub delete_row : SharedState → View → List Arg → Effect
 delete_row shared view args =
-    end_effect (act_on_each (at_names (delete_place view (has_switch args 1) (has_switch args 2)) view) (fresh_work shared) (option_texts args 0))
+    end_effect (act_on_each (at_names (delete_place view (has_switch args DELETE_ALL) (delete_manner args)) view) (fresh_work shared) (option_texts args DELETE_FILE))

@@ -10,9 +10,9 @@ use Rattle.ados_find.specs.Shared.{SharedState}
 use Rattle.ados_find.specs.Views.{View}
 use Rattle.ados_find.specs.Paths.{place_of}
 use Rattle.ados_files.specs.Acts.{at_names}
-use Rattle.ados_files.specs.Delete.{delete_place}
+use Rattle.ados_files.specs.Delete.{delete_place, delete_manner}
 use Rattle.ados_files.specs.Names.{FoundPlaces, named_places}
-use Rattle.ados_files.specs.declared.options.TheConstants.{COPY_TO}
+use Rattle.ados_files.specs.declared.options.TheConstants.{COPY_TO, DELETE_FILE, DELETE_ALL}
 
 -- the key is at a place or below it, if there is one
 abbrev pub is_under : Result Place Codes → Key → Bool
@@ -47,7 +47,7 @@ copy_may_change shared view args key = is_under_path shared view (option_text ar
 -- Delete: the objects that its arguments name when the turn of each comes, and what is below them
 abbrev pub delete_may_change : SharedState → View → List Arg → Key → Bool
 delete_may_change shared view args key =
-    is_under_worked (at_names (delete_place view (has_switch args 1) (has_switch args 2)) view) view (fresh_work shared) (option_texts args 0) key
+    is_under_worked (at_names (delete_place view (has_switch args DELETE_ALL) (delete_manner args)) view) view (fresh_work shared) (option_texts args DELETE_FILE) key
 
 -- Rename: FROM and TO, and what is below them
 abbrev pub rename_may_change : SharedState → View → List Arg → Key → Bool

@@ -36,6 +36,7 @@ core_template_of files.«Type» = codes "FROM/A/M"
 -- in Full it has more options behind those
 abbrev pub full_template_of : FilesCommand → Text
 full_template_of files.Copy = codes "FROM/M,TO/A,ALL/S,QUIET/S,CLONE/S,COM/S,NOPRO/S,DATES/S,NOREQ/S,BUF=BUFFER/K/N"
+full_template_of files.Delete = codes "FILE/M/A,ALL/S,QUIET/S,FORCE/S"
 full_template_of command = core_template_of command
 
 -- the text of a command's template in a dialect

@@ -1,9 +1,10 @@
 ghost use Rattle.std.specs.Prelude.{◌≡◌, IfOk};
 ghost use Rattle.ados_find.specs.Effects.{effect_of};
-ghost use Rattle.ados_files.specs.Delete.{delete_one, targets, delete_place, delete_row};
+ghost use Rattle.ados_files.specs.Delete.{delete_manner, delete_one, targets, delete_place, delete_row};
 
 use crate::acts::{done_with_named, go_on_saying};
 use crate::names::only;
+use crate::options::{DELETE_ALL, DELETE_FILE, DELETE_FORCE, DELETE_QUIET};
 use ados_find::{Act, CommandResult, Shared, ShellView, Work, current, each};
 use ados_ram::{Place, Ram};
 use ados_readargs::Args;
@@ -16,11 +17,30 @@ pub fn delete(alloc: Global, shared: &Shared, view: &ShellView, args: &Args) -> 
 {
     let act = Deleting {
         view,
-        all: args.has_switch(1),
-        quiet: args.has_switch(2),
+        all: args.has_switch(DELETE_ALL),
+        manner: delete_manner(args),
     };
-    let texts = args.made_texts(alloc, 0)?;
+    let texts = args.made_texts(alloc, DELETE_FILE)?;
     done_with_named(alloc, shared, view, &act, texts.as_slice())
+}
+
+/// How objects are deleted.
+#[derive(Clone, Copy)]
+pub struct DeleteManner {
+    /// Nothing is reported.
+    pub quiet: bool,
+    /// Bit d is not asked.
+    pub force: bool,
+}
+
+// How the arguments want objects deleted.
+fn delete_manner(args: &Args) -> DeleteManner
+    ensures { result ≡ delete_manner args.now }
+{
+    DeleteManner {
+        quiet: args.has_switch(DELETE_QUIET),
+        force: args.has_switch(DELETE_FORCE),
+    }
 }
 
 /// The deletion of an object, with ALL after all that is below it.
@@ -28,18 +48,18 @@ pub fn delete(alloc: Global, shared: &Shared, view: &ShellView, args: &Args) -> 
 pub struct Deleting<'a> {
     pub view: &'a ShellView<'a>,
     pub all: bool,
-    pub quiet: bool,
+    pub manner: DeleteManner,
 }
 
 impl<'a> Act<Place> for Deleting<'a> {
-    ghost act = { λ s. delete_place s.view.now s.all s.quiet };
+    ghost act = { λ s. delete_place s.view.now s.all s.manner };
 
     fn act(&self, shared: &Shared, work: &mut Work, place: &Place) -> Result<(), NoMemory> {
         let alloc = *work.output.allocator();
         let places = targets(alloc, self.all, &current(shared, &work.shared).ram, place)?;
         let act = DeletingOne {
             view: self.view,
-            quiet: self.quiet,
+            manner: self.manner,
         };
         each(&act, shared, work, &places)
     }
@@ -49,16 +69,18 @@ impl<'a> Act<Place> for Deleting<'a> {
 #[derive(Drop)]
 pub struct DeletingOne<'a> {
     pub view: &'a ShellView<'a>,
-    pub quiet: bool,
+    pub manner: DeleteManner,
 }
 
 impl<'a> Act<Place> for DeletingOne<'a> {
-    ghost act = { λ s. delete_one s.view.now s.quiet };
+    ghost act = { λ s. delete_one s.view.now s.manner };
 
     fn act(&self, shared: &Shared, work: &mut Work, place: &Place) -> Result<(), NoMemory> {
         let view = self.view;
-        let change = current(shared, &work.shared).ram.delete(&view.busy, place);
-        go_on_saying(shared, work, change, self.quiet, place, b"  Deleted\n")
+        let manner = self.manner;
+        let ram = &current(shared, &work.shared).ram;
+        let change = ram.delete(&view.busy, manner.force, place);
+        go_on_saying(shared, work, change, manner.quiet, place, b"  Deleted\n")
     }
 }
 

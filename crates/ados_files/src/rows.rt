@@ -67,8 +67,8 @@ fn full_template(command: FilesCommand) -> &'static str
     match command {
         FilesCommand::Copy =>
             "FROM/M,TO/A,ALL/S,QUIET/S,CLONE/S,COM/S,NOPRO/S,DATES/S,NOREQ/S,BUF=BUFFER/K/N",
-        FilesCommand::Delete
-        | FilesCommand::Dir
+        FilesCommand::Delete => "FILE/M/A,ALL/S,QUIET/S,FORCE/S",
+        FilesCommand::Dir
         | FilesCommand::Filenote
         | FilesCommand::Join
         | FilesCommand::List

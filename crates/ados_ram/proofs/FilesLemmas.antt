@@ -270,9 +270,9 @@ pub record CanDelete (key : List (List ℕ)) (es : Rows) : Type 0 where
   pub not_root : is_root key ≡ false
   pub empty : has_descendants key es ≡ false
 
-pub can_delete : (busy : InUse) (key : List (List ℕ)) (es : Rows) (o : Option Entry) → delete_target_fault busy es key o ≡ None → CanDelete key es
-can_delete busy key es None h = cc
-can_delete busy key es (Some e) h = by_tests (is_in_use busy key) (is_root key) e.bits.delete (has_descendants key es) h refl refl
+pub can_delete : (busy : InUse) (force : Bool) (key : List (List ℕ)) (es : Rows) (o : Option Entry) → delete_target_fault busy force es key o ≡ None → CanDelete key es
+can_delete busy force key es None h = cc
+can_delete busy force key es (Some e) h = by_tests (is_in_use busy key) (is_root key) (force || e.bits.delete) (has_descendants key es) h refl refl
   where
     by_tests : (used root delete below : Bool) → cond (used || root) (Some OBJECT_IN_USE) (cond delete (cond below (Some DIRECTORY_NOT_EMPTY) None) (Some DELETE_PROTECTED)) ≡ None
         → is_root key ≡ root → has_descendants key es ≡ below → CanDelete key es
@@ -283,7 +283,7 @@ can_delete busy key es (Some e) h = by_tests (is_in_use busy key) (is_root key) 
     by_tests false false false below h a b = cc
 
 -- after a delete that is not refused
-pub deleted_files : {m : Files} (busy : InUse) (key : List (List ℕ)) → IsTree m → delete_fault busy m key ≡ None → IsTree (map.remove m key)
-deleted_files {m} busy key files e =
-    let can = can_delete busy key (map.entries m) (map.get m key) e in
+pub deleted_files : {m : Files} (busy : InUse) (force : Bool) (key : List (List ℕ)) → IsTree m → delete_fault busy force m key ≡ None → IsTree (map.remove m key)
+deleted_files {m} busy force key files e =
+    let can = can_delete busy force key (map.entries m) (map.get m key) e in
     removed_files key files can.not_root can.empty

@@ -65,12 +65,12 @@ pub record MayGo (m : Files) (key : Key) : Type 0 where
   pub inside : IsSome (map.get m (parent_key key))
   pub empty : has_descendants key (map.entries m) ≡ false
 
-pub may_go : (busy : InUse) (m : Files) (key : Key) → IsTree m → delete_fault busy m key ≡ None → MayGo m key
-may_go busy m key files e =
-    let can : CanDelete key (map.entries m) = can_delete busy key (map.entries m) (map.get m key) e in
+pub may_go : (busy : InUse) (force : Bool) (m : Files) (key : Key) → IsTree m → delete_fault busy force m key ≡ None → MayGo m key
+may_go busy force m key files e =
+    let can : CanDelete key (map.entries m) = can_delete busy force key (map.entries m) (map.get m key) e in
     record { root = can.not_root; inside = above_there m key files can.not_root (there (map.get m key) e); empty = can.empty }
   where
-    there : (o : Option Entry) → delete_target_fault busy (map.entries m) key o ≡ None → IsSome o
+    there : (o : Option Entry) → delete_target_fault busy force (map.entries m) key o ≡ None → IsSome o
     there None h = cc
     there (Some e) h = refl
 

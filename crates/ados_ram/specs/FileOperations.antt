@@ -106,19 +106,19 @@ abbrev pub make_dir_fault : Files → Key → Name → Option Result2
 make_dir_fault m key name =
     option_or (way_fault m [] key) (option_or (free_fault (map.get m key)) (full_fault 0 (make_dir_of m key name)))
 
--- Delete: the files without a place
+-- Delete: the files without a place. Where it is forced, bit d is not asked
 abbrev pub has_descendants : Key → Rows → Bool
 has_descendants key [] = false
 has_descendants key (e ∷ es) = is_below key e.0 || has_descendants key es
 
-abbrev pub delete_target_fault : InUse → Rows → Key → Option Entry → Option Result2
-delete_target_fault busy es key None = Some OBJECT_NOT_FOUND
-delete_target_fault busy es key (Some e) =
+abbrev pub delete_target_fault : InUse → Bool → Rows → Key → Option Entry → Option Result2
+delete_target_fault busy force es key None = Some OBJECT_NOT_FOUND
+delete_target_fault busy force es key (Some e) =
     cond (is_in_use busy key || is_root key) (Some OBJECT_IN_USE)
-    (cond e.bits.delete (cond (has_descendants key es) (Some DIRECTORY_NOT_EMPTY) None) (Some DELETE_PROTECTED))
+    (cond (force || e.bits.delete) (cond (has_descendants key es) (Some DIRECTORY_NOT_EMPTY) None) (Some DELETE_PROTECTED))
 
-abbrev pub delete_fault : InUse → Files → Key → Option Result2
-delete_fault busy m key = delete_target_fault busy (map.entries m) key (map.get m key)
+abbrev pub delete_fault : InUse → Bool → Files → Key → Option Result2
+delete_fault busy force m key = delete_target_fault busy force (map.entries m) key (map.get m key)
 
 -- Rename: the files in which each object at a place or below it is at another or below that, and the object itself has
 -- the last name of the new place

@@ -184,15 +184,15 @@ impl Ram {
         }
     }
 
-    /// Deletes an object.
+    /// Deletes an object; with `force` bit d is not asked.
     ///
     /// 205 (object not found) if there is nothing, 202 (object in use) for what is in use and for the root, 222 (delete
-    /// protected) without bit d, 216 (directory not empty) for a directory with something in it.
-    pub fn delete(&self, busy: &Busy, place: &Place) -> Result<Ram, Stop>
+    /// protected) without bit d unless forced, 216 (directory not empty) for a directory with something in it.
+    pub fn delete(&self, busy: &Busy, force: bool, place: &Place) -> Result<Ram, Stop>
         ensures ok { IfOk result (λ new. new ≡ map.remove self.now (key_of place.now)) }
-        ensures fault { Answers result (delete_fault busy.now self.now (key_of place.now)) }
+        ensures fault { Answers result (delete_fault busy.now force self.now (key_of place.now)) }
     {
-        match delete_refusal(busy, &self.table, place.names()) {
+        match delete_refusal(busy, force, &self.table, place.names()) {
             Some(fault) => Err(Stop::Refused(fault)),
             None => Ok(Ram {
                 table: self.table.without(place.names())?,

@@ -100,9 +100,9 @@ pub fn make_dir_refusal(table: &Table, names: &[Name]) -> Option<Result2>
         .or(limits(table, names, 0, 0))
 }
 
-/// Why an object is not deleted.
-pub fn delete_refusal(busy: &Busy, table: &Table, names: &[Name]) -> Option<Result2>
-    ensures { result ≡ delete_fault busy.now table.now (key_of names.now) }
+/// Why an object is not deleted; `force` says that bit d is not asked.
+pub fn delete_refusal(busy: &Busy, force: bool, table: &Table, names: &[Name]) -> Option<Result2>
+    ensures { result ≡ delete_fault busy.now force table.now (key_of names.now) }
 {
     let Some(entry) = table.find(names) else {
         return Some(Result2::OBJECT_NOT_FOUND);
@@ -110,7 +110,7 @@ pub fn delete_refusal(busy: &Busy, table: &Table, names: &[Name]) -> Option<Resu
     if busy.holds(names) || names.is_empty() {
         return Some(Result2::OBJECT_IN_USE);
     }
-    if !entry.bits.delete {
+    if !force && !entry.bits.delete {
         return Some(Result2::DELETE_PROTECTED);
     }
     if table.has_descendants(names) {

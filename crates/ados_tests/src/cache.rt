@@ -130,7 +130,9 @@ fn a_rename_begins_anew(rt: HostRuntime) -> Result<(), Wrong> {
 }
 
 fn deleted(alloc: Global, old: &Shared) -> Result<Shared, Stop> {
-    let files = old.ram.delete(&Busy::none(alloc), &at(alloc, "T/d")?)?;
+    let files = old
+        .ram
+        .delete(&Busy::none(alloc), false, &at(alloc, "T/d")?)?;
     Ok(old.with_files(files)?)
 }
 

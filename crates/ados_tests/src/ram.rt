@@ -26,7 +26,7 @@ fn in_use(alloc: Global) -> Result<Busy, NoMemory> {
 }
 
 fn deleted(alloc: Global, ram: &Ram, busy: &Busy, name: &str) -> Result<Ram, Stop> {
-    ram.delete(busy, &at(alloc, name)?)
+    ram.delete(busy, false, &at(alloc, name)?)
 }
 
 fn renamed(alloc: Global, ram: &Ram, busy: &Busy, from: &str, to: &str) -> Result<Ram, Stop> {

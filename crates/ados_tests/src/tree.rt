@@ -60,7 +60,7 @@ fn thinned(alloc: Global, wide: &Ram) -> Result<Ram, Stop> {
     for first in 0..32_u8 {
         for second in 0..16_u8 {
             let place = at(alloc, &[&[b'A' + first, b'A' + 2 * second]])?;
-            match ram.delete(&Busy::none(alloc), &place) {
+            match ram.delete(&Busy::none(alloc), false, &place) {
                 Ok(less) => ram = less,
                 Err(Stop::Refused(_)) => {}
                 Err(Stop::NoMemory) => return Err(Stop::NoMemory),
@@ -159,7 +159,7 @@ fn directories_stand_a_thousand_deep(rt: HostRuntime) -> Result<(), Stop> {
             ..Bits::FRESH
         },
     )?;
-    let without = new.delete(&Busy::none(rt.alloc()), &place)?;
+    let without = new.delete(&Busy::none(rt.alloc()), false, &place)?;
     assert!(rt; without.look(&place).is_none() && new.look(&place).is_some());
     Ok(())
 }
