@@ -4,8 +4,8 @@ of which fails in its document or dialogue.
 
 usage: examples/execute/check_scripts.py PROGRAM
 
-A document has a script as a block "file NAME", a dialogue as lines "> Echo >NAME text" and "> Echo >>NAME text". The last line is
-'N passed, M failed', over the scripts.
+A document has a script as a block "file NAME", a dialogue as lines "> Echo >NAME text" and "> Echo >>NAME text". Those of dialogues
+full_NAME are checked in Full, all others in Core. The last line is 'N passed, M failed', over the scripts.
 """
 import glob
 import os
@@ -74,12 +74,12 @@ def of_dialogue(path):
     return scripts
 
 
-def accused(program, room, script):
-    """The lines that the program accuses."""
+def accused(program, dialect, room, script):
+    """The lines that the program accuses, with these options for the dialect."""
     path = os.path.join(room, "script")
     with open(path, "w", encoding="latin-1") as file:
         file.write(script)
-    came = subprocess.run([program, "--check", path], capture_output=True, timeout=60).stdout.decode("latin-1")
+    came = subprocess.run([program, *dialect, "--check", path], capture_output=True, timeout=60).stdout.decode("latin-1")
     return [int(m[1]) for m in re.finditer(r"^.*?:(\d+): error: ", came, re.M)]
 
 
@@ -93,10 +93,11 @@ def main():
     unseen = set(WRONG)
     with tempfile.TemporaryDirectory() as room:
         for path, scripts in sources:
+            dialect = [] if os.path.basename(path).startswith("full_") else ["--core"]
             for name, script in scripts.items():
                 key = (os.path.basename(path), name)
                 unseen.discard(key)
-                came = accused(program, room, script)
+                came = accused(program, dialect, room, script)
                 if came == WRONG.get(key, []):
                     passed += 1
                 else:

@@ -9,11 +9,14 @@ A file NAME.dialogue holds one. Before the first typed line it may have
     words WORD ..    the program's arguments (default: none)
     error TEXT       a line on standard error (default: none)
     status N         the exit status (default: 0)
+
+A file full_NAME.dialogue is one of a world of Full: the program runs it with the option --full of `run`.
 """
 import os
 from typing import NamedTuple
 
 ENDING = ".dialogue"
+IN_FULL = "full_"
 
 
 class BadDialogue(Exception):
@@ -76,6 +79,11 @@ def taken_apart(lines):
     return Dialogue(words, [], error, status)
 
 
+def in_full(dialogue):
+    """A dialogue with the program's arguments for a world of Full."""
+    return dialogue._replace(words=["run", "--full", *dialogue.words[1:]])
+
+
 def dialogues_in(folder):
     """The dialogues of a folder by their names, in order. Raises BadDialogue."""
     dialogues = {}
@@ -84,5 +92,6 @@ def dialogues_in(folder):
         if ending == ENDING:
             with open(f"{folder}/{file}", "rb") as written:
                 text = written.read()
-            dialogues[name] = taken_apart(text.removesuffix(b"\n").split(b"\n") if text else [])
+            dialogue = taken_apart(text.removesuffix(b"\n").split(b"\n") if text else [])
+            dialogues[name] = in_full(dialogue) if name.startswith(IN_FULL) else dialogue
     return dialogues

@@ -11,6 +11,8 @@ pub enum Line {
     Nothing,
     /// A command of the next fresh world that is a program of the host.
     Host,
+    /// The next fresh world is one of Full.
+    Full,
     /// A fresh world.
     Fresh,
     /// A shell that is opened for a line of its own.
@@ -54,6 +56,9 @@ pub fn line_of(text: &str) -> Line {
     }
     if text == "fresh" {
         return Line::Fresh;
+    }
+    if text == "dialect full" {
+        return Line::Full;
     }
     if text.starts_with("host ") {
         return Line::Host;

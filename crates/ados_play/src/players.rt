@@ -8,7 +8,7 @@ use crate::systems::push_system;
 use crate::texts::push_all;
 use crate::views::push_view;
 use ados_text::{NoMemory, Text};
-use ados_world::{Event, HostEntry, Out, Refusal, Run, World};
+use ados_world::{Dialect, Event, HostEntry, Out, Refusal, Run, World};
 use std::alloc::Global;
 use std::mem::replace;
 use thiserror::Error;
@@ -41,12 +41,13 @@ impl From<NoMemory> for Fault {
     }
 }
 
-/// A world, the events that are still to be played to it, each with its line, the hosts of the next world, and the texts of
-/// the answers for the next line that is run by `system`.
+/// A world, the events that are still to be played to it, each with its line, the dialect and the hosts of the next world, and
+/// the texts of the answers for the next line that is run by `system`.
 #[derive(Drop)]
 struct Player<'a> {
     alloc: Global,
     way: Way,
+    dialect: Dialect,
     hosts: Vec<HostEntry>,
     world: World,
     lines: Vec<&'a str>,
@@ -61,6 +62,7 @@ pub fn played(alloc: Global, way: Way, list: &str) -> Result<Vec<u8>, Fault> {
     let mut player = Player {
         alloc,
         way,
+        dialect: Dialect::Core,
         hosts: Vec::new(alloc),
         world: fresh(alloc)?,
         lines: Vec::new(alloc),
@@ -94,6 +96,11 @@ impl<'a> Player<'a> {
                 push_line(text, line)?;
                 self.hosts.push(host_of(self.alloc, line)?)?;
             }
+            Line::Full => {
+                self.play(text)?;
+                push_line(text, line)?;
+                self.dialect = Dialect::Full;
+            }
             Line::Fresh => {
                 self.play(text)?;
                 push_line(text, line)?;
@@ -124,12 +131,13 @@ impl<'a> Player<'a> {
         Ok(true)
     }
 
-    // Goes on with a fresh world that has the hosts named for it; if it is refused, with the world so far.
+    // Goes on with a fresh world that has the dialect and the hosts named for it; if it is refused, with the world so far.
     fn begin(&mut self, text: &mut Vec<u8>) -> Result<(), NoMemory> {
-        match World::new(self.alloc, &self.hosts) {
+        match World::with_dialect(self.alloc, &self.hosts, self.dialect) {
             Ok(world) => self.world = world,
             Err(fault) => push_new_fault(text, fault)?,
         }
+        self.dialect = Dialect::Core;
         self.hosts.clear();
         Ok(())
     }

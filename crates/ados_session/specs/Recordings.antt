@@ -4,6 +4,8 @@ use Rattle.std.specs.List.{filter_map, flat_map, list_all}
 use Rattle.std.specs.Option.{option_map_or}
 use Rattle.std.specs.Str.{bytes_eq}
 use Rattle.ados_text.specs.Text.{Bytes, Text}
+use Rattle.ados_resident.specs.declared.dialects.Dialect.{Dialect}
+use Rattle.ados_resident.specs.declared.dialects.Dialect.TheVariants.{Core, Full}
 use Rattle.ados_resident.specs.declared.hosts.HostEntry.{HostEntry}
 use Rattle.ados_machine.specs.declared.answers.Answer.{Answer}
 use Rattle.ados_machine.specs.declared.events.BreakAt.{BreakAt}
@@ -17,7 +19,7 @@ use Rattle.ados_session.specs.declared.faults.FileFault.TheVariants.{BadLine, No
 use Rattle.ados_session.specs.declared.recordings.RecordLine.{RecordLine}
 use Rattle.ados_session.specs.declared.recordings.RecordLine.TheVariants.{Host, Typed, Answered, Broken, Bad}
 use Rattle.ados_session.specs.declared.recordings.Form.{Form}
-use Rattle.ados_session.specs.declared.recordings.Form.TheVariants.{First, Second}
+use Rattle.ados_session.specs.declared.recordings.Form.TheVariants.{First, Second, Third}
 
 -- what a line that gives this answer says
 abbrev pub answer_line : Option Answer → RecordLine
@@ -33,6 +35,7 @@ break_line None = Bad
 abbrev pub break_line_in_form : Form → Text → RecordLine
 break_line_in_form First text = Bad
 break_line_in_form Second text = break_line (break_of text)
+break_line_in_form Third text = break_line (break_of text)
 
 -- what the text after a word says: a command whose program has its name, a typed line, an answer, or a break
 abbrev pub record_of : Form → Text → Text → RecordLine
@@ -67,16 +70,24 @@ abbrev pub break_in : RecordLine → Option BreakAt
 break_in (Broken at) = Some at
 break_in _ = None
 
--- a recorded session: its commands, its typed lines, a launcher's answers, and the breaks
+-- the dialect of the world that a recording of this form is played to
+abbrev pub dialect_of : Form → Dialect
+dialect_of First = Core
+dialect_of Second = Core
+dialect_of Third = Full
+
+-- a recorded session: the dialect of its world, its commands, its typed lines, a launcher's answers, and the breaks
 pub record RecordedSession : Type 0 where
+  pub dialect : Dialect
   pub hosts : List HostEntry
   pub typed : Bytes
   pub answers : List Answer
   pub breaks : List BreakAt
 
--- the one session followed by the other
+-- the one session followed by the other, in the world of the one
 abbrev pub joined_sessions : RecordedSession → RecordedSession → RecordedSession
 joined_sessions one other = record {
+  dialect = one.dialect;
   hosts = one.hosts ++ other.hosts;
   typed = one.typed ++ other.typed;
   answers = one.answers ++ other.answers;
@@ -86,6 +97,7 @@ joined_sessions one other = record {
 -- the session of the lines after the first
 abbrev pub session_of_lines : Form → List Text → RecordedSession
 session_of_lines form lines = record {
+  dialect = dialect_of form;
   hosts = filter_map (λ line. host_in (record_line form line)) lines;
   typed = flat_map (λ line. typed_in (record_line form line)) lines;
   answers = filter_map (λ line. answer_in (record_line form line)) lines;
@@ -102,7 +114,10 @@ are_records form lines = list_all (λ line. is_record (record_line form line)) l
 
 -- the form that the first line of a recording names
 abbrev pub recording_form : Text → Option Form
-recording_form line = if bytes_eq line (codes "amishell 1") then Some First else (if bytes_eq line (codes "amishell 2") then Some Second else None)
+recording_form line =
+    if bytes_eq line (codes "amishell 1") then Some First else
+    (if bytes_eq line (codes "amishell 2") then Some Second else
+    (if bytes_eq line (codes "amishell 3") then Some Third else None))
 
 -- the lines of a recording
 abbrev pub is_recording : List Text → Bool

@@ -5,7 +5,7 @@ ghost use Rattle.ados_text.specs.Text.{IsText};
 ghost use Rattle.ados_session.specs.Breaks.{are_rising};
 ghost use Rattle.ados_session.specs.Faults.{IsFault};
 ghost use Rattle.ados_session.specs.Hosts.{are_free};
-ghost use Rattle.ados_session.specs.Recordings.{IsRecordingFault, answer_line, are_records, break_line, break_line_in_form, recording_form, is_record, is_recording, is_session, joined_sessions, record_line, record_of, session_of_lines, session_in};
+ghost use Rattle.ados_session.specs.Recordings.{IsRecordingFault, answer_line, are_records, break_line, break_line_in_form, dialect_of, recording_form, is_record, is_recording, is_session, joined_sessions, record_line, record_of, session_of_lines, session_in};
 
 use crate::answers::answer_of;
 use crate::breaks::{add_break, break_of};
@@ -14,7 +14,7 @@ use crate::hosts::add_host;
 use crate::parts::parted;
 use ados_machine::BreakAt;
 use ados_text::{NoMemory, Text, lines_of};
-use ados_world::{Answer, HostEntry};
+use ados_world::{Answer, Dialect, HostEntry};
 use std::alloc::Global;
 use std::marker::Model;
 
@@ -25,6 +25,8 @@ pub enum Form {
     First,
     /// `amishell 2`: there may be breaks.
     Second,
+    /// `amishell 3`: as the second, in a world of Full.
+    Third,
 }
 
 /// What a line of a recording says, after the first.
@@ -45,6 +47,8 @@ pub enum RecordLine {
 /// A recorded session.
 #[derive(Drop)]
 pub struct Recording {
+    /// The dialect of the world that it is played to.
+    pub dialect: Dialect,
     /// The programs of the host that are commands.
     pub hosts: Vec<HostEntry>,
     /// The typed lines, each followed by a byte 10.
@@ -60,16 +64,16 @@ impl Model for Recording {
 
     ghost Value = { RecordedSession };
 
-    ghost view = { λ r. record { hosts = r.hosts.items; typed = r.typed.items; answers = r.answers.items; breaks = r.breaks.items } };
+    ghost view = { λ r. record { dialect = r.dialect; hosts = r.hosts.items; typed = r.typed.items; answers = r.answers.items; breaks = r.breaks.items } };
 }
 
 /// The session that a file records. A world can be made with its hosts.
 ///
-/// Its first line is `amishell 1` or `amishell 2`. Each other one is `host NAME`, a command whose program is NAME; `line TEXT`, a
-/// typed line; or `answer ANSWER`, the next answer of a launcher: `started`, `notfound`, `denied`, `memory`, `other`, `bytes HEX`
-/// of 1 to 4,096 bytes, `end`, `pipefault`, `exit N` with N from 0 to 255, `signal` or `waitfault`. After `amishell 2` a line may
-/// also be `break N K C` or `break N K D`: shell K, from 1 to 20, is broken before event N, from 1 to 1,000,000,000. A byte past
-/// ASCII is read as `?`.
+/// Its first line is `amishell 1`, `amishell 2` or, for a world of Full, `amishell 3`. Each other one is `host NAME`, a command
+/// whose program is NAME; `line TEXT`, a typed line; or `answer ANSWER`, the next answer of a launcher: `started`, `notfound`,
+/// `denied`, `memory`, `other`, `bytes HEX` of 1 to 4,096 bytes, `end`, `pipefault`, `exit N` with N from 0 to 255, `signal` or
+/// `waitfault`. Except after `amishell 1` a line may also be `break N K C` or `break N K D`: shell K, from 1 to 20, is broken before
+/// event N, from 1 to 1,000,000,000. A byte past ASCII is read as `?`.
 ///
 /// `BadLine` names the first line that is none of these, or whose NAME is not a name, that of a command, or that of an earlier
 /// host, or that is a 65th host, or whose N is less than that of the break before it. It names line 1 of an empty file.
@@ -98,8 +102,20 @@ fn recording_form(line: &Text) -> Option<Form>
         Some(Form::First)
     } else if line.as_bytes() == b"amishell 2".as_slice() {
         Some(Form::Second)
+    } else if line.as_bytes() == b"amishell 3".as_slice() {
+        Some(Form::Third)
     } else {
         None
+    }
+}
+
+// The dialect of the world that a recording of this form is played to.
+fn dialect_of(form: Form) -> Dialect
+    ensures { result ≡ dialect_of form }
+{
+    match form {
+        Form::First | Form::Second => Dialect::Core,
+        Form::Third => Dialect::Full,
     }
 }
 
@@ -111,7 +127,7 @@ fn read_records(alloc: Global, form: Form, lines: &[Text]) -> Result<Recording, 
     ensures rising { IfOk result (λ recording. are_rising recording.breaks ≡ true) }
     ensures fault { IfErr result (IsFault (are_records form) 1 lines.now) }
 {
-    let mut recording = Recording::new(alloc);
+    let mut recording = Recording::new(alloc, dialect_of(form));
     for (place, line) in lines.iter().enumerate() {
         if !recording.take(alloc, form, line)? {
             return Err(FileFault::BadLine(place + 2));
@@ -121,11 +137,12 @@ fn read_records(alloc: Global, form: Form, lines: &[Text]) -> Result<Recording, 
 }
 
 impl Recording {
-    // A session in which nothing happens.
-    fn new(alloc: Global) -> Recording
-        ensures { result ≡ record { hosts = []; typed = []; answers = []; breaks = [] } }
+    // A session in which nothing happens, in a world of this dialect.
+    fn new(alloc: Global, dialect: Dialect) -> Recording
+        ensures { result ≡ record { dialect = dialect; hosts = []; typed = []; answers = []; breaks = [] } }
     {
         Recording {
+            dialect,
             hosts: Vec::new(alloc),
             typed: Vec::new(alloc),
             answers: Vec::new(alloc),
@@ -205,7 +222,7 @@ fn broken_in(form: Form, text: &[u8]) -> RecordLine
 {
     match form {
         Form::First => RecordLine::Bad,
-        Form::Second => broken(break_of(text)),
+        Form::Second | Form::Third => broken(break_of(text)),
     }
 }
 

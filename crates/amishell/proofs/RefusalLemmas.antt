@@ -8,6 +8,7 @@ use Rattle.clap.specs.declared.error.kind.ErrorKind.TheVariants.{OutOfMemory, Di
 use Rattle.clap.proofs.OnLiterals.{clap_on_literals}
 use Rattle.amishell.specs.Command.{amishell}
 use Rattle.amishell.specs.Asked.{AsksFor, AsksNothing, HasMistake, HasRequest, IsAsked, IsRefusal, IsRefusalOf, IsRequest}
+use Rattle.ados_resident.specs.declared.dialects.Dialect.TheVariants.{Core}
 use Rattle.amishell.specs.declared.request.Asked.{Asked}
 use Rattle.amishell.specs.declared.request.Asked.TheVariants.{Run, Replay}
 use Rattle.amishell.specs.declared.request.Refused.{Refused}
@@ -44,12 +45,12 @@ not_a_request (x ∷ xs) e h = cc
 
 -- without a command there is a run
 asks_for_a_run : (entered : Option (Text × List Row)) → entered ≡ None → AsksNothing entered → ⊥
-asks_for_a_run None e nothing = nothing (Run None 1_000_000) (refl, refl)
+asks_for_a_run None e nothing = nothing (Run Core None 1_000_000) (refl, refl, refl)
 asks_for_a_run (Some p) e nothing = cc
 
 -- and nothing else
-only_a_run : (entered : Option (Text × List Row)) (a : Asked) → entered ≡ None → AsksFor entered a → a ≡ Run None 1_000_000
-only_a_run None (Run hosts turns) e h = rw (h.0, h.1) refl
+only_a_run : (entered : Option (Text × List Row)) (a : Asked) → entered ≡ None → AsksFor entered a → a ≡ Run Core None 1_000_000
+only_a_run None (Run dialect hosts turns) e h = rw (h.0, h.1, h.2) refl
 only_a_run None (Replay file) e h = absurd h
 only_a_run (Some p) a e h = cc
 
@@ -63,6 +64,6 @@ none_refused NoMemory h = refl
 pub no_words_refused : (words : List Text) (r : Refused) → words ≡ [] → IsRefusal words r → r ≡ NoMemory
 no_words_refused words r e h = none_refused r (subst (λ w. IsRefusal w r) e h)
 
--- an empty list of words asks for a run without hosts and with a million turns
-pub no_words_asked : (words : List Text) (a : Asked) → words ≡ [] → IsAsked words a → a ≡ Run None 1_000_000
+-- an empty list of words asks for a run in Core, without hosts and with a million turns
+pub no_words_asked : (words : List Text) (a : Asked) → words ≡ [] → IsAsked words a → a ≡ Run Core None 1_000_000
 no_words_asked words a e h = only_a_run _ a no_command (subst (λ w. AsksFor (subcommand_of amishell w) a) e h.1)

@@ -1,5 +1,6 @@
 -- What the words after the program's name ask for.
-use Rattle.std.specs.Prelude.{ℕ, pos, ◌≡◌, ◌≢◌, ◌≤◌, ◌⊎◌, List, [], Option, Some, None, option_map, codes}
+use Rattle.std.specs.Prelude.{ℕ, pos, ◌≡◌, ◌≢◌, ◌≤◌, ◌⊎◌, List, [], Option, Some, None, option_map, codes, if◌then◌else◌}
+use Rattle.std.specs.Str.{bytes_eq}
 use Rattle.clap.specs.Walk.{Row, Text, first_of}
 use Rattle.clap.specs.Simple.{subcommand_of}
 use Rattle.clap.specs.Kinds.{IsAmong, Kinds}
@@ -7,6 +8,8 @@ use Rattle.clap.specs.Faults.{fault_of}
 use Rattle.clap.specs.declared.error.kind.ErrorKind.{ErrorKind}
 use Rattle.clap.specs.declared.error.kind.ErrorKind.TheVariants as kind
 use Rattle.ados_text.specs.Number.{IsNumber, value_of}
+use Rattle.ados_resident.specs.declared.dialects.Dialect.{Dialect}
+use Rattle.ados_resident.specs.declared.dialects.Dialect.TheVariants.{Core, Full}
 use Rattle.amishell.specs.Command.{amishell}
 use Rattle.amishell.specs.declared.request.Asked.{Asked}
 use Rattle.amishell.specs.declared.request.Asked.TheVariants.{Run, Replay}
@@ -22,12 +25,18 @@ abbrev pub AreTurns : Option Text → ℕ → Type 0
 AreTurns None turns = turns ≡ 1_000_000
 AreTurns (Some text) turns = IsNumber text × (value_of text ≡ pos turns)
 
--- The matches of the words ask for this: the command is theirs, with its file and its turns. Without a command it is
--- `run`, without hosts and with a million turns.
+-- the dialect that the value of `--full` chooses
+abbrev pub dialect_by : Option Text → Dialect
+dialect_by (Some value) = if bytes_eq value (codes "true") then Full else Core
+dialect_by None = Core
+
+-- The matches of the words ask for this: the command is theirs, with its dialect, its file and its turns. Without a command it
+-- is `run`, in Core, without hosts and with a million turns.
 abbrev pub AsksFor : Option (Text × List Row) → Asked → Type 0
-AsksFor None (Run hosts turns) = (hosts ≡ None) × (turns ≡ 1_000_000)
+AsksFor None (Run dialect hosts turns) = (dialect ≡ Core) × (hosts ≡ None) × (turns ≡ 1_000_000)
 AsksFor None (Replay file) = ⊥
-AsksFor (Some p) (Run hosts turns) = (p.0 ≡ codes "run")
+AsksFor (Some p) (Run dialect hosts turns) = (p.0 ≡ codes "run")
+    × (dialect ≡ dialect_by (first_of (codes "full") p.1))
     × (option_map (λ s. s.now) hosts ≡ first_of (codes "hosts") p.1)
     × AreTurns (first_of (codes "turns") p.1) turns
     × IsInRange turns

@@ -2,7 +2,7 @@
 use Rattle.std.specs.Prelude.{Some, true, codes}
 use Rattle.clap.specs.Walk.{Rule}
 use Rattle.clap.specs.Simple.{App, new_app, new_rule, on_top, with_rule, with_subcommand}
-use Rattle.clap.specs.declared.builder.ArgAction.TheVariants.{Set}
+use Rattle.clap.specs.declared.builder.ArgAction.TheVariants.{Set, SetTrue}
 
 -- `--hosts FILE`
 abbrev pub hosts_rule : Rule
@@ -11,6 +11,10 @@ hosts_rule = record (new_rule (codes "hosts")) { long = Some (codes "hosts"); va
 -- `--turns N`
 abbrev pub turns_rule : Rule
 turns_rule = record (new_rule (codes "turns")) { long = Some (codes "turns"); value_names = 1; action = Some Set }
+
+-- `--full`
+abbrev pub full_rule : Rule
+full_rule = record (new_rule (codes "full")) { long = Some (codes "full"); action = Some SetTrue }
 
 -- `FILE`
 abbrev pub file_rule : Rule
@@ -21,8 +25,12 @@ abbrev pub hosts_app : App
 hosts_app = with_rule (new_app (codes "run")) hosts_rule
 
 -- `run [--hosts FILE] [--turns N]`
+abbrev pub turns_app : App
+turns_app = with_rule hosts_app turns_rule
+
+-- `run [--hosts FILE] [--turns N] [--full]`
 abbrev pub run_app : App
-run_app = with_rule hosts_app turns_rule
+run_app = with_rule turns_app full_rule
 
 -- `replay FILE`
 abbrev pub replay_app : App

@@ -4,7 +4,7 @@ ghost use Rattle.clap.specs.Simple.{app_of, subcommand_of, subcommand_rows_of};
 ghost use Rattle.clap.specs.Kinds.{FailsBy};
 ghost use Rattle.clap.specs.Faults.{fault_of};
 ghost use Rattle.clap.specs.declared.builder.command.Command.TheViews.{out-Command as fields_of};
-ghost use Rattle.amishell.specs.Command.{hosts_app, run_app, replay_app, bare_app, amishell};
+ghost use Rattle.amishell.specs.Command.{hosts_app, turns_app, run_app, replay_app, bare_app, amishell};
 
 use ados_session::VERSION;
 use clap::{Arg, ArgAction, ArgMatches, Command, Error};
@@ -28,9 +28,12 @@ const TURNS: &str =
     "How many events and long lines are taken at most, 1 to 1000000000; events are typed lines, the end
 of the input, turns of shells and answers of programs [default: 1000000]";
 
+const FULL: &str =
+    "Commands have the further options of Release 2, and a ? at the end of a line asks for its last word";
+
 const FILE: &str =
-    "The recording: its first line is 'amishell 1', and each other one is 'host NAME', 'line TEXT' or
-'answer ANSWER'; it is run for 1000000 events and long lines at most";
+    "The recording: its first line is 'amishell 1', or 'amishell 3' for commands as by --full of run, and each
+other one is 'host NAME', 'line TEXT' or 'answer ANSWER'; it is run for 1000000 events and long lines at most";
 
 /// The matches of the words after the program's name, or `clap`'s error.
 pub fn matches_of_words<'a, S: AsStr>(
@@ -67,9 +70,21 @@ fn bare_command<'a>(alloc: Global) -> Result<Command<'a>, AllocError>
         .bin_name("amishell")
 }
 
-// `run [--hosts FILE] [--turns N]`.
+// `run [--hosts FILE] [--turns N] [--full]`.
 fn run_command<'a>(alloc: Global) -> Result<Command<'a>, AllocError>
     ensures app { IfOk result (λ c. app_of c ≡ run_app) }
+    ensures local { IfOk result (λ c. (fields_of c).has_globals ≡ false) }
+{
+    let full = Arg::new(alloc, "full")
+        .long("full")
+        .help(FULL)
+        .action(ArgAction::SetTrue);
+    turns_command(alloc)?.arg(full)
+}
+
+// `run [--hosts FILE] [--turns N]`.
+fn turns_command<'a>(alloc: Global) -> Result<Command<'a>, AllocError>
+    ensures app { IfOk result (λ c. app_of c ≡ turns_app) }
     ensures local { IfOk result (λ c. (fields_of c).has_globals ≡ false) }
 {
     let turns = Arg::new(alloc, "turns")

@@ -1,7 +1,9 @@
 //! The program: the lines of standard input, or those of a recording, run by the Shell of AmigaDOS Release 2.
 #![tactic(auto)]
 
-ghost use Rattle.std.specs.Prelude.{◌≡◌, ◌<◌, ◌-◌, ◌^◌, [], pos, true};
+ghost use Rattle.std.specs.Prelude.{◌≡◌, ◌<◌, ◌-◌, ◌^◌, pos, true, IfOk};
+ghost use Rattle.ados_launch.specs.Agreement.{Agrees};
+ghost use Rattle.ados_machine.specs.World.{fresh_world};
 ghost use Rattle.ados_session.specs.Hosts.{are_free};
 ghost use Rattle.amishell.specs.Status.{status_of};
 
@@ -13,9 +15,10 @@ mod request;
 
 use ados_launch::{Counted, Drive, Host, Launcher, Listed, Source};
 use ados_text::{Code, Text};
-use ados_world::{HostEntry, NewFault, World};
+use ados_world::{Dialect, HostEntry, NewFault, World};
 use faults::Fault;
 use request::{Asked, Refused};
+use std::alloc::Global;
 use std::io;
 use std::io::Write;
 use std::process::{ExitCode, Processes};
@@ -39,7 +42,13 @@ fn main(rt: HostRuntime) -> ExitCode {
 fn run<R: Env + AllocGlobal + Files + Input + Print + Processes>(rt: &R) -> Result<u8, Fault> {
     let words = words(rt)?;
     match reading::asked(rt.alloc(), &words) {
-        Ok(Asked::Run { hosts, turns }) => run_typed(rt, hosts, turns),
+        Ok(
+            Asked::Run {
+                dialect,
+                hosts,
+                turns,
+            },
+        ) => run_typed(rt, dialect, hosts, turns),
         Ok(Asked::Replay { file }) => replay(rt, file),
         Err(Refused::Help(text)) => show(rt, &text),
         Err(Refused::BadLine) => Err(Fault::BadLine),
@@ -68,9 +77,12 @@ fn words<R: Env + AllocGlobal>(rt: &R) -> Result<Vec<String>, Fault> {
     }
 }
 
-// Runs the lines of standard input, with the programs of the host that a file names, and gives the exit status.
+// Runs the lines of standard input in a world of a dialect, with the programs of the host that a file names, and gives the
+// exit status.
+#[tactic(auto, using(ados_launch::proofs::NewPair::new_pair))]
 fn run_typed<R: AllocGlobal + Files + Input + Print + Processes>(
     rt: &R,
+    dialect: Dialect,
     hosts: Option<&str>,
     turns: u64,
 ) -> Result<u8, Fault> {
@@ -78,6 +90,7 @@ fn run_typed<R: AllocGlobal + Files + Input + Print + Processes>(
         Some(file) => files::hosts_in(rt, file)?,
         None => Vec::new(rt.alloc()),
     };
+    let mut world = fresh(rt.alloc(), dialect, hosts.as_slice())?;
     let Ok(mut launcher) = Host::new(rt.alloc(), rt) else {
         return Err(Fault::Memory);
     };
@@ -87,12 +100,14 @@ fn run_typed<R: AllocGlobal + Files + Input + Print + Processes>(
         turns,
         breaks: &[],
     };
-    play(rt, hosts.as_slice(), &mut launcher, &mut reader, drive)
+    play(rt, &mut world, &mut launcher, &mut reader, drive)
 }
 
 // Runs the recording in a file, and gives the exit status.
+#[tactic(auto, using(ados_launch::proofs::NewPair::new_pair))]
 fn replay<R: AllocGlobal + Files + Print>(rt: &R, file: &str) -> Result<u8, Fault> {
     let recording = files::recording_in(rt, file)?;
+    let mut world = fresh(rt.alloc(), recording.dialect, recording.hosts.as_slice())?;
     let mut launcher = Listed::new(recording.answers);
     let mut reader = Counted::new(recording.typed.as_slice());
     let drive = Drive {
@@ -100,37 +115,35 @@ fn replay<R: AllocGlobal + Files + Print>(rt: &R, file: &str) -> Result<u8, Faul
         turns: reading::TURNS,
         breaks: recording.breaks.as_slice(),
     };
-    play(
-        rt,
-        recording.hosts.as_slice(),
-        &mut launcher,
-        &mut reader,
-        drive,
-    )
+    play(rt, &mut world, &mut launcher, &mut reader, drive)
 }
 
-// Runs a reader's lines in a world with these programs of the host, which a new launcher starts, and gives the exit status
-// that they leave.
-#[tactic(auto, using(ados_launch::proofs::NewPair::new_pair))]
+// A world of a dialect in which nothing happened, with these programs of the host.
+fn fresh(alloc: Global, dialect: Dialect, hosts: &[HostEntry]) -> Result<World, Fault>
+    requires free { are_free hosts.now ≡ true }
+    ensures world { IfOk result (λ world. world ≡ fresh_world dialect hosts.now) }
+{
+    match World::with_dialect(alloc, hosts, dialect) {
+        Ok(world) => Ok(world),
+        Err(NewFault::NoMemory) => Err(Fault::Memory),
+        // A file of hosts and a recording are refused if no world can be made with their hosts.
+        Err(_) => unreachable!(),
+    }
+}
+
+// Runs a reader's lines in a world, by a launcher that starts its programs, and gives the exit status that they leave.
 fn play<R: AllocGlobal + Print, L: Launcher, S: Source>(
     rt: &R,
-    hosts: &[HostEntry],
+    world: &mut World,
     launcher: &mut L,
     reader: &mut S,
     drive: Drive,
 ) -> Result<u8, Fault>
     requires reader { S.faults reader.old < 2 ^ 64 - 1 }
-    requires launcher { L.calls launcher.old ≡ [] }
-    requires free { are_free hosts.now ≡ true }
+    requires agrees { Agrees world.old (L.calls launcher.old) }
 {
-    let mut world = match World::new(rt.alloc(), hosts) {
-        Ok(world) => world,
-        Err(NewFault::NoMemory) => return Err(Fault::Memory),
-        // A file of hosts and a recording are refused if no world can be made with their hosts.
-        Err(_) => unreachable!(),
-    };
     let mut writer = Counted::new(io::writer(rt));
-    let end = drive.run(&mut world, launcher, reader, &mut writer)?;
+    let end = drive.run(world, launcher, reader, &mut writer)?;
     Ok(status(end.code))
 }
 

@@ -4,12 +4,14 @@ ghost use Rattle.clap.specs.Walk.{first_of, rows_of};
 ghost use Rattle.clap.specs.Matches.{found_of};
 ghost use Rattle.clap.specs.Simple.{subcommand_rows_of};
 ghost use Rattle.clap.specs.Values.{kind_of};
+ghost use Rattle.ados_resident.specs.declared.dialects.Dialect.TheVariants.{Core};
 ghost use Rattle.clap.specs.declared.error.kind.ErrorKind.{ErrorKind};
-ghost use Rattle.amishell.specs.Asked.{AreTurns, AsksFor, AsksNothing, IsAsked, IsInRange, IsRefusal, IsRefusalOf, IsRequest};
+ghost use Rattle.amishell.specs.Asked.{AreTurns, AsksFor, AsksNothing, IsAsked, IsInRange, IsRefusal, IsRefusalOf, IsRequest, dialect_by};
 
 use crate::command::matches_of_words;
 use crate::request::{Asked, Refused};
 use ados_text::{NoMemory, Text, number};
+use ados_world::Dialect;
 use clap::error::ErrorKind;
 use clap::{ArgMatches, Error};
 use std::alloc::Global;
@@ -26,7 +28,7 @@ pub fn asked<'a, S: AsStr>(alloc: Global, words: &'a [S]) -> Result<Asked<'a>, R
     ensures asked { IfOk result (IsAsked (map S.text words.entry.now)) }
     ensures refused { IfErr result (IsRefusal (map S.text words.entry.now)) }
     ensures no_words { words.entry.now ≡ [] →
-        MatchResult result (λ a. a ≡ Asked.Run None 1_000_000) (λ e. e ≡ Refused.NoMemory) }
+        MatchResult result (λ a. a ≡ Asked.Run Core None 1_000_000) (λ e. e ≡ Refused.NoMemory) }
 {
     let matches = match matches_of_words(alloc, words) {
         Ok(matches) => matches,
@@ -45,6 +47,7 @@ fn asked_of<'a>(matches: &ArgMatches<'a>) -> Option<Asked<'a>>
 {
     match entered(matches) {
         None => Some(Asked::Run {
+            dialect: Dialect::Core,
             hosts: None,
             turns: TURNS,
         }),
@@ -71,9 +74,14 @@ fn run_of<'a>(inner: &ArgMatches<'a>) -> Option<Asked<'a>>
     ensures asked { IfSome result (AsksFor (Some (codes "run", rows_of (found_of inner.now)))) }
     ensures nothing { IfNone result (AsksNothing (Some (codes "run", rows_of (found_of inner.now)))) }
 {
+    let dialect = dialect_by(written(inner, "full"));
     let hosts = written(inner, "hosts");
     match turns_written(written(inner, "turns")) {
-        Some(turns) => Some(Asked::Run { hosts, turns }),
+        Some(turns) => Some(Asked::Run {
+            dialect,
+            hosts,
+            turns,
+        }),
         None => None,
     }
 }
@@ -101,6 +109,16 @@ fn written<'a>(inner: &ArgMatches<'a>, name: &str) -> Option<&'a str>
     ensures { option_map (λ s. s.now) result ≡ first_of name.now (rows_of (found_of inner.now)) }
 {
     inner.get_str(name)
+}
+
+// The dialect that the value of `--full` chooses.
+fn dialect_by(value: Option<&str>) -> Dialect
+    ensures { result ≡ dialect_by (option_map (λ s. s.now) value.entry) }
+{
+    match value {
+        Some(value) if value == "true" => Dialect::Full,
+        _ => Dialect::Core,
+    }
 }
 
 // The turns that a word gives, if they are in their range.

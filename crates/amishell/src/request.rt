@@ -1,12 +1,15 @@
 //! What a command line asks for.
 
 use ados_text::Text;
+use ados_world::Dialect;
 
 /// What the program is to do.
 #[derive(Drop)]
 pub enum Asked<'a> {
     /// To run typed lines from the standard input.
     Run {
+        /// The dialect of the world.
+        dialect: Dialect,
         /// The file of the programs of the host that are commands; without one there are none.
         hosts: Option<&'a str>,
         /// The most events and long lines that are taken: 1 to 1,000,000,000.

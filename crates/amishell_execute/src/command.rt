@@ -16,6 +16,10 @@ input, a line each time. Files live in memory, and are gone at the end but for t
 The exit status is the script's code; 2 after a bad command line, 124 at a limit, 126 if SCRIPT or a program of --host
 can't be read, 125 after another fault. A fault is a line on standard error, and so is each script that ended early.";
 
+const CORE: &str =
+    "Leaves out the further options of Release 2 that commands have without it, as CLONE of Copy and LFORMAT of
+List, and a ? at the end of a line, which asks for its last word";
+
 const HOSTS: &str =
     "A file of the programs of the host that are commands, a line for each: the command's name, blanks,
 and the program's path [default: the file that AMISHELL_HOSTS names, if it is set]";
@@ -125,6 +129,7 @@ fn command<'a>(alloc: Global) -> Result<Command<'a>, AllocError> {
         .no_binary_name(true)
         .bin_name("amishell-execute")?
         .override_usage(USAGE)
+        .arg(flag(alloc, "core", CORE))?
         .arg(text_option(alloc, "hosts", "FILE", HOSTS))?
         .arg(list_option(alloc, "host", "NAME[=PROGRAM]", HOST))?
         .arg(flag(alloc, "common", COMMON))?

@@ -1,4 +1,6 @@
-//! The commands that are programs of the host.
+//! The commands that are programs of the host, and the world that has them.
+ghost use Rattle.std.specs.Prelude.{◌≡◌, IfOk};
+ghost use Rattle.ados_machine.specs.World.{fresh_world};
 
 use crate::faults::{Fault, cannot_read, unread};
 use crate::host_faults::{bad_line, bad_words, refusal};
@@ -6,7 +8,8 @@ use crate::request::Options;
 use ados_session::{FileFault, HOSTS_BYTES, read_hosts};
 use ados_text::Text;
 use ados_transfer::{BRING, ascii, bytes_of, last_piece, step_into};
-use ados_world::{HostEntry, NewFault, hosts_fault};
+use ados_world::{Dialect, HostEntry, NewFault, World, hosts_fault};
+use std::alloc::Global;
 use std::io::ErrorKind;
 use std::os::unix::fs::PermissionsExt;
 use std::rt::{Env, Files};
@@ -46,6 +49,17 @@ pub fn hosts_for<R: AllocGlobal + Files + Env>(
         add_common(rt, &mut hosts)?;
     }
     Ok(hosts)
+}
+
+/// A world of a dialect in which nothing happened, with these commands.
+pub fn world_with(alloc: Global, dialect: Dialect, hosts: &[HostEntry]) -> Result<World, Fault>
+    ensures { IfOk result (λ world. world ≡ fresh_world dialect hosts.now) }
+{
+    match World::with_dialect(alloc, hosts, dialect) {
+        Ok(world) => Ok(world),
+        Err(NewFault::NoMemory) => Err(Fault::Memory),
+        Err(_) => Err(Fault::ManyHosts),
+    }
 }
 
 // Adds a command; `false` if a world can't be made with it, and then it is left out.

@@ -41,14 +41,14 @@ use ados_launch::Counted;
 use ados_ram::Place;
 use ados_text::{Code, Text};
 use ados_transfer::{Lines, Plan, TransferFault, bring, bring_script, take, taken_place};
-use ados_world::{NewFault, World};
+use ados_world::World;
 use checks::{Checks, read_checked};
 use deadline::Deadline;
 use descriptors::held_descriptors;
 use error_codes::{ErrorCode, error_codes};
 use faults::{Fault, not_brought, report};
 use gate::Gate;
-use hosts::hosts_for;
+use hosts::{hosts_for, world_with};
 use inspections::inspect_all;
 use losses::{Kept, tell_losses};
 use origins::Origins;
@@ -120,11 +120,7 @@ fn execute<
     R: Env + AllocGlobal + Files + Input + Print + Eprint + Processes + Clone + Drop + Clock,
 >(rt: &R, options: &Options<'_>) -> Result<Status, Fault> {
     let hosts = hosts_for(rt, options)?;
-    let mut world = match World::new(rt.alloc(), hosts.as_slice()) {
-        Ok(world) => world,
-        Err(NewFault::NoMemory) => return Err(Fault::Memory),
-        Err(_) => return Err(Fault::ManyHosts),
-    };
+    let mut world = world_with(rt.alloc(), options.dialect, hosts.as_slice())?;
     let errors = error_codes(rt.alloc(), options.errors.as_slice(), hosts.as_slice())?;
     let mut share = opened(rt, options, &mut world)?;
     run_script(rt, options, errors.as_slice(), &mut world, &mut share)

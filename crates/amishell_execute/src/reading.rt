@@ -1,5 +1,6 @@
 //! What the words after the program's name ask for.
-ghost use Rattle.std.specs.Prelude.{◌≤◌, IfSome};
+ghost use Rattle.std.specs.Prelude.{◌≡◌, ◌≤◌, IfSome, if◌then◌else◌};
+ghost use Rattle.ados_resident.specs.declared.dialects.Dialect.TheVariants.{Core, Full};
 
 use crate::command::matches_of_words;
 use crate::mistakes::mistake;
@@ -7,6 +8,7 @@ use crate::reader::AtEnd;
 use crate::request::{Options, Refused};
 use ados_text::{NoMemory, Text, number};
 use ados_transfer::MirrorOptions;
+use ados_world::Dialect;
 use clap::error::ErrorKind;
 use clap::{ArgMatches, Error};
 use std::alloc::{AllocError, Global};
@@ -89,6 +91,7 @@ fn options<'a>(
     args: &[&'a str],
 ) -> Result<Options<'a>, AllocError> {
     Ok(Options {
+        dialect: dialect_by(matches.get_flag("core")),
         hosts: matches.get_str("hosts"),
         host: list(alloc, matches, "host")?,
         common: matches.get_flag("common"),
@@ -133,6 +136,17 @@ fn list<'a>(
     name: &str,
 ) -> Result<Vec<&'a str>, AllocError> {
     matches.get_strs(name).unwrap_or(&[]).to_vec(alloc)
+}
+
+// The dialect: with `--core` it is Core.
+fn dialect_by(is_core: bool) -> Dialect
+    ensures { result ≡ (if is_core then Core else Full) }
+{
+    if is_core {
+        Dialect::Core
+    } else {
+        Dialect::Full
+    }
 }
 
 // The number that a word writes, if it is from 1 to the most that it may be.

@@ -3,10 +3,13 @@
 use crate::reader::AtEnd;
 use ados_text::Text;
 use ados_transfer::MirrorOptions;
+use ados_world::Dialect;
 
 /// What the program is to do.
 #[derive(Drop)]
 pub struct Options<'a> {
+    /// The dialect of the world.
+    pub dialect: Dialect,
     /// The file of the programs of the host that are commands.
     pub hosts: Option<&'a str>,
     /// More commands, each as `NAME` or `NAME=PROGRAM`.
