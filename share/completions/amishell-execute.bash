@@ -8,7 +8,7 @@ _amishell_execute() {
         --host | --take | --type | --answer | --turns | --seconds | --error | --ok-below) :; return ;;
     esac
     if [[ $word == -* ]]; then
-        mapfile -t COMPREPLY < <(compgen -W '--hosts --host --common --bring --take --type --share --all --part --dry --quote --strike --check --ascii-marks --lenient --strict --answer --turns --seconds --error --ok-below --quiet --trace --help --version' -- "$word")
+        mapfile -t COMPREPLY < <(compgen -W '--core --hosts --host --common --bring --take --type --share --all --part --dry --quote --strike --check --ascii-marks --lenient --strict --answer --turns --seconds --error --ok-below --quiet --trace --help --version' -- "$word")
     else
         mapfile -t COMPREPLY < <(compgen -f -- "$word")
     fi

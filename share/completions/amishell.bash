@@ -8,7 +8,7 @@ _amishell() {
     esac
     if [[ $word == -* ]]; then
         case ${COMP_WORDS[1]} in
-            run) mapfile -t COMPREPLY < <(compgen -W '--hosts --turns --help' -- "$word") ;;
+            run) mapfile -t COMPREPLY < <(compgen -W '--hosts --turns --full --help' -- "$word") ;;
             replay) mapfile -t COMPREPLY < <(compgen -W '--help' -- "$word") ;;
             *) mapfile -t COMPREPLY < <(compgen -W '--help --version' -- "$word") ;;
         esac

@@ -59,9 +59,9 @@ and --take write as ever";
 const QUOTE: &str = "Quotes each of ARGS, so that none is the name of an option of .KEY";
 
 const STRIKE: &str =
-    "Strikes out of the script what the Shell leaves out and says nothing which matters here: CLONE, DATES,
-NOREQ and BUFFER of Copy, FORCE of Delete, KEYS, DATES, NODATES, BLOCK and NOHEAD of List, and QUIET
-where there is none";
+    "Strikes out of the script what the Shell leaves out and says nothing which matters here: with --core CLONE,
+DATES, NOREQ and BUFFER of Copy, FORCE of Delete, KEYS, DATES, NODATES, BLOCK and NOHEAD of List, and
+QUIET where there is none";
 
 const STRICT: &str = "As without it: a line that must not be run as it is ends the run";
 
