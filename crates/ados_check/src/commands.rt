@@ -52,9 +52,9 @@ pub fn argument_fault(
     command: Builtin,
     args: &Text,
 ) -> Result<Option<ArgFault>, NoMemory>
-    // Wherever it is executed with these arguments, it answers that fault, and does nothing else.
+    // Wherever it is executed with these arguments in the dialect of the templates, it answers that fault, and does nothing else.
     ensures { IfOk result (λ found. IfSome found (λ fault. (shared : SharedState) (script_line : Option ScriptLine) (view : View)
-        → action_of command shared script_line view args.now ≡ fault_answer shared (result2_of fault))) }
+        → shared.dialect ≡ commands.now → action_of command shared script_line view args.now ≡ fault_answer shared (result2_of fault))) }
 {
     match commands.template(command).fill(alloc, args.as_bytes()) {
         Ok(_) => Ok(None),

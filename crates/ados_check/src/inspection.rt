@@ -12,7 +12,7 @@ use crate::signs::is_dotted;
 use ados_items::{first_word, rest_of, trimmed};
 use ados_line::{Expanded, Line, LineFault};
 use ados_machine::Builtin;
-use ados_resident::FlowCommand;
+use ados_resident::{Dialect, FlowCommand};
 use ados_script::{Jump, Script};
 use ados_shell::Commands;
 use ados_text::{NoMemory, Text, lines_of, same_name};
@@ -159,7 +159,7 @@ impl Look<'_> {
             Some(fault) => {
                 let problem = Problem::Arguments {
                     command: line.command.copy()?,
-                    template: template_text(self.alloc, command)?,
+                    template: template_text(self.alloc, self.commands.dialect(), command)?,
                     fault,
                 };
                 self.push(number, problem)
@@ -230,7 +230,7 @@ fn may_be_target(written: &[u8], line: &[u8]) -> bool {
     !same_name(word, first_word(trimmed(line))) || same_name(word, b"Lab")
 }
 
-// The text of a command's template.
-fn template_text(alloc: Global, command: Builtin) -> Result<Text, NoMemory> {
-    Text::from_bytes(alloc, ados_machine::template(command).as_bytes())
+// The text of a command's template in a dialect.
+fn template_text(alloc: Global, dialect: Dialect, command: Builtin) -> Result<Text, NoMemory> {
+    Text::from_bytes(alloc, ados_machine::template(dialect, command).as_bytes())
 }

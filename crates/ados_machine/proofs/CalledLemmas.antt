@@ -86,7 +86,7 @@ script-completes : (place : Place) (line : Line) (here : Here) (course : Course)
     script_completion place line here course ≡ Calls line.command None script (at_work_in course)
 script-completes place line here course script no_input no_output is = rw (no_input, no_output, is) refl
 
-builtin-calls : (builtin : Builtin) (line : Line) (here : Here) (course : Course) (script : Called) → IsPlain line →
+builtin-calls : (builtin : Builtin) (line : Line) (here : Here) (course : Course) (script : Called) → IsPlain course.shared.dialect builtin line →
     action_of builtin course.shared here.script_line (view_of line.command None course) line.args ≡ flow.Calls script →
     builtin_completion builtin line here course ≡ Calls line.command None script (with_argument_devices builtin line (at_work_in course))
 builtin-calls builtin line here course script plain is = rw (plain.no_input, plain.no_prompt, plain.no_output, is) refl
@@ -142,7 +142,7 @@ frames-go-on w k shell line effect frame frames world out items takes where_to a
     turn-frames w k shell turn.queue t world out items _ _ takes.command.takes.runs t_frames (sym turn.does ∙ accepted)
 
 -- a command that jumps
-builtin-jumps : (builtin : Builtin) (line : Line) (here : Here) (course : Course) (to : ℕ) (codes : Codes) → IsPlain line →
+builtin-jumps : (builtin : Builtin) (line : Line) (here : Here) (course : Course) (to : ℕ) (codes : Codes) → IsPlain course.shared.dialect builtin line →
     action_of builtin course.shared here.script_line (view_of line.command None course) line.args ≡ flow.Jumps to codes →
     builtin_completion builtin line here course ≡ Jumps line.command codes to (with_argument_devices builtin line (at_work_in course))
 builtin-jumps builtin line here course to codes plain is = rw (plain.no_input, plain.no_prompt, plain.no_output, is) refl

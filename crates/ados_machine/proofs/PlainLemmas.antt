@@ -28,12 +28,14 @@ use Rattle.ados_resident.specs.Commands.{disk_builtin}
 use Rattle.ados_resident.specs.declared.commands.Builtin.{Builtin}
 use Rattle.ados_resident.specs.declared.commands.Builtin.TheVariants.{Env}
 use Rattle.ados_resident.specs.declared.commands.EnvCommand.TheVariants as env
+use Rattle.ados_resident.specs.declared.dialects.Dialect.{Dialect}
+use Rattle.ados_resident.specs.declared.dialects.Dialect.TheVariants.{Core, Full}
 use Rattle.ados_resident.specs.declared.programs.Program.{Program}
 use Rattle.ados_resident.specs.declared.programs.Program.TheVariants.{Disk, Host}
 use Rattle.ados_machine.specs.declared.events.Event.TheVariants.{Turn}
 use Rattle.ados_machine.specs.Apply.{TurnResult, here_of, rule_state_of, code_rule_of, turn_of_completion}
 use Rattle.ados_machine.proofs.Fronts.{front, ruled-front}
-use Rattle.ados_machine.specs.Commands.{action_of}
+use Rattle.ados_machine.specs.Commands.{action_of, template_of}
 use Rattle.ados_machine.specs.Carrying.{carried_shells, carried_or_same}
 use Rattle.ados_machine.specs.CodeRule.{RuleState, with_fault_line, finish}
 use Rattle.ados_machine.specs.Completions.{Completion, Answers, Here}
@@ -96,7 +98,7 @@ record Works (w : WorldState) (shell : ShellState) (line : Line) (effect : Effec
   does : completion ≡ put_completion line.command
       (put (newest_sink (frames_at shell)) effect.output effect.codes (with_effect effect (record (course_without_flag (start w shell)) { used = used })))
 
-works : (w : WorldState) (shell : ShellState) (line : Line) (builtin : Builtin) (effect : Effect) (used : List Text) → IsPlain line → action_at w shell line builtin ≡ flow.Does effect →
+works : (w : WorldState) (shell : ShellState) (line : Line) (builtin : Builtin) (effect : Effect) (used : List Text) → IsPlain w.shared.dialect builtin line → action_at w shell line builtin ≡ flow.Does effect →
     Works w shell line effect (used ++ noted w.shared.assigns (devices_of builtin w.shared shell.parts line.args))
     (builtin_completion builtin line (here_of (frames_at shell)) (record (course_without_flag (start w shell)) { used = used }))
 works w shell line builtin effect used plain does =
@@ -174,11 +176,15 @@ effects-printed w k shell line effect world out items takes console accepted =
     let printed = answer-printed line.command done.codes done.course (frames_at shell) effect.output first in
     (printed.0, bytes ∙ printed.1)
 
--- FailAt
+-- FailAt, which has one template
+limit-template : (dialect : Dialect) → template_of dialect (Env env.FailAt) ≡ codes "RCLIM/N"
+limit-template Core = refl
+limit-template Full = refl
+
 limit-set : (w : WorldState) (shell : ShellState) (line : Line) (args : List Arg) (n : ℕ) → fill_of (codes "RCLIM/N") line.args ≡ Ok args → option_number args 0 ≡ Some (pos n) →
     action_at w shell line (Env env.FailAt) ≡ flow.Does (change_effect w.shared (Limit (record { 0 = pos n })))
 unfolding action_of
-limit-set w shell line args n filled is = rw (filled, is, le-leb 0 n (omega arith)) refl
+limit-set w shell line args n filled is = rw (limit-template w.shared.dialect, filled, is, le-leb 0 n (omega arith)) refl
 
 pub fail-at-sets : FailAtSetsTheLimit
 fail-at-sets w k shell line args n takes filled is =

@@ -17,7 +17,7 @@ use Rattle.ados_machine.specs.Completions.{Here, refusal_completion}
 use Rattle.ados_machine.specs.Course.{Course, outputs_of, with_devices_used}
 use Rattle.ados_machine.specs.Lines.{builtin_completion, with_search_used}
 use Rattle.ados_machine.specs.Next.{frames_at, numbers, stands_for}
-use Rattle.ados_machine.specs.Prompts.{is_prompt}
+use Rattle.ados_machine.specs.Prompts.{query_of}
 use Rattle.ados_machine.specs.Redirected.{OpenOutputsAreInUse}
 use Rattle.ados_machine.specs.Step.{start, course_without_flag}
 use Rattle.ados_machine.specs.Uses.{devices_named}
@@ -34,7 +34,7 @@ refused shared outputs false place entry way there file is_open = rw (way, there
 abbrev input_read : Course → Course
 input_read course = with_devices_used (devices_named None) course
 
-completes : (builtin : Builtin) (line : Line) (here : Here) (course : Course) (output : Redirection) (place : Place) → line.input ≡ None → is_prompt line.args ≡ false → line.output ≡ Some output →
+completes : (builtin : Builtin) (line : Line) (here : Here) (course : Course) (output : Redirection) (place : Place) → line.input ≡ None → query_of course.shared.dialect builtin line.args ≡ None → line.output ≡ Some output →
     target_of course.shared course.parts.directory output.name ≡ Ok (At place) →
     opened_by course.shared (outputs_of course.seen) output.append (At place) ≡ Err OBJECT_IN_USE →
     builtin_completion builtin line here course ≡ refusal_completion line.command OBJECT_IN_USE (input_read course)

@@ -23,6 +23,7 @@ use Rattle.ados_resident.specs.Residents.{resident_internal}
 use Rattle.ados_resident.specs.declared.commands.Builtin.{Builtin}
 use Rattle.ados_resident.specs.declared.commands.Builtin.TheVariants.{Env}
 use Rattle.ados_resident.specs.declared.commands.EnvCommand.TheVariants as env
+use Rattle.ados_resident.specs.declared.dialects.Dialect.{Dialect}
 use Rattle.ados_resident.specs.declared.programs.Program.{Program}
 use Rattle.ados_resident.specs.declared.programs.Program.TheVariants.{Disk, Host}
 use Rattle.ados_resident.specs.declared.residents.Internal.{Internal}
@@ -34,7 +35,7 @@ use Rattle.ados_machine.specs.Items.{TraceItem}
 use Rattle.ados_machine.specs.Lines.{view_of}
 use Rattle.ados_machine.specs.Next.{TakesLine, stands_for, frames_at, first_record, numbers, recorded}
 use Rattle.ados_machine.specs.Phases.{GoingOn}
-use Rattle.ados_machine.specs.Prompts.{is_prompt}
+use Rattle.ados_machine.specs.Prompts.{query_of}
 use Rattle.ados_machine.specs.Shells.{ShellState}
 use Rattle.ados_machine.specs.Sinks.{Console, newest_sink}
 use Rattle.ados_machine.specs.Step.{Accepted, start, step_of}
@@ -54,17 +55,17 @@ own_command (found.Directory place) = None
 own_command (found.NotExecutable fault) = None
 own_command found.Unknown = None
 
--- a line that names no input and no output, and does not ask for its arguments
-pub record IsPlain (line : Line) : Type 0 where
+-- a line of a command that names no input and no output, and does not ask for its arguments
+pub record IsPlain (dialect : Dialect) (builtin : Builtin) (line : Line) : Type 0 where
   pub no_input : line.input ≡ None
   pub no_output : line.output ≡ None
-  pub no_prompt : is_prompt line.args ≡ false
+  pub no_prompt : query_of dialect builtin line.args ≡ None
 
 -- the shell does this plain line next, whose word stands for this command
 pub record TakesCommand (w : WorldState) (k : ℕ) (shell : ShellState) (line : Line) (builtin : Builtin) : Type 0 where
   pub takes : TakesLine w k shell line
   pub is : own_command (stands_for w shell line.command) ≡ Some builtin
-  pub plain : IsPlain line
+  pub plain : IsPlain w.shared.dialect builtin line
 
 -- what the command's row says of it
 abbrev pub action_at : WorldState → ShellState → Line → Builtin → flow.Action

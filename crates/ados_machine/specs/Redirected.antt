@@ -14,7 +14,7 @@ use Rattle.ados_machine.specs.declared.events.Event.TheVariants.{Turn}
 use Rattle.ados_machine.specs.Course.{outputs_of}
 use Rattle.ados_machine.specs.Next.{TakesLine, stands_for, frames_at, first_record, numbers, recorded}
 use Rattle.ados_machine.specs.Plain.{own_command}
-use Rattle.ados_machine.specs.Prompts.{is_prompt}
+use Rattle.ados_machine.specs.Prompts.{query_of}
 use Rattle.ados_machine.specs.Shells.{ShellState}
 use Rattle.ados_machine.specs.Step.{step_of}
 use Rattle.ados_machine.specs.World.{WorldState, seen_shells}
@@ -26,7 +26,7 @@ pub record TakesRedirected (w : WorldState) (k : ℕ) (shell : ShellState) (line
   pub builtin : Builtin
   pub is : own_command (stands_for w shell line.command) ≡ Some builtin
   pub no_input : line.input ≡ None
-  pub no_prompt : is_prompt line.args ≡ false
+  pub no_prompt : query_of w.shared.dialect builtin line.args ≡ None
   pub output_is : line.output ≡ Some output
   pub leads : target_of w.shared shell.parts.directory output.name ≡ Ok (At place)
 

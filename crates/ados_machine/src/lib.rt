@@ -29,6 +29,6 @@ pub use laws::{
     quiet_shells_are_invisible, scripts_end_where_the_rule_says,
 };
 pub use outs::{EndReport, Out, Reports};
-pub use phases::{Asking, Child, Gathering, Parted, Question, Starting, Wait};
+pub use phases::{Asking, Child, Gathering, Parted, Query, Question, Starting, Wait};
 pub use refusals::Refusal;
 pub use requests::{Job, Request};

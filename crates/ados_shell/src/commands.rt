@@ -58,8 +58,15 @@ impl Commands {
         })
     }
 
-    // The template of a command.
-    fn template(&self, builtin: Builtin) -> &Template
+    /// The dialect in which the templates are.
+    pub fn dialect(&self) -> Dialect
+        ensures { result ≡ self.now }
+    {
+        self.dialect
+    }
+
+    /// The template of a command.
+    pub fn template(&self, builtin: Builtin) -> &Template
         ensures { result.now ≡ template_of self.now builtin }
     {
         match builtin {

@@ -1,19 +1,24 @@
 // Prompts: a command that asks for its arguments.
-ghost use Rattle.std.specs.Prelude.{◌≡◌, ◌++◌, IfOk, OnOk, drop};
+ghost use Rattle.std.specs.Prelude.{◌≡◌, ◌++◌, [], None, if◌then◌else◌, IfOk, OnOk, drop};
 ghost use Rattle.std.specs.Option.{option_copied, option_map};
+ghost use Rattle.ados_find.specs.Targets.{target_of};
 ghost use Rattle.ados_machine.specs.Completions.{Waits};
-ghost use Rattle.ados_machine.specs.Lines.{answer_completion, builtin_completion, prompt_completion};
+ghost use Rattle.ados_machine.specs.Lines.{answer_completion, asks_silently, builtin_completion, is_nil, is_nil_sink, prints_to_nil, prompt_completion, resumed_completion};
+ghost use Rattle.ados_shell.specs.Stacks.{sink_of};
 ghost use Rattle.ados_machine.specs.Prompts.{first_of, input_lines, prompt};
 ghost use Rattle.ados_text.specs.Stop.{Gives};
 
 use crate::completions::Completion;
 use crate::drafts::Draft;
-use crate::inputs::{asks, input_lines};
+use crate::inputs::{completed_line, input_lines, query_of};
 use crate::scenes::Scene;
 use crate::seen::open_outputs;
+use crate::stacks::Sink;
 use crate::suspensions::Suspension;
-use ados_line::Line;
-use ados_machine::{Asking, Builtin, Wait, template};
+use ados_find::{Shared, Target, target_of};
+use ados_line::{Line, Redirection};
+use ados_machine::{Asking, Builtin, Query, Wait, template};
+use ados_ram::Place;
 use ados_resident::Dialect;
 use ados_text::{NoMemory, Stop, Text, Texts};
 use std::alloc::Global;
@@ -23,7 +28,7 @@ impl Draft {
     ghost use Rattle.ados_shell.specs.Completions.{HasEnded};
     ghost use Rattle.ados_shell.specs.Inputs.{HasRead};
 
-    /// Runs a command: its input is read, if it has one, and its arguments are asked for if they are `?`.
+    /// Runs a command: its input is read, if it has one, and its arguments are asked for if there is a `?` that asks.
     #[inline(always)]
     pub(crate) fn builtin(
         &mut self,
@@ -37,11 +42,18 @@ impl Draft {
     {
         let lines = self.read_own(scene, line.input.as_ref())?;
         let input = slice_of(lines.as_ref());
-        if asks(&line.args) {
-            self.prompt(scene, builtin, line, input)
-        } else {
-            self.command(scene, builtin, line, input)
+        let dialect = self.dialect(scene);
+        match query_of(dialect, builtin, &line.args) {
+            Some(query) => self.prompt(scene, builtin, line, query, input),
+            None => self.command(scene, builtin, line, input),
         }
+    }
+
+    /// The dialect of the world.
+    fn dialect(&self, scene: &Scene) -> Dialect
+        ensures { result ≡ (course_of scene.now self.now).shared.dialect }
+    {
+        self.current(scene).dialect
     }
 
     /// The lines of an input, if there is one, with the shell and the shared state as it is now.
@@ -74,30 +86,62 @@ impl Draft {
         Ok(lines)
     }
 
-    /// Prints a prompt; the first line of the input stands for the arguments. Without an input the shell waits for a line.
+    /// Prints a prompt; the first line of the input completes the arguments. Without an input the shell waits for a line.
     fn prompt(
         &mut self,
         scene: &Scene,
         builtin: Builtin,
         line: &Line,
+        query: Query,
         input: Option<&[Text]>,
     ) -> Result<Completion, Stop>
         requires { IsUnset self.old }
         ensures { HasEnded scene.now self.old self.new line.now.command result
-            (prompt_completion builtin line.now (here_in scene.now self.old) (course_of scene.now self.old) (option_map (λ l. l.now) input.entry)) }
+            (prompt_completion builtin line.now query (here_in scene.now self.old) (course_of scene.now self.old) (option_map (λ l. l.now) input.entry)) }
     {
-        let dialect = self.current(scene).dialect;
-        push_prompt(&mut self.printed, dialect, builtin)?;
+        let is_silent = self.asks_silently(scene, line)?;
+        let dialect = self.dialect(scene);
+        push_prompt(&mut self.printed, is_silent, dialect, builtin)?;
         match input {
             None => {
                 let line = line.copy()?;
-                let asking = Asking::Arguments { builtin, line };
+                let asking = Asking::Arguments {
+                    builtin,
+                    line,
+                    query,
+                };
                 Ok(Completion::waiting(scene.alloc, Wait::ForAnswer(asking))?)
             }
             Some(lines) => {
-                let line = line.with_args(first_of(scene.alloc, lines)?)?;
+                let answer = first_of(scene.alloc, lines)?;
+                let line = completed_line(scene.alloc, line, query, answer)?;
                 self.command(scene, builtin, &line, Some(lines_after_first(lines)))
             }
+        }
+    }
+
+    /// A line asks for arguments without a prompt: in Full, where what it prints goes to NIL:.
+    fn asks_silently(&self, scene: &Scene, line: &Line) -> Result<bool, NoMemory>
+        ensures { IfOk result (λ silent. silent ≡ asks_silently (course_of scene.now self.now).shared.dialect line.now.output (here_in scene.now self.now) (course_of scene.now self.now)) }
+    {
+        match self.dialect(scene) {
+            Dialect::Core => Ok(false),
+            Dialect::Full => self.prints_to_nil(scene, line.output.as_ref()),
+        }
+    }
+
+    /// What a line prints goes to NIL:, by its own redirection, or else by those of its scripts, or of Run.
+    fn prints_to_nil(&self, scene: &Scene, output: Option<&Redirection>) -> Result<bool, NoMemory>
+        ensures { IfOk result (λ to_nil. to_nil ≡ prints_to_nil (option_copied output.entry) (here_in scene.now self.now) (course_of scene.now self.now)) }
+    {
+        match output {
+            None => Ok(is_nil_sink(&self.shell.frames.sink(scene.shell)?)),
+            Some(output) => leads_to_nil(
+                scene.alloc,
+                self.current(scene),
+                self.directory(scene),
+                &output.name,
+            ),
         }
     }
 
@@ -109,7 +153,24 @@ impl Draft {
         Ok(())
     }
 
-    /// Takes the answer to a prompt: it stands for the arguments as it is, or replies to a question.
+    /// A command goes on with the arguments that an answer to its prompt completes.
+    fn resume_command(
+        &mut self,
+        scene: &Scene,
+        builtin: Builtin,
+        line: &Line,
+        query: Query,
+        answer: &Text,
+    ) -> Result<Completion, Stop>
+        requires { IsUnset self.old }
+        ensures { HasEnded scene.now self.old self.new line.now.command result
+            (resumed_completion builtin line.now query answer.now None (here_in scene.now self.old) (course_of scene.now self.old)) }
+    {
+        let line = completed_line(scene.alloc, line, query, answer.copy()?)?;
+        self.command(scene, builtin, &line, None)
+    }
+
+    /// Takes the answer to a prompt: it completes the arguments as it is, or replies to a question.
     pub(crate) fn resume(
         &mut self,
         scene: &Scene,
@@ -121,9 +182,12 @@ impl Draft {
             (answer_completion answer.now asking.now (here_in scene.now self.old) (course_of scene.now self.old))) }
     {
         match asking {
-            Asking::Arguments { builtin, line } => {
-                let line = line.with_args(answer.copy()?)?;
-                let ended = self.command(scene, *builtin, &line, None);
+            Asking::Arguments {
+                builtin,
+                line,
+                query,
+            } => {
+                let ended = self.resume_command(scene, *builtin, line, *query, answer);
                 self.conclude(scene, &line.command, ended)
             }
             Asking::Reply(question) => {
@@ -164,10 +228,44 @@ fn first_of(alloc: Global, lines: &[Text]) -> Result<Text, NoMemory>
     }
 }
 
-/// Prints a command's prompt: its template in a dialect, and `: `.
-fn push_prompt(out: &mut Vec<u8>, dialect: Dialect, builtin: Builtin) -> Result<(), NoMemory>
-    ensures { OnOk result (out.new.items ≡ out.old.items ++ prompt dialect builtin) }
+/// A path leads to NIL:, from a current directory.
+fn leads_to_nil(
+    alloc: Global,
+    shared: &Shared,
+    directory: &Place,
+    name: &Text,
+) -> Result<bool, NoMemory>
+    ensures { IfOk result (λ nil. nil ≡ is_nil (target_of shared.now directory.now name.now)) }
 {
+    match target_of(alloc, shared, directory, name) {
+        Ok(Target::Nil) => Ok(true),
+        Ok(Target::At(_)) | Err(Stop::Refused(_)) => Ok(false),
+        Err(Stop::NoMemory) => Err(NoMemory),
+    }
+}
+
+/// Output goes to NIL:.
+fn is_nil_sink(sink: &Sink) -> bool
+    ensures { result ≡ is_nil_sink (sink_of sink.now) }
+{
+    match sink {
+        Sink::To(Target::Nil) => true,
+        Sink::To(Target::At(_)) | Sink::Kept | Sink::Console => false,
+    }
+}
+
+/// Prints a command's prompt, unless it asks silently: its template in a dialect, and `: `.
+fn push_prompt(
+    out: &mut Vec<u8>,
+    is_silent: bool,
+    dialect: Dialect,
+    builtin: Builtin,
+) -> Result<(), NoMemory>
+    ensures { OnOk result (out.new.items ≡ out.old.items ++ (if is_silent then [] else prompt dialect builtin)) }
+{
+    if is_silent {
+        return Ok(());
+    }
     out.extend_from_slice(template(dialect, builtin).as_bytes())?;
     out.extend_from_slice(b": ")?;
     Ok(())

@@ -5,7 +5,7 @@ use crate::hosts::hosts_for;
 use crate::request::Options;
 use crate::status::Status;
 use ados_check::{Finding, Problem, inspect, mark, strike};
-use ados_resident::HostEntry;
+use ados_resident::{Dialect, HostEntry};
 use ados_shell::Commands;
 use ados_transfer::{last_piece, parted, read_script, step_into};
 use std::io::Write;
@@ -35,7 +35,7 @@ pub fn inspect_all<R: Env + AllocGlobal + Files + Print>(
     let mut inspector = Inspector {
         options,
         hosts: hosts_for(rt, options)?,
-        commands: Commands::new(rt.alloc())?,
+        commands: Commands::new(rt.alloc(), Dialect::Core)?,
         paths: Vec::new(rt.alloc()),
         whole: Vec::new(rt.alloc()),
     };
