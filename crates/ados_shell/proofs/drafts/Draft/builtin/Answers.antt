@@ -1,6 +1,5 @@
 use Rattle.std.proofs.Common.{◌≡◌, ◌∙◌, List, Option, Some, None, ap, subst, sym}
 use Rattle.ados_text.specs.Text.{Text}
-use Rattle.ados_machine.specs.declared.phases.Query.{Query}
 use Rattle.ados_machine.specs.Lines.{asked_completion, command_completion, completion_by_query, prompt_completion}
 use Rattle.ados_machine.specs.Prompts.{query_of}
 use Rattle.ados_shell.specs.Drafts.{course_of, here_in}
