@@ -39,8 +39,6 @@ WRONG = {
     ("skip_labels.dialogue", "S:i"): [2, 7],
     ("skip_labels.dialogue", "S:h"): [2],
     ("tick_flow.dialogue", "S:known"): [1],
-    # Not a wrong line: Run gathers it, since the comment above it ends in a plus, which the check does not see.
-    ("run_in_script.dialogue", "S:more"): [3],
 }
 
 

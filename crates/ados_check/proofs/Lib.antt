@@ -1,2 +1,3 @@
-mod StrikeLemmas
 mod ReadingLemmas
+mod SignLemmas
+mod StrikeLemmas

@@ -2,6 +2,7 @@
 use Rattle.std.proofs.Common.{ℕ, zero, suc, ◌≡◌, ◌∙◌, ◌≤◌, ◌<◌, List, [], ◌∷◌, Err, true, false, length, take, nat_lt, refl, ap, arith}
 use Rattle.std.proofs.lemmas.Bool.{or_parts}
 use Rattle.std.proofs.lemmas.Bool.Decides.{nat_tests}
+use Rattle.std.proofs.lemmas.List.Elements.{All-take}
 use Rattle.ados_text.specs.Text.{Text, IsText}
 use Rattle.ados_vars.specs.Vars.{Pairs}
 use Rattle.ados_line.specs.declared.faults.LineFault.TheVariants.{LineTooLong}
@@ -51,3 +52,7 @@ plain_line aliases variables raw short plain text alias =
     let line = without_comment raw in
     let shorter : length line ≤ 512 = (let cut = take-short (comment_start raw) raw in omega (arith, short, cut)) in
     rw test (ap (expanded_line variables) alias ∙ plain-values variables line shorter plain text)
+
+-- a text stays one without its comment
+pub text_kept : (raw : Text) → IsText raw → IsText (without_comment raw)
+text_kept raw text = All-take (λ b. b < 128) (comment_start raw) raw text

@@ -1,3 +1,4 @@
+pub mod Jumps
 pub mod LeftOut
-pub mod Signs
 pub mod Readings
+pub mod Signs

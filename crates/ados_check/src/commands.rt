@@ -4,13 +4,12 @@ ghost use Rattle.ados_find.specs.Shared.{SharedState};
 ghost use Rattle.ados_find.specs.Views.{View};
 ghost use Rattle.ados_flow.specs.Execute.{fault_answer};
 ghost use Rattle.ados_flow.specs.Frames.{ScriptLine};
-ghost use Rattle.ados_machine.specs.Commands.{action_of};
+ghost use Rattle.ados_machine.specs.Commands.{action_of, template_of};
 ghost use Rattle.ados_readargs.specs.Faults.{result2_of};
 
-use ados_machine::Builtin;
-use ados_readargs::ArgFault;
-use ados_resident::{DiskCommand, InternalCommand};
-use ados_shell::Commands;
+use ados_machine::{Builtin, template};
+use ados_readargs::{ArgFault, Template};
+use ados_resident::{Dialect, DiskCommand, InternalCommand};
 use ados_text::{NoMemory, Text};
 use std::alloc::Global;
 
@@ -44,19 +43,27 @@ impl Word {
     }
 }
 
-/// The fault that a command answers for the text of its arguments, if it has one.
+/// The template of a command in a dialect.
+#[tactic(auto, using(ados_shell::proofs::CommandLemmas::ascii, ados_shell::proofs::CommandLemmas::are_templates))]
+pub fn template_in(alloc: Global, dialect: Dialect, command: Builtin) -> Result<Template, NoMemory>
+    ensures { IfOk result (λ template. template ≡ template_of dialect command) }
+{
+    Template::known(alloc, template(dialect, command))
+}
+
+/// The fault that a command answers in a dialect for the text of its arguments, if it has one.
 #[tactic(auto, unfolding(ados_machine::specs::Commands::action_of))]
 pub fn argument_fault(
     alloc: Global,
-    commands: &Commands,
+    dialect: Dialect,
     command: Builtin,
     args: &Text,
 ) -> Result<Option<ArgFault>, NoMemory>
-    // Wherever it is executed with these arguments in the dialect of the templates, it answers that fault, and does nothing else.
+    // Wherever it is executed in a world of that dialect with these arguments, it answers that fault, and does nothing else.
     ensures { IfOk result (λ found. IfSome found (λ fault. (shared : SharedState) (script_line : Option ScriptLine) (view : View)
-        → shared.dialect ≡ commands.now → action_of command shared script_line view args.now ≡ fault_answer shared (result2_of fault))) }
+        → shared.dialect ≡ dialect → action_of command shared script_line view args.now ≡ fault_answer shared (result2_of fault))) }
 {
-    match commands.template(command).fill(alloc, args.as_bytes()) {
+    match template_in(alloc, dialect, command)?.fill(alloc, args.as_bytes()) {
         Ok(_) => Ok(None),
         Err(ArgFault::NoMemory) => Err(NoMemory),
         Err(fault) => Ok(Some(fault)),

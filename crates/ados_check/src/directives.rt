@@ -1,6 +1,5 @@
 //! A script with directives: its lines with arguments that fill its template, by which a line that depends on them is told.
 
-use crate::findings::{Finding, Problem};
 use ados_items::{first_word, rest_of};
 use ados_readargs::{ArgFault, Template, TemplateOption};
 use ados_subst::{SubstFault, script};
@@ -12,8 +11,8 @@ use std::alloc::Global;
 pub enum Sample {
     /// They are these with some arguments; a line that is as it is written does not depend on them.
     Lines(Texts),
-    /// A directive is bad.
-    Bad(Finding),
+    /// The directive in this line is bad.
+    Bad(usize),
     /// No arguments were found that fill its template.
     Unknown,
 }
@@ -28,19 +27,12 @@ pub fn sample_of(alloc: Global, written: &[Text], bytes: &[u8]) -> Result<Sample
     match script(alloc, bytes, args.as_bytes(), 1) {
         Ok(lines) => Ok(Sample::Lines(lines)),
         Err(SubstFault::NoMemory) => Err(NoMemory),
-        Err(SubstFault::BadDirective(line)) => Ok(bad_directive(line)),
+        Err(SubstFault::BadDirective(line)) => Ok(Sample::Bad(line)),
         Err(SubstFault::Args(ArgFault::BadTemplate)) => {
-            Ok(bad_directive(key.map_or(1, |(line, _)| line)))
+            Ok(Sample::Bad(key.map_or(1, |(line, _)| line)))
         }
         Err(SubstFault::Args(_)) => Ok(Sample::Unknown),
     }
-}
-
-fn bad_directive(line: usize) -> Sample {
-    Sample::Bad(Finding {
-        line,
-        problem: Problem::BadDirective,
-    })
 }
 
 // The number of the line that has the template, and its text.

@@ -20,7 +20,7 @@ pub struct Finding {
 pub enum Problem {
     /// A byte above 127 outside of a comment: the Shell reads it as `?`, which is a pattern.
     NotAscii(u8),
-    /// A byte above 127 in the words of Echo or Ask, which print it as `?`.
+    /// A byte above 127 in the words of Echo or Ask, which print another sign in its place.
     PrintedByte(u8),
     /// A command has options of Release 2 that the Shell leaves out, and takes for names.
     LeftOut(LeftOut),
@@ -58,6 +58,13 @@ impl Problem {
         matches!(self, Problem::PrintedByte(_))
     }
 
+    /// The line must not be run after all, since Echo or Ask is another command there.
+    pub fn refuse(&mut self) {
+        if let Problem::PrintedByte(byte) = self {
+            *self = Problem::NotAscii(*byte);
+        }
+    }
+
     /// Whenever the line is taken, it fails; otherwise it may be meant as it is.
     pub fn is_error(&self) -> bool {
         matches!(
@@ -81,7 +88,10 @@ impl fmt::Display for Problem {
                 "byte 0x{byte:02x} is not ASCII (iconv -f LATIN1 -t ASCII//TRANSLIT)"
             ),
             Problem::PrintedByte(byte) => {
-                write!(f, "byte 0x{byte:02x} is not ASCII, and is printed as ?")
+                write!(
+                    f,
+                    "byte 0x{byte:02x} is not ASCII, and is printed as _ or ?"
+                )
             }
             Problem::LeftOut(options) => write!(f, "{options}"),
             Problem::LongLine(bytes) => write!(f, "{bytes} bytes (at most 512)"),

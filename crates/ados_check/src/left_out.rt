@@ -2,9 +2,10 @@
 ghost use Rattle.ados_check.specs.LeftOut.{IsBlanked};
 
 use crate::arguments::{Word, next_argument};
-use crate::comments::without_comment;
 use crate::release_two::{Command, Naming, Omission, Takes, command_of};
 use ados_items::{between, first_word, trimmed};
+use ados_line::without_comment;
+use ados_resident::Dialect;
 use ados_text::{Name, NoMemory, Text, lines_of};
 use ados_vars::Aliases;
 use std::alloc::Global;
@@ -40,17 +41,17 @@ impl fmt::Display for LeftOut {
     }
 }
 
-/// Writes blanks over those options in a script that the Shell leaves out and that have no effect which matters here.
+/// Writes blanks over those options in a script that the Shell leaves out in a dialect and that have no effect which matters here.
 ///
 /// The script keeps its length, and each byte is unchanged or a blank.
 #[tactic(auto, using(crate::proofs::StrikeLemmas::blanked_itself, crate::proofs::StrikeLemmas::blanked_again))]
-pub fn strike(alloc: Global, script: &mut [u8]) -> Result<(), NoMemory>
+pub fn strike(alloc: Global, dialect: Dialect, script: &mut [u8]) -> Result<(), NoMemory>
     ensures { IsBlanked script.old script.new }
 {
     let mut from = 0;
     let lines = lines_of(alloc, script)?;
     for line in lines.as_slice() {
-        strike_line(alloc, script, from, line.as_bytes())?;
+        strike_line(alloc, dialect, script, from, line.as_bytes())?;
         from = from.saturating_add(line.as_bytes().len()).saturating_add(1);
     }
     Ok(())
@@ -58,10 +59,16 @@ pub fn strike(alloc: Global, script: &mut [u8]) -> Result<(), NoMemory>
 
 // The same in a line that begins at a place of the script.
 #[tactic(auto, using(crate::proofs::StrikeLemmas::blanked_itself, crate::proofs::StrikeLemmas::blanked_again))]
-fn strike_line(alloc: Global, script: &mut [u8], from: usize, line: &[u8]) -> Result<(), NoMemory>
+fn strike_line(
+    alloc: Global,
+    dialect: Dialect,
+    script: &mut [u8],
+    from: usize,
+    line: &[u8],
+) -> Result<(), NoMemory>
     ensures { IsBlanked script.old script.new }
 {
-    let found = options_left_out(alloc, &Aliases::new(alloc), from, line)?;
+    let found = options_left_out(alloc, dialect, &Aliases::new(alloc), from, line)?;
     for one in &found {
         for given in &one.options {
             if given.option.is_idle {
@@ -82,23 +89,29 @@ fn blank(script: &mut [u8], from: usize, to: usize)
     }
 }
 
-/// The commands of a line that are given options which the Shell leaves out: those between back-ticks, and then that of the line
-/// itself. The line begins at a place of the script.
+/// The commands of a line that are given options which the Shell leaves out in a dialect: those between back-ticks, and then that of
+/// the line itself. The line begins at a place of the script.
 ///
 /// A line is read as it is, before its variables are put in. An alias is the first word of its text. A command after Run and one
 /// that an alias is to stand for count like any other. What is in quotes or in a comment, the name in a redirection, and the value
 /// of an option are not options.
 pub fn options_left_out(
     alloc: Global,
+    dialect: Dialect,
     aliases: &Aliases,
     from: usize,
     line: &[u8],
 ) -> Result<Vec<LeftOut>, NoMemory> {
     let mut found = Vec::new(alloc);
+    let line = without_comment(line);
+    if !line.contains(&b'`') {
+        look_at(dialect, aliases, from, line, &mut found)?;
+        return Ok(found);
+    }
     let mut around = Vec::with_capacity(alloc, line.len())?;
     let mut opened = None;
     let mut is_starred = false;
-    for (place, byte) in without_comment(line).iter().enumerate() {
+    for (place, byte) in line.iter().enumerate() {
         let is_tick = *byte == b'`' && !is_starred;
         is_starred = *byte == b'*' && !is_starred;
         let is_around = opened.is_none() && !is_tick;
@@ -107,18 +120,20 @@ pub fn options_left_out(
             None if is_tick => opened = Some(place.saturating_add(1)),
             Some(inside) if is_tick => {
                 let begin = from.saturating_add(inside);
-                look_at(aliases, begin, between(line, inside, place), &mut found)?;
+                let ticked = between(line, inside, place);
+                look_at(dialect, aliases, begin, ticked, &mut found)?;
                 opened = None;
             }
             _ => {}
         }
     }
-    look_at(aliases, from, around.as_slice(), &mut found)?;
+    look_at(dialect, aliases, from, around.as_slice(), &mut found)?;
     Ok(found)
 }
 
 // Looks at a text without back-ticks, which begins at a place of the script.
 fn look_at(
+    dialect: Dialect,
     aliases: &Aliases,
     from: usize,
     line: &[u8],
@@ -128,7 +143,7 @@ fn look_at(
     let Some((command, place)) = command_in(alloc, aliases, line)? else {
         return Ok(());
     };
-    let mut options = options_from(alloc, line, command, place)?;
+    let mut options = options_from(alloc, dialect, line, command, place)?;
     if options.is_empty() {
         return Ok(());
     }
@@ -184,8 +199,8 @@ pub fn alias_text<'a>(
     Ok(aliases.get(&name))
 }
 
-// The name of a command, as a word has it: there may be quotes, and the directory C: before it.
-fn name_in(word: &[u8]) -> &[u8] {
+/// The name of a command, as a word has it: there may be quotes, and the directory C: before it.
+pub fn name_in(word: &[u8]) -> &[u8] {
     let text = word.strip_prefix(b"\"").unwrap_or(word);
     let text = text.strip_suffix(b"\"").unwrap_or(text);
     match text {
@@ -197,6 +212,7 @@ fn name_in(word: &[u8]) -> &[u8] {
 // The options that are left out among the words of a command from a place on; places are those of the line.
 fn options_from(
     alloc: Global,
+    dialect: Dialect,
     line: &[u8],
     command: &Command,
     place: usize,
@@ -207,7 +223,8 @@ fn options_from(
         let Some(word) = next_argument(line, place) else {
             break;
         };
-        place = match command.naming(between(line, word.from, word.name_to)) {
+        let name = between(line, word.from, word.name_to);
+        place = match command.naming(alloc, dialect, name)? {
             Some(Naming::Kept) => value_end(line, word),
             Some(Naming::LeftOut(option)) => match end_of(line, word, option.takes) {
                 Some(to) => {

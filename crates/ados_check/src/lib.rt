@@ -3,10 +3,10 @@
 
 mod arguments;
 mod commands;
-mod comments;
 mod directives;
 mod findings;
 mod inspection;
+mod jumps;
 mod left_out;
 mod lines;
 mod readings;
@@ -18,4 +18,4 @@ pub use findings::{Finding, Problem};
 pub use inspection::inspect;
 pub use left_out::strike;
 pub use lines::check;
-pub use signs::mark;
+pub use signs::{mark, mark_printed};

@@ -1,40 +1,74 @@
 //! The check of a script's lines, all problems in their order.
-ghost use Rattle.std.specs.Prelude.{◌≡◌, ◌<◌, ◌+◌, [], ℕ, true, get_or, length, map, IfOk, OnOk, is_none, false};
+ghost use Rattle.std.specs.Prelude.{◌≡◌, ◌++◌, [], ◌∷◌, ℕ, None, IfOk, OnOk, get_or, map};
 ghost use Rattle.std.specs.List.{slice_split};
 ghost use Rattle.ados_text.specs.Lines.{is_newline};
-ghost use Rattle.ados_check.specs.Signs.{Keeps, file_line, has_sign, is_dotted, is_named};
+ghost use Rattle.ados_check.specs.Signs.{SaysTheSame, signs_at, signs_told, told_sign};
 
 use crate::findings::{Finding, Problem};
 use crate::left_out::options_left_out;
-use crate::renames::renames_printers;
-use crate::signs::{is_dotted, sign_in};
+use crate::renames::{may_call, renames_printers};
+use crate::signs::{is_dotted, sign_in, sign_problem};
+use ados_resident::Dialect;
 use ados_text::{NoMemory, Text};
 use ados_vars::Aliases;
 use std::alloc::{AllocError, Global};
 
-/// What is wrong with the lines of a script, in order.
+/// What is wrong with the lines of a script in a world of a dialect, in order.
 ///
 /// `aliases` are those of its shell, `lines` are those that are to be taken, with the script's arguments in them, and `bytes` are
 /// those of the file that they come from, in which bytes above 127 are still there; there may be none, if they are not known.
 pub fn check(
     alloc: Global,
+    dialect: Dialect,
     aliases: &Aliases,
     lines: &[Text],
     bytes: &[u8],
 ) -> Result<Vec<Finding>, NoMemory>
-    // Each line of the file that has a byte above 127 where it matters is found.
-    ensures signs { IfOk result (λ found. (k : ℕ) → k < length lines.now → has_sign (is_dotted bytes.now) (file_line bytes.now k) ≡ true
-        → is_named (k + 1) found.items ≡ true) }
+    // In each line of the file the first byte above 127 where it matters is found, and no other is said to be there.
+    ensures signs { IfOk result (λ found. (number : ℕ) → signs_told number found.items ≡ signs_at bytes.now number) }
 {
-    let mut found = Vec::new(alloc);
+    let mut found = signs_found(alloc, aliases, lines, bytes)?;
+    for (place, line) in lines.iter().enumerate() {
+        push_options(dialect, aliases, place.saturating_add(1), line, &mut found)?;
+    }
+    sort(&mut found)?;
+    Ok(found)
+}
+
+/// Puts findings in the order of their lines; those of a line keep theirs.
+pub fn sort(found: &mut Vec<Finding>) -> Result<(), NoMemory>
+    ensures { OnOk result (SaysTheSame found.old.items found.new.items) }
+{
+    found.sort_by(|a, b| a.line.cmp(&b.line))?;
+    Ok(())
+}
+
+// The problems of a file's bytes above 127. Nearly all files have none.
+#[tactic(auto, using(crate::proofs::SignLemmas::ascii_none, crate::proofs::SignLemmas::none_yet, crate::proofs::SignLemmas::none_more, crate::proofs::SignLemmas::one_more, crate::proofs::SignLemmas::told_all))]
+fn signs_found(
+    alloc: Global,
+    aliases: &Aliases,
+    lines: &[Text],
+    bytes: &[u8],
+) -> Result<Vec<Finding>, NoMemory>
+    ensures { IfOk result (λ found. (number : ℕ) → signs_told number found.items ≡ signs_at bytes.now number) }
+{
+    if bytes.is_ascii() {
+        return Ok(Vec::new(alloc));
+    }
+    let is_told_only = !renames_printers(alloc, aliases, lines)? && !may_call(alloc, lines)?;
     let is_dotted = is_dotted(bytes);
     let in_file = lines_in(alloc, bytes)?;
-    let is_told_only = !renames_printers(alloc, aliases, lines)?;
-    for place in 0..lines.len() {
-        let written = line_at(&in_file, place);
-        let problem = judged(sign_in(is_dotted, written), is_told_only);
-        push_problem(&mut found, place + 1, problem)?;
-        push_options(aliases, place + 1, &lines[place], &mut found)?;
+    let mut found = Vec::new(alloc);
+    for place in 0..in_file.len() {
+        let line = line_at(&in_file, place);
+        match sign_in(is_dotted, line) {
+            None => {}
+            Some(byte) => {
+                let problem = sign_problem(is_told_only, line, byte);
+                push_problem(&mut found, place + 1, problem)?;
+            }
+        }
     }
     Ok(found)
 }
@@ -56,43 +90,36 @@ fn line_at<'a>(lines: &[&'a [u8]], place: usize) -> &'a [u8]
     }
 }
 
-// The problem of a line in a script in which Echo and Ask only print their words, or may do something else.
-fn judged(problem: Option<Problem>, is_told_only: bool) -> Option<Problem>
-    ensures { is_none result ≡ is_none problem }
+// Adds a problem of a line.
+fn push_problem(found: &mut Vec<Finding>, line: usize, problem: Problem) -> Result<(), NoMemory>
+    ensures { OnOk result (found.new.items ≡ found.old.items ++ record { line = line; problem = problem } ∷ []) }
 {
-    match problem {
-        Some(Problem::PrintedByte(byte)) if !is_told_only => Some(Problem::NotAscii(byte)),
-        other => other,
-    }
+    found.push(Finding { line, problem })?;
+    Ok(())
 }
 
-// Adds the problem of a line, if it has one.
-fn push_problem(
-    found: &mut Vec<Finding>,
-    line: usize,
-    problem: Option<Problem>,
-) -> Result<(), NoMemory>
-    ensures kept { OnOk result (Keeps found.old.items found.new.items) }
-    ensures named { OnOk result (is_none problem ≡ false → is_named line found.new.items ≡ true) }
+/// Adds a problem of a line that is not of a byte above 127.
+#[tactic(auto, using(crate::proofs::SignLemmas::told_other))]
+pub fn push_other(found: &mut Vec<Finding>, line: usize, problem: Problem) -> Result<(), NoMemory>
+    requires { told_sign problem ≡ None }
+    ensures { OnOk result (SaysTheSame found.old.items found.new.items) }
 {
-    if let Some(problem) = problem {
-        found.push(Finding { line, problem })?;
-    }
-    Ok(())
+    push_problem(found, line, problem)
 }
 
 // Adds the options of a line that the Shell leaves out.
 fn push_options(
+    dialect: Dialect,
     aliases: &Aliases,
     line: usize,
     text: &Text,
     found: &mut Vec<Finding>,
 ) -> Result<(), NoMemory>
-    ensures { OnOk result (Keeps found.old.items found.new.items) }
+    ensures { OnOk result (SaysTheSame found.old.items found.new.items) }
 {
     let alloc = *found.allocator();
-    for left_out in options_left_out(alloc, aliases, 0, text.as_bytes())? {
-        push_problem(found, line, Some(Problem::LeftOut(left_out)))?;
+    for left_out in options_left_out(alloc, dialect, aliases, 0, text.as_bytes())? {
+        push_other(found, line, Problem::LeftOut(left_out))?;
     }
     Ok(())
 }

@@ -10,14 +10,14 @@ ghost use Rattle.ados_line.specs.Values.{Variables};
 ghost use Rattle.ados_vars.specs.Vars.{Pairs};
 ghost use Rattle.ados_check.specs.Readings.{is_marked};
 
-use crate::comments::without_comment;
-use ados_line::{Expanded, LineFault, cut};
+use ados_line::{Expanded, LineFault, cut, without_comment};
 use ados_text::{LINE_BYTES, Text};
 use std::alloc::Global;
 
 /// What a line is read as; `None` if that depends on variables or on the output of a command: it has a `$` or a back-tick.
 ///
 /// The fault is `LineTooLong` for more than 512 bytes, and otherwise that of the cut.
+#[tactic(auto, using(crate::proofs::ReadingLemmas::text_kept))]
 pub fn read_line(alloc: Global, raw: &Text) -> Option<Result<Expanded, LineFault>>
     // Each shell reads it so that has no alias for its first word.
     ensures { IfSome result (λ read. (aliases : Pairs) (variables : Variables) → with_alias aliases (without_comment raw.now) ≡ without_comment raw.now

@@ -1,148 +1,167 @@
-//! The options of Release 2 that the Shell leaves out, by the commands that have them there.
-ghost use Rattle.std.specs.Prelude.{◌≡◌};
+//! The options of Release 2 by the commands that have them, and which of them the Shell leaves out in a dialect: those of whose name
+//! its template has none.
+ghost use Rattle.std.specs.Prelude.{◌≡◌, false, IfOk};
+ghost use Rattle.std.specs.List.{list_any};
 ghost use Rattle.ados_text.specs.Text.{is_same};
-ghost use Rattle.ados_check.specs.LeftOut.{first_named};
+ghost use Rattle.ados_readargs.specs.Options.{has_name};
+ghost use Rattle.ados_readargs.specs.Template.{options_of};
+ghost use Rattle.ados_machine.specs.Commands.{template_of};
+ghost use Rattle.ados_check.specs.LeftOut.{first_named, IfLeftOut};
 
-/// A command of the Shell, with words that name options of it in Release 2.
+use crate::commands::template_in;
+use ados_machine::Builtin;
+use ados_readargs::Template;
+use ados_resident::{Dialect, EnvCommand, FilesCommand};
+use ados_text::NoMemory;
+use std::alloc::Global;
+
+/// A command of the Shell that has more options in Release 2 than in some dialect, with all its options of Release 2.
 pub struct Command {
     /// Its name.
     pub name: &'static str,
-    // Options in both that take the word after their name.
-    kept: &'static [&'static str],
-    // Options only in Release 2 that take no value.
+    // The command itself.
+    builtin: Builtin,
+    // Its options by their names: those that take no value,
     switches: &'static [&'static str],
-    // Options only in Release 2 that take the word after their name.
+    // those that take the word after their name,
     values: &'static [&'static str],
-    // The same, if that word is a number.
+    // and those that take it if it is a number.
     numbers: &'static [&'static str],
-    // Those of the last three that have no effect which matters here.
+    // Those of all these that have no effect which matters here.
     idle: &'static [&'static str],
 }
 
 static COMMANDS: [Command; 15] = [
     Command {
         name: "Assign",
-        kept: &["NAME", "TARGET"],
-        switches: &["LIST", "DISMOUNT", "VOLS", "DIRS", "DEVICES"],
-        values: &[],
+        builtin: Builtin::Env(EnvCommand::Assign),
+        switches: &[
+            "LIST", "EXISTS", "DISMOUNT", "DEFER", "PATH", "ADD", "REMOVE", "VOLS", "DIRS",
+            "DEVICES",
+        ],
+        values: &["NAME", "TARGET"],
         numbers: &[],
         idle: &[],
     },
     Command {
         name: "Break",
-        kept: &["PROCESS"],
-        switches: &["E", "F"],
-        values: &[],
+        builtin: Builtin::Env(EnvCommand::Break),
+        switches: &["ALL", "C", "D", "E", "F"],
+        values: &["PROCESS"],
         numbers: &[],
         idle: &[],
     },
     Command {
         name: "Copy",
-        kept: &["FROM", "TO"],
-        switches: &["CLONE", "DATES", "NOPRO", "COM", "NOREQ", "NEWER"],
-        values: &[],
+        builtin: Builtin::Files(FilesCommand::Copy),
+        switches: &[
+            "ALL", "QUIET", "CLONE", "DATES", "NOPRO", "COM", "NOREQ", "NEWER",
+        ],
+        values: &["FROM", "TO"],
         numbers: &["BUF", "BUFFER"],
         idle: &["CLONE", "DATES", "NOREQ", "BUF", "BUFFER"],
     },
     Command {
         name: "Delete",
-        kept: &["FILE"],
-        switches: &["FORCE"],
-        values: &[],
+        builtin: Builtin::Files(FilesCommand::Delete),
+        switches: &["ALL", "QUIET", "FORCE"],
+        values: &["FILE"],
         numbers: &[],
         idle: &["FORCE"],
     },
     Command {
         name: "Dir",
-        kept: &["DIR"],
-        switches: &["ALL", "INTER"],
-        values: &["OPT"],
+        builtin: Builtin::Files(FilesCommand::Dir),
+        switches: &["ALL", "DIRS", "FILES", "INTER"],
+        values: &["DIR", "OPT"],
         numbers: &[],
         idle: &[],
     },
     Command {
         name: "Echo",
-        kept: &[],
-        switches: &[],
+        builtin: Builtin::Env(EnvCommand::Echo),
+        switches: &["NOLINE"],
         values: &[],
         numbers: &["FIRST", "LEN"],
         idle: &[],
     },
     Command {
         name: "Eval",
-        kept: &["VALUE1", "OP", "VALUE2"],
+        builtin: Builtin::Env(EnvCommand::Eval),
         switches: &[],
-        values: &["TO", "LFORMAT"],
+        values: &["VALUE1", "OP", "VALUE2", "TO", "LFORMAT"],
         numbers: &[],
         idle: &[],
     },
     Command {
         name: "Filenote",
-        kept: &["FILE", "COMMENT"],
+        builtin: Builtin::Files(FilesCommand::Filenote),
         switches: &["ALL", "QUIET"],
-        values: &[],
+        values: &["FILE", "COMMENT"],
         numbers: &[],
         idle: &["QUIET"],
     },
     Command {
         name: "List",
-        kept: &["DIR", "P", "PAT"],
-        switches: &["KEYS", "DATES", "NODATES", "BLOCK", "NOHEAD", "ALL"],
-        values: &["TO", "SUB", "SINCE", "UPTO", "LFORMAT"],
+        builtin: Builtin::Files(FilesCommand::List),
+        switches: &[
+            "KEYS", "DATES", "NODATES", "QUICK", "BLOCK", "NOHEAD", "FILES", "DIRS", "ALL",
+        ],
+        values: &["DIR", "P", "PAT", "TO", "SUB", "SINCE", "UPTO", "LFORMAT"],
         numbers: &[],
         idle: &["KEYS", "DATES", "NODATES", "BLOCK", "NOHEAD"],
     },
     Command {
         name: "Path",
-        kept: &["PATH"],
-        switches: &["QUIET"],
-        values: &[],
+        builtin: Builtin::Env(EnvCommand::Path),
+        switches: &["ADD", "SHOW", "RESET", "REMOVE", "QUIET"],
+        values: &["PATH"],
         numbers: &[],
         idle: &["QUIET"],
     },
     Command {
         name: "Protect",
-        kept: &["FILE", "FLAGS"],
-        switches: &["ALL", "QUIET"],
-        values: &[],
+        builtin: Builtin::Files(FilesCommand::Protect),
+        switches: &["ADD", "SUB", "ALL", "QUIET"],
+        values: &["FILE", "FLAGS"],
         numbers: &[],
         idle: &["QUIET"],
     },
     Command {
         name: "Rename",
-        kept: &["FROM", "TO", "AS"],
+        builtin: Builtin::Files(FilesCommand::Rename),
         switches: &["QUIET"],
-        values: &[],
+        values: &["FROM", "TO", "AS"],
         numbers: &[],
         idle: &["QUIET"],
     },
     Command {
         name: "Status",
-        kept: &["PROCESS", "COM", "COMMAND"],
+        builtin: Builtin::Env(EnvCommand::Status),
         switches: &["FULL", "TCB", "CLI", "ALL"],
-        values: &[],
+        values: &["PROCESS", "COM", "COMMAND"],
         numbers: &[],
         idle: &[],
     },
     Command {
         name: "Type",
-        kept: &["FROM"],
+        builtin: Builtin::Files(FilesCommand::Type),
         switches: &["HEX", "NUMBER"],
-        values: &["TO", "OPT"],
+        values: &["FROM", "TO", "OPT"],
         numbers: &[],
         idle: &[],
     },
     Command {
         name: "Which",
-        kept: &["FILE"],
+        builtin: Builtin::Env(EnvCommand::Which),
         switches: &["NORES", "RES", "ALL"],
-        values: &[],
+        values: &["FILE"],
         numbers: &[],
         idle: &[],
     },
 ];
 
-/// The command of this name with options that the Shell leaves out; case is ignored.
+/// The command of this name; case is ignored.
 pub fn command_of(name: &[u8]) -> Option<&'static Command> {
     COMMANDS.iter().find(|command| command.name.as_bytes().eq_ignore_ascii_case(name))
 }
@@ -179,31 +198,61 @@ pub struct Omission {
 }
 
 impl Command {
-    /// The option that a word names; `None` if it names none, or a switch that the Shell has.
-    pub fn naming(&self, word: &[u8]) -> Option<Naming> {
+    /// The option that a word names in a dialect; `None` if it names none of Release 2, or a switch that the Shell has.
+    pub fn naming(
+        &self,
+        alloc: Global,
+        dialect: Dialect,
+        word: &[u8],
+    ) -> Result<Option<Naming>, NoMemory>
+        // What is left out is no option of the command in this dialect.
+        ensures { IfOk result (IfLeftOut (λ name. list_any (has_name name) (options_of (template_of dialect self.now.builtin)) ≡ false)) }
+    {
+        let Some((name, takes)) = self.option(word) else {
+            return Ok(None);
+        };
+        let template = template_in(alloc, dialect, self.builtin)?;
+        if !has_option(&template, name.as_bytes()) {
+            return Ok(Some(Naming::LeftOut(self.omission(name, takes))));
+        }
+        Ok(match takes {
+            Takes::Nothing => None,
+            Takes::Word | Takes::Number => Some(Naming::Kept),
+        })
+    }
+
+    // The option of Release 2 that a word names, and what it takes.
+    fn option(&self, word: &[u8]) -> Option<(&'static str, Takes)> {
         if let Some(name) = first_named(self.switches, word) {
-            return Some(Naming::LeftOut(self.omission(name, Takes::Nothing)));
+            return Some((name, Takes::Nothing));
         }
         if let Some(name) = first_named(self.values, word) {
-            return Some(Naming::LeftOut(self.omission(name, Takes::Word)));
+            return Some((name, Takes::Word));
         }
-        if let Some(name) = first_named(self.numbers, word) {
-            return Some(Naming::LeftOut(self.omission(name, Takes::Number)));
-        }
-        match first_named(self.kept, word) {
-            Some(_) => Some(Naming::Kept),
-            None => None,
-        }
+        let name = first_named(self.numbers, word)?;
+        Some((name, Takes::Number))
     }
 
     // The option with this name.
-    fn omission(&self, name: &'static str, takes: Takes) -> Omission {
+    fn omission(&self, name: &'static str, takes: Takes) -> Omission
+        ensures { result.name.now ≡ name.now }
+    {
         Omission {
             name,
             takes,
             is_idle: first_named(self.idle, name.as_bytes()).is_some(),
         }
     }
+}
+
+// A template has an option of this name; case is ignored.
+fn has_option(template: &Template, name: &[u8]) -> bool
+    ensures { result ≡ list_any (has_name name.now) (options_of template.now) }
+{
+    template
+        .options()
+        .iter()
+        .any(|option| option.has_name(name))
 }
 
 // The first of these names that is this word; case is ignored.

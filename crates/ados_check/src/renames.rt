@@ -1,7 +1,12 @@
 //! Which words are other commands in a script than the Shell's own.
 
-use crate::left_out::alias_text;
-use ados_items::{first_word, rest_of, trimmed};
+use crate::arguments::next_argument;
+use crate::commands::Word;
+use crate::left_out::{alias_text, name_in};
+use ados_items::{between, first_word, rest_of, trimmed};
+use ados_line::without_comment;
+use ados_machine::Builtin;
+use ados_resident::FlowCommand;
 use ados_text::{NoMemory, Text, same_name};
 use ados_vars::Aliases;
 use std::alloc::Global;
@@ -31,6 +36,34 @@ pub fn renames_printers(
                 b"Resident",
             )),
     )
+}
+
+/// A line of a script may have another script run: what that one makes an alias of, or takes off the resident list, is not known.
+pub fn may_call(alloc: Global, lines: &[Text]) -> Result<bool, NoMemory> {
+    for line in lines {
+        if calls(alloc, without_comment(line.as_bytes()))? {
+            return Ok(true);
+        }
+    }
+    Ok(false)
+}
+
+// The command of a line may have another script run; one between back-ticks may too. A directive has none.
+fn calls(alloc: Global, line: &[u8]) -> Result<bool, NoMemory> {
+    if line.contains(&b'`') {
+        return Ok(true);
+    }
+    let Some(word) = next_argument(line, 0) else {
+        return Ok(false);
+    };
+    if line.starts_with(b".") {
+        return Ok(false);
+    }
+    let name = Text::from_bytes(alloc, name_in(between(line, word.from, word.to)))?;
+    Ok(match Word::of(&name) {
+        Word::Builtin(Builtin::Flow(FlowCommand::Execute)) | Word::Run | Word::Other => true,
+        Word::Builtin(_) => false,
+    })
 }
 
 // A word is an alias of the shell, or the script makes it one.

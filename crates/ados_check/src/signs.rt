@@ -1,12 +1,17 @@
 //! Bytes above 127 in a script. The Shell reads each as `?`, which in a name is a pattern that other names fit.
-ghost use Rattle.std.specs.Prelude.{◌≡◌, ◌<◌, not, is_none, length, position, IfSome};
+ghost use Rattle.std.specs.Prelude.{◌≡◌, Some};
+ghost use Rattle.std.specs.List.{find};
 ghost use Rattle.ados_text.specs.Text.{is_past_ascii};
-ghost use Rattle.ados_check.specs.Signs.{has_sign, is_dotted, is_remark};
+ghost use Rattle.ados_check.specs.Signs.{is_dotted, is_remark, sign_of, told_sign};
 
 use crate::arguments::has_redirection;
-use crate::comments::without_comment;
-use crate::findings::Problem;
+use crate::findings::{Finding, Problem};
+use crate::renames::renames_printers;
 use ados_items::{first_word, is_blank, rest_of, trimmed};
+use ados_line::without_comment;
+use ados_text::{NoMemory, lines_of};
+use ados_vars::Aliases;
+use std::alloc::Global;
 
 // What is written in the place of such a byte: no pattern has it.
 const MARK: u8 = b'_';
@@ -20,6 +25,36 @@ pub fn mark(script: &mut [u8]) {
     }
 }
 
+/// Writes `_` in the place of each byte above 127 in the lines of a script that only print their words, and gives the problem of each
+/// of these lines: none if Echo or Ask may be another command in it.
+pub fn mark_printed(alloc: Global, script: &mut [u8]) -> Result<Vec<Finding>, NoMemory> {
+    let mut found = Vec::new(alloc);
+    if script.is_ascii() {
+        return Ok(found);
+    }
+    let lines = lines_of(alloc, script)?;
+    if renames_printers(alloc, &Aliases::new(alloc), lines.as_slice())? {
+        return Ok(found);
+    }
+    let is_dotted = is_dotted(script);
+    let mut from: usize = 0;
+    for (place, line) in lines.as_slice().iter().enumerate() {
+        let to = from.saturating_add(line.as_bytes().len());
+        let Some(bytes) = script.get_mut(from..to) else {
+            break;
+        };
+        if let Some(byte) = sign_in(is_dotted, bytes)
+            && let problem @ Problem::PrintedByte(_) = sign_problem(true, bytes, byte)
+        {
+            mark(bytes);
+            let line = place.saturating_add(1);
+            found.push(Finding { line, problem })?;
+        }
+        from = to.saturating_add(1);
+    }
+    Ok(found)
+}
+
 /// The file has directives: its first byte is a dot.
 pub fn is_dotted(bytes: &[u8]) -> bool
     ensures { result ≡ is_dotted bytes.now }
@@ -30,28 +65,37 @@ pub fn is_dotted(bytes: &[u8]) -> bool
     }
 }
 
-/// The problem of a line that has a byte above 127 before its comment. `is_dotted`: its script has directives.
-pub fn sign_in(is_dotted: bool, line: &[u8]) -> Option<Problem>
-    ensures { is_none result ≡ not (has_sign is_dotted line.now) }
+/// The first byte above 127 of a line before its comment. `is_dotted`: its script has directives.
+pub fn sign_in(is_dotted: bool, line: &[u8]) -> Option<u8>
+    ensures { result ≡ sign_of is_dotted line.now }
 {
     if is_dotted && is_remark(line) {
         return None;
     }
-    let line = without_comment(line);
-    let place = first_past_ascii(line)?;
-    Some(if is_printed(line) {
-        Problem::PrintedByte(line[place])
-    } else {
-        Problem::NotAscii(line[place])
-    })
+    first_past_ascii(without_comment(line))
 }
 
-// The place of the first byte above 127.
-fn first_past_ascii(line: &[u8]) -> Option<usize>
-    ensures place { result ≡ position is_past_ascii line.now }
-    ensures within { IfSome result (λ place. place < length line.now) }
+/// The problem of a line with a byte above 127. `is_told_only`: in its script Echo and Ask only print their words.
+pub fn sign_problem(is_told_only: bool, line: &[u8], byte: u8) -> Problem
+    ensures { told_sign result ≡ Some byte }
 {
-    line.iter().position(|byte| *byte >= 128)
+    if is_told_only && is_printed(without_comment(line)) {
+        Problem::PrintedByte(byte)
+    } else {
+        Problem::NotAscii(byte)
+    }
+}
+
+// The first byte above 127.
+fn first_past_ascii(line: &[u8]) -> Option<u8>
+    ensures { result ≡ find is_past_ascii line.now }
+{
+    for byte in line {
+        if *byte >= 128 {
+            return Some(*byte);
+        }
+    }
+    None
 }
 
 // The line is a directive that says nothing.

@@ -1,5 +1,5 @@
 // What Eval prints of a value with LFORMAT.
-ghost use Rattle.std.specs.Prelude.{◌≡◌, ◌-◌, ◌++◌, OnOk, IfOk};
+ghost use Rattle.std.specs.Prelude.{◌≡◌, ◌++◌, OnOk, IfOk};
 ghost use Rattle.std.proofs.Math.ListN.{replicate};
 ghost use Rattle.ados_env.specs.EvalFormat.{field_bytes, field_len, formatted_from, formatted_value, padded_digits, piece_bytes, piece_len, width_digits, width_in};
 

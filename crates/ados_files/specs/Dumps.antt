@@ -1,5 +1,5 @@
 -- How Type shows bytes: HEX and NUMBER.
-use Rattle.std.specs.Prelude.{ℕ, zero, suc, ◌+◌, ◌*◌, ◌/◌, ◌%◌, Bool, true, false, ◌&&◌, nat_lt, nat_le, List, [], ◌∷◌, ◌++◌, map, take, drop, length, codes, decimal, slice_get, Option, Some, None, if◌then◌else◌}
+use Rattle.std.specs.Prelude.{ℕ, zero, suc, ◌+◌, ◌*◌, ◌/◌, ◌%◌, Bool, true, false, ◌&&◌, nat_lt, nat_le, [], ◌∷◌, ◌++◌, map, take, drop, length, codes, decimal, slice_get, Option, Some, None, if◌then◌else◌}
 use Rattle.ados_text.specs.Text.{Bytes}
 use Rattle.ados_text.specs.Columns.{right_aligned_text}
 use Rattle.ados_text.specs.Lines.{is_newline}

@@ -1,5 +1,5 @@
 -- LFORMAT of List: a text in which parts of an object are put.
-use Rattle.std.specs.Prelude.{ℕ, zero, suc, ◌+◌, ◌-◌, List, [], ◌∷◌, ◌++◌, take, drop, length, decimal, Bool, true, false, ◌&&◌, ◌||◌, not, ◌==◌, nat_le, Option, Some, None, if◌then◌else◌}
+use Rattle.std.specs.Prelude.{ℕ, suc, ◌+◌, ◌-◌, List, [], ◌∷◌, ◌++◌, take, drop, length, decimal, Bool, true, false, ◌&&◌, ◌||◌, not, ◌==◌, nat_le, Option, Some, None, if◌then◌else◌}
 use Rattle.std.specs.List.{flat_map, suffix_len}
 use Rattle.ados_text.specs.Text.{Bytes, Text, fold_of}
 use Rattle.ados_text.specs.declared.lines.TheConstants.{LINE_BYTES}

@@ -1,5 +1,5 @@
 -- Type: the bytes of files, unchanged or by HEX or NUMBER.
-use Rattle.std.specs.Prelude.{ℕ, Bool, true, false, ◌&&◌, ◌||◌, ◌==◌, List, ◌++◌, Result, Ok, Err, if◌then◌else◌}
+use Rattle.std.specs.Prelude.{ℕ, Bool, true, false, ◌||◌, ◌==◌, List, ◌++◌, Result, Ok, Err, if◌then◌else◌}
 use Rattle.std.specs.List.{list_all, list_any}
 use Rattle.std.specs.FinMap as map
 use Rattle.ados_text.specs.Text.{Bytes, Text, fold_of}

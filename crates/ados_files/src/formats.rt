@@ -1,5 +1,5 @@
 // LFORMAT of List: a text in which parts of an object are put.
-ghost use Rattle.std.specs.Prelude.{◌≡◌, ◌≤◌, ◌++◌, false, length, take, drop, decimal, IfOk, OnOk};
+ghost use Rattle.std.specs.Prelude.{◌≡◌, ◌≤◌, ◌++◌, false, length, decimal, IfOk, OnOk};
 ghost use Rattle.std.specs.List.{flat_map, suffix_len};
 ghost use Rattle.ados_text.specs.Text.{fold_of};
 ghost use Rattle.ados_ram.specs.Entry.{size_of};

@@ -25,7 +25,7 @@ pub struct Shape {
     pub depth: usize,
 }
 
-ghost use Rattle.ados_files.specs.Shapes.{passes, begins_with, stands_in, has_part, is_selected, plain_line, shown_line, kept_line, line_by_shape, directory_lines, group_lines};
+ghost use Rattle.ados_files.specs.Shapes.{passes, begins_with, stands_in, has_part, is_selected, plain_line, kept_line, line_by_shape, directory_lines, group_lines};
 
 /// The lines of objects, given the path before their names.
 #[derive(Drop)]

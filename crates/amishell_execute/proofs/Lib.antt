@@ -1,3 +1,4 @@
 mod Driving
 mod Pairs
 mod Ran
+mod TrailLemmas

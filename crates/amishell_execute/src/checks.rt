@@ -4,7 +4,7 @@ ghost use Rattle.amishell_execute.specs.Playing.{drive_fault_of};
 
 use crate::faults::{Fault, report, unread_script};
 use crate::request::Options;
-use ados_check::{Finding, check, mark, strike};
+use ados_check::{Finding, check, mark, mark_printed, strike};
 use ados_flow::{Frame, FrameKind};
 use ados_launch::Next;
 use ados_ram::Place;
@@ -28,7 +28,8 @@ pub struct Checks<'a> {
     reported: Vec<Text>,
 }
 
-/// The bytes of the script of the command line as it is brought in. With `--lenient` what is found in its lines is reported.
+/// The bytes of the script of the command line as it is brought in. Where Echo or Ask prints a byte above 127 it has `_`, which no
+/// pattern has, and the first such line is reported. With `--lenient` all that is found is reported, and each such byte is `_`.
 pub fn read_checked<R: AllocGlobal + Files + Eprint>(
     rt: &R,
     options: &Options<'_>,
@@ -42,12 +43,16 @@ pub fn read_checked<R: AllocGlobal + Files + Eprint>(
         mark(&mut script);
     }
     if options.strike {
-        strike(alloc, &mut script)?;
+        strike(alloc, options.dialect, &mut script)?;
     }
+    let printed = mark_printed(alloc, &mut script)?;
+    let _ = report_all(rt, options.script, &printed, true)?;
     if options.lenient {
         let lines = lines_of(alloc, &script)?;
-        let found = check(alloc, &Aliases::new(alloc), lines.as_slice(), &script)?;
+        let aliases = Aliases::new(alloc);
+        let found = check(alloc, options.dialect, &aliases, lines.as_slice(), &script)?;
         let _ = report_all(rt, options.script, &found, true)?;
+        mark(&mut script);
     }
     Ok(script)
 }
@@ -103,9 +108,15 @@ impl<'a> Checks<'a> {
         };
         let alloc = rt.alloc();
         let bytes = bytes_at(alloc, world, name)?;
-        let found = check(alloc, &shell.settings().aliases, frame.further(), bytes)?;
+        let aliases = &shell.settings().aliases;
+        let mut found = check(alloc, world.dialect(), aliases, frame.further(), bytes)?;
         if found.is_empty() {
             return Ok(());
+        }
+        if !prints(alloc, world, "Echo")? || !prints(alloc, world, "Ask")? {
+            for one in &mut found {
+                one.problem.refuse();
+            }
         }
         let is_new = self.is_first_report(name)?;
         if report_all(rt, self.shown(name), &found, is_new)? {
@@ -143,6 +154,16 @@ fn begun_script(world: &World, next: Next) -> Option<(&Shell, &Frame)> {
         Some((_, 0)) => Some((shell, frame)),
         _ => None,
     }
+}
+
+// The internal command of this name is the one that is found under it: it was not taken off the resident list, and no entry has its name.
+fn prints(alloc: Global, world: &World, name: &str) -> Result<bool, NoMemory> {
+    let name = Text::from_bytes(alloc, name.as_bytes())?;
+    let residents = world.residents();
+    let is_enabled = residents
+        .internal(&name)
+        .is_some_and(|internal| !internal.is_disabled);
+    Ok(is_enabled && residents.find(&name).is_none())
 }
 
 // The bytes of the file at a full path; none if it is gone.

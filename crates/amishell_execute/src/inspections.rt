@@ -4,9 +4,8 @@ use crate::faults::{Fault, unread_script};
 use crate::hosts::hosts_for;
 use crate::request::Options;
 use crate::status::Status;
-use ados_check::{Finding, Problem, inspect, mark, strike};
-use ados_resident::{Dialect, HostEntry};
-use ados_shell::Commands;
+use ados_check::{Finding, Problem, inspect, mark, mark_printed, strike};
+use ados_resident::HostEntry;
 use ados_transfer::{last_piece, parted, read_script, step_into};
 use std::io::Write;
 use std::rt::{Env, Files};
@@ -20,7 +19,6 @@ const SCRIPTS: usize = 1024;
 struct Inspector<'a> {
     options: &'a Options<'a>,
     hosts: Vec<HostEntry>,
-    commands: Commands,
     // The paths of those that were found so far, and the same without links.
     paths: Vec<String>,
     whole: Vec<String>,
@@ -35,7 +33,6 @@ pub fn inspect_all<R: Env + AllocGlobal + Files + Print>(
     let mut inspector = Inspector {
         options,
         hosts: hosts_for(rt, options)?,
-        commands: Commands::new(rt.alloc(), Dialect::Core)?,
         paths: Vec::new(rt.alloc()),
         whole: Vec::new(rt.alloc()),
     };
@@ -84,16 +81,29 @@ impl Inspector<'_> {
             mark(&mut script);
         }
         if self.options.strike {
-            strike(rt.alloc(), &mut script)?;
+            strike(rt.alloc(), self.options.dialect, &mut script)?;
         }
+        let mut found = Vec::new(rt.alloc());
+        if self.is_given(path) {
+            found = mark_printed(rt.alloc(), &mut script)?;
+        }
+        for finding in inspect(rt.alloc(), self.options.dialect, &script)? {
+            found.push(finding)?;
+        }
+        found.sort_by(|a, b| a.line.cmp(&b.line))?;
         let mut is_wrong = false;
-        for finding in &inspect(rt.alloc(), &self.commands, &script)? {
+        for finding in &found {
             if !self.is_known(rt, &finding.problem)? {
                 write_line(rt, path, finding)?;
                 is_wrong = is_wrong || finding.problem.is_error();
             }
         }
         Ok(is_wrong)
+    }
+
+    // It is a script of the command line.
+    fn is_given(&self, path: &str) -> bool {
+        self.options.script == path || self.options.args.iter().any(|given| *given == path)
     }
 
     // What a problem misses is there after all; a script is looked at then.

@@ -232,7 +232,8 @@ fn copy_front(bytes: &[u8], buffer: &mut [u8]) -> usize
     length
 }
 
-// Reads up to a newline, the end, or as much as there is room for. No byte after the newline is read.
+// Reads up to a newline, the end, or as much as there is room for. No byte after the newline is read. In the place of a byte above 127
+// stands `_`, which no pattern has.
 fn read_line<I: Read>(input: &mut I, buffer: &mut [u8]) -> io::Result<usize>
     ensures { ReadsAtMost result buffer.new }
 {
@@ -242,6 +243,9 @@ fn read_line<I: Read>(input: &mut I, buffer: &mut [u8]) -> io::Result<usize>
         }
         if buffer[place] == b'\n' {
             return Ok(place + 1);
+        }
+        if !buffer[place].is_ascii() {
+            buffer[place] = b'_';
         }
     }
     Ok(buffer.len())

@@ -1,6 +1,7 @@
 //! The scripts of each shell, whose lines are kept from their beginning until their end is reported.
 ghost use Rattle.std.specs.Prelude.{◌≡◌, ◌++◌, OnOk};
-ghost use Rattle.amishell_execute.specs.Ends.{kept_after};
+ghost use Rattle.std.specs.Option.{option_map};
+ghost use Rattle.amishell_execute.specs.Ends.{kept_after, script_at, script_of};
 
 use ados_flow::{Frame, FrameKind};
 use ados_script::Script;
@@ -51,7 +52,7 @@ impl Trail {
     /// The newest script of a shell, or the one that has this many newer ones.
     pub fn script(&self, shell: u8, newer: usize) -> Option<&Script> {
         let kept = self.shells.get(usize::from(shell))?;
-        kept.frames.iter().rev().filter_map(script_of).nth(newer)
+        script_at(&kept.frames, newer)
     }
 
     /// The name of the oldest script of a shell.
@@ -78,10 +79,15 @@ impl Trail {
 }
 
 impl Kept {
-    // What ended is given up, and what began is kept; it is shared, not copied.
+    // What ended is given up, and what began is kept; it is shared, not copied. Mostly neither is so.
+    #[tactic(auto, using(crate::proofs::TrailLemmas::same_kept))]
     fn look(&mut self, frames: &[Frame]) -> Result<(), NoMemory>
         ensures { OnOk result (self.new.frames.items ≡ kept_after self.old.frames.items frames.now) }
     {
+        if self.frames.len() == frames.len() {
+            self.goes_on = false;
+            return Ok(());
+        }
         self.goes_on = is_tick(self.frames.get(frames.len()));
         self.frames.truncate(frames.len());
         let begun = frames.get(self.frames.len()..).unwrap_or(&[]);
@@ -107,8 +113,30 @@ fn is_tick(frame: Option<&Frame>) -> bool {
     }
 }
 
+// The lines of the newest script of some frames, or of the one that has this many newer ones.
+#[tactic(auto, using(crate::proofs::TrailLemmas::no_script, crate::proofs::TrailLemmas::newest_script, crate::proofs::TrailLemmas::older_script, crate::proofs::TrailLemmas::script_below))]
+fn script_at(frames: &[Frame], newer: usize) -> Option<&Script>
+    ensures { option_map (λ script. script.now) result ≡ script_at frames.now newer }
+{
+    let mut rest = frames;
+    let mut left = newer;
+    while let Some((frame, older)) = rest.split_last() {
+        if let Some(script) = script_of(frame) {
+            if left == 0 {
+                return Some(script);
+            }
+            left -= 1;
+        }
+        rest = older;
+    }
+    None
+}
+
 // The lines of the script that a frame is.
-fn script_of(frame: &Frame) -> Option<&Script> {
+#[tactic(auto, using(crate::proofs::TrailLemmas::called))]
+fn script_of(frame: &Frame) -> Option<&Script>
+    ensures { option_map (λ script. script.now) result ≡ script_of frame.now }
+{
     let (script, _) = frame.script_line()?;
     Some(script)
 }

@@ -1,4 +1,4 @@
-use Rattle.std.proofs.Common.{◌≡◌, ℕ, suc, ◌-◌, ◌∙◌, Bool, true, false, List, Option, length, arith, ap, sym}
+use Rattle.std.proofs.Common.{◌≡◌, ℕ, suc, ◌-◌, ◌∙◌, Bool, true, false, List, length, arith, ap, sym}
 use Rattle.std.specs.Prelude.{if◌then◌else◌}
 use Rattle.ados_items.specs.Items.{item_at}
 use Rattle.ados_items.specs.declared.items.Item.{Item}

@@ -4,9 +4,9 @@ use Rattle.ados_shell.proofs.drafts.Draft.resume.Goals as goal
 
 pub returns-in-Arguments : goal.returns-in-Arguments
 returns-in-Arguments c =
-    rw c.in-Arguments.is (on_ok_weaker c.conclude-in-Arguments.result
-    (λ g. concluded c.args.scene.now c.args.self.now c.resume_command-ended.new.self c.conclude-in-Arguments.new.self c.in-Arguments.line.command c.resume_command-ended.result _ c.resume_command-ended.ensures g)
-    c.conclude-in-Arguments.ensures)
+    rw c.in-Arguments.is (on_ok_weaker c.conclude.result
+    (λ g. concluded c.args.scene.now c.args.self.now c.resume_command-ended.new.self c.conclude.new.self c.in-Arguments.line.command c.resume_command-ended.result _ c.resume_command-ended.ensures g)
+    c.conclude.ensures)
 
 pub returns-in-Reply : goal.returns-in-Reply
 returns-in-Reply c =

@@ -1,0 +1,22 @@
+use Rattle.std.proofs.Common.{◌≡◌, ◌∙◌, ◌+◌, ap, subst, sym, refl}
+use Rattle.ados_check.specs.Signs.{file_line, is_dotted, sign_of}
+use Rattle.ados_check.proofs.SignLemmas.{ToldUpTo, none_more, one_more}
+use Rattle.ados_check.proofs.lines.signs_found.Goals as goal
+use Rattle.ados_check.proofs.lines.signs_found.Goals.{in-None, in-Some+in_ok-push_problem-in-Some}
+
+pub loop-place-preserved : goal.loop-place-preserved
+loop-place-preserved c =
+    let place = c.loop-place.place in
+    let bytes = c.args.bytes.now in
+    let line : c.line_at-line.result.now ≡ file_line bytes place = rw (c.line_at-line.ensures, c.deref.ensures.value, c.in_ok-in_file.ensures) refl in
+    let sign : sign_of (is_dotted bytes) (file_line bytes place) ≡ c.sign_in.result =
+    sym (c.sign_in.ensures ∙ ap (λ d. sign_of d c.line_at-line.result.now) c.is_dotted-is_dotted.ensures ∙ ap (sign_of (is_dotted bytes)) line) in
+    elim c.match-sign_in.branch [
+      | in-None w ↦
+          subst (λ f. ToldUpTo (place + 1) bytes f.items) (sym w.found-is)
+          (none_more place bytes c.loop-place.found.items c.loop-place.invariant (sign ∙ w.in-None.is))
+      | in-Some+in_ok-push_problem-in-Some w ↦
+          subst (ToldUpTo (place + 1) bytes) (sym (ap (λ f. f.items) w.found-is ∙ w.in_ok-push_problem-in-Some.ensures))
+          (one_more place w.in-Some.byte bytes c.loop-place.found.items w.sign_problem-problem.result c.loop-place.invariant (sign ∙ w.in-Some.is)
+          w.sign_problem-problem.ensures)
+    ]
