@@ -174,15 +174,8 @@ impl Mirror {
         account: &mut Account,
     ) -> Result<Departures<'a>, TransferFault> {
         let mut departures = self.known_departures(files)?;
-        let gone = departures
-            .by_key
-            .values()
-            .filter(|departure| departure.entry.is_none())
-            .count();
         let places = files.contents(&self.place)?;
-        if self.records.len().saturating_sub(gone) < places.len() {
-            self.add_new(files, &places, &mut departures, account)?;
-        }
+        self.add_new(files, &places, &mut departures, account)?;
         Ok(departures)
     }
 
