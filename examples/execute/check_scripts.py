@@ -20,6 +20,9 @@ ROOT = os.path.dirname(os.path.dirname(os.path.dirname(os.path.realpath(__file__
 WRONG = {
     ("COMMANDS.md", "S:count"): [8],
     ("LANGUAGE.md", "S:searched"): [3],
+    ("aros_arguments.dialogue", "S:bad"): [1],
+    ("aros_scripts.dialogue", "S:directive"): [1],
+    ("aros_scripts.dialogue", "S:lost"): [1],
     ("bad_directives.dialogue", "S:foo"): [1],
     ("bad_directives.dialogue", "S:directive"): [2],
     ("deepest.dialogue", "S:bad"): [1],
