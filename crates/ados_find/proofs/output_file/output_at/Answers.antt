@@ -5,7 +5,7 @@ use Rattle.ados_ram.specs.Place.{key_of, last_name}
 use Rattle.ados_ram.specs.InUse.{is_output}
 use Rattle.ados_ram.specs.FileOperations.{write_of, write_fault}
 use Rattle.ados_find.specs.Effects.{effect_of}
-use Rattle.ados_find.specs.Shared.{SharedState}
+use Rattle.ados_find.specs.Shared.{SharedState, limits_of}
 use Rattle.ados_find.specs.Views.{View}
 use Rattle.ados_find.proofs.output_file.output_at.Goals as goal
 
