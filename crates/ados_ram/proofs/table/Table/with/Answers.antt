@@ -40,7 +40,7 @@ invariant_of-result c =
     let number : map.len (map.insert c.args.self.now key entry) ≡ c.objects_with-count.result = subst (λ (k : Key). map.len (map.insert c.args.self.now k entry) ≡ c.objects_with-count.result) (ap key_of c.names-3.ensures) (c.objects_with-count.ensures entry) in
     let totals : total_of (map.entries (map.insert c.args.self.now key entry)) ≡ total_of new = ap total_of rows in
     let counts : map.len (map.insert c.args.self.now key entry) ≡ length new = len-entries (map.insert c.args.self.now key entry) ∙ ap length rows in
-    let size : length c.bytes.result.now ≡ size_of entry = ap length c.bytes.ensures in
+    let size : c.len.result ≡ size_of entry = c.len.ensures in
     let room = c.requires.files.all_bytes in
     let few = c.requires.files.objects in
     record { sorted = made.whole.sorted; summed = omega arith; counted = omega arith; fits = omega arith; few = omega arith }
