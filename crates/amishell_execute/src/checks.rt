@@ -109,7 +109,7 @@ impl<'a> Checks<'a> {
         let alloc = rt.alloc();
         let bytes = bytes_at(alloc, world, name)?;
         let aliases = &shell.settings().aliases;
-        let mut found = check(alloc, world.dialect(), aliases, frame.further(), bytes)?;
+        let mut found = check(alloc, world.dialect(), aliases, frame.further(), &bytes)?;
         if found.is_empty() {
             return Ok(());
         }
