@@ -23,3 +23,4 @@ pub mod NamedLemmas
 pub mod ConcatLemmas
 pub mod CutLemmas
 pub mod StartLemmas
+pub mod WithinLemmas
