@@ -198,17 +198,16 @@ impl Account {
 fn is_in_any(alloc: Global, bytes: &FileBytes, files: &[FileBytes]) -> Result<bool, NoMemory>
     ensures { IfOk result (λ is. is ≡ list_any (is_substring bytes.now) files.now) }
 {
-    let Some((file, files)) = files.split_first() else {
-        return Ok(false);
-    };
-    if is_part(alloc, bytes, file)? {
-        return Ok(true);
+    for file in files {
+        if is_part(alloc, bytes, file)? {
+            return Ok(true);
+        }
     }
-    is_in_any(alloc, bytes, files)
+    Ok(false)
 }
 
 /// The second content has the first one in it. A shorter one is not looked at.
-#[tactic(auto, using(crate::proofs::PartLemmas::longer_is_no_part))]
+#[tactic(auto, using(crate::proofs::WithinLemmas::longer_is_no_part))]
 pub fn is_part(alloc: Global, bytes: &FileBytes, all: &FileBytes) -> Result<bool, NoMemory>
     ensures { IfOk result (λ is. is ≡ is_substring bytes.now all.now) }
 {

@@ -233,10 +233,11 @@ fn is_private<R: Files>(rt: &R, path: &str) -> bool {
 fn is_moved_away(draft: &Draft<'_>, account: &Account) -> Result<bool, NoMemory>
     ensures { IfOk result (λ is. is ≡ is_moved_away draft.now.here.now (bytes_of draft.now.entry.now) account.now.bytes.items) }
 {
-    match draft.here {
-        Here::File { bytes, .. } if !is_part_of(account.alloc, bytes, draft.entry)? => {
-            account.is_in_unwritten(bytes)
-        }
-        _ => Ok(false),
+    let Here::File { bytes, .. } = draft.here else {
+        return Ok(false);
+    };
+    if is_part_of(account.alloc, bytes, draft.entry)? {
+        return Ok(false);
     }
+    account.is_in_unwritten(bytes)
 }
