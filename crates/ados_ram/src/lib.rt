@@ -28,7 +28,9 @@ pub use file_bytes::FileBytes;
 pub use file_units::{Block, Piece};
 pub use files::Ram;
 pub use in_use::Busy;
-pub use laws::{contents_in_order, limits_hold, objects_keep_their_names, others_stay, renames_move};
+pub use laws::{
+    contents_in_order, limits_hold, objects_keep_their_names, others_stay, renames_move,
+};
 pub use limits::Limits;
 pub use places::{Place, any_same, push_places};
 pub use refusals::list_refusal;

@@ -27,7 +27,13 @@ impl Ram {
     /// place; 212 (wrong type of object) for a directory, 202 (object in use) for an open output, 223 (write protected)
     /// without bit w; 221 (disk full) for a file with more bytes than the limits allow, for more bytes in all, or for more
     /// objects.
-    pub fn write(&self, limits: Limits, busy: &Busy, place: &Place, bytes: &[u8]) -> Result<Ram, Stop>
+    pub fn write(
+        &self,
+        limits: Limits,
+        busy: &Busy,
+        place: &Place,
+        bytes: &[u8],
+    ) -> Result<Ram, Stop>
         ensures ok { IfOk result (λ new. new ≡ write_of self.now (key_of place.now) (last_name place.now) bytes.now) }
         ensures fault { Answers result (write_fault limits (is_output busy.now (key_of place.now)) self.now (key_of place.now) (last_name place.now) bytes.now) }
     {
@@ -74,12 +80,24 @@ impl Ram {
     ///
     /// 204 (directory not found), 212 (wrong type of object), 202 (object in use) and 223 (write protected), each when
     /// `write` gives it; 221 (disk full) when `write` gives it for the bytes that the file would then hold.
-    pub fn append(&self, limits: Limits, busy: &Busy, place: &Place, bytes: &[u8]) -> Result<Ram, Stop>
+    pub fn append(
+        &self,
+        limits: Limits,
+        busy: &Busy,
+        place: &Place,
+        bytes: &[u8],
+    ) -> Result<Ram, Stop>
         ensures ok { IfOk result (λ new. new ≡ append_of self.now (key_of place.now) (last_name place.now) bytes.now) }
         ensures fault { Answers result (append_fault limits (is_output busy.now (key_of place.now)) self.now (key_of place.now) (last_name place.now) bytes.now) }
     {
         let kept = entry_bytes(self.table.find(place.names()));
-        self.put(limits, busy, place, &NewBytes::new(kept, bytes), Bits::FRESH)
+        self.put(
+            limits,
+            busy,
+            place,
+            &NewBytes::new(kept, bytes),
+            Bits::FRESH,
+        )
     }
 
     /// Appends bytes to an output that is open, whatever its bits have become. Its bit a is cleared by one byte or more;

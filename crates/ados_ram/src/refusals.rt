@@ -78,12 +78,7 @@ pub fn is_put(entry: Option<&Entry>, bytes: &[u8]) -> bool
 }
 
 /// Why bytes are not appended to an open output.
-pub fn put_refusal(
-    limits: Limits,
-    table: &Table,
-    names: &[Name],
-    bytes: &[u8],
-) -> Option<Result2>
+pub fn put_refusal(limits: Limits, table: &Table, names: &[Name], bytes: &[u8]) -> Option<Result2>
     ensures { (name : List ℕ) → result ≡ put_open_fault limits table.now (key_of names.now) name bytes.now }
 {
     let entry = table.find(names);

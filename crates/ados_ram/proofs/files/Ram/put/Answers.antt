@@ -15,11 +15,11 @@ with_bytes-requires-clause-files c =
     let key = key_of c.args.place.now in
     let name = last_name c.args.place.now in
     let bytes = c.args.bytes.now in
-    let open = c.is_output-open.result in
-    let free = free-write c.args.limits open m c.args.place.now name bytes c.names-3.ensures (c.write_refusal.ensures name) c.in-None.is in
+    let is_open = c.is_output-open.result in
+    let free = free-write c.args.limits is_open m c.args.place.now name bytes c.names-3.ensures (c.write_refusal.ensures name) c.in-None.is in
     let files : AreFiles (write_as_of m key name bytes c.args.bits) = record {
-      tree = written_files c.args.limits open key name bytes c.args.bits c.self.invariant.tree free;
-      within = written-within open key name bytes c.args.bits (up-large c.args.limits) c.self.invariant.within free;
+      tree = written_files c.args.limits is_open key name bytes c.args.bits c.self.invariant.tree free;
+      within = written-within is_open key name bytes c.args.bits (up-large c.args.limits) c.self.invariant.within free;
       named = write-as-named m c.args.place.now bytes c.args.bits c.self.invariant.named;
     } in
     subst (λ (m : Files). AreFiles (write_as_of m key name bytes c.args.bits)) c.self.view_is files
