@@ -35,7 +35,7 @@ pub fn read_checked<R: AllocGlobal + Files + Eprint>(
     options: &Options<'_>,
 ) -> Result<Vec<u8>, Fault> {
     let alloc = rt.alloc();
-    let mut script = match read_script(rt, options.script) {
+    let mut script = match read_script(rt, options.mirror.limits, options.script) {
         Ok(script) => script,
         Err(fault) => return Err(unread_script(rt, fault)),
     };
@@ -109,7 +109,7 @@ impl<'a> Checks<'a> {
         let alloc = rt.alloc();
         let bytes = bytes_at(alloc, world, name)?;
         let aliases = &shell.settings().aliases;
-        let mut found = check(alloc, world.dialect(), aliases, frame.further(), bytes)?;
+        let mut found = check(alloc, world.dialect(), aliases, frame.further(), &bytes)?;
         if found.is_empty() {
             return Ok(());
         }
@@ -167,11 +167,12 @@ fn prints(alloc: Global, world: &World, name: &str) -> Result<bool, NoMemory> {
 }
 
 // The bytes of the file at a full path; none if it is gone.
-fn bytes_at<'w>(alloc: Global, world: &'w World, path: &Text) -> Result<&'w [u8], NoMemory> {
-    Ok(match world.files().look(&place_at(alloc, path)?) {
-        Some(entry) => entry.bytes(),
-        None => &[],
-    })
+fn bytes_at(alloc: Global, world: &World, path: &Text) -> Result<Vec<u8>, NoMemory> {
+    let place = place_at(alloc, path)?;
+    match world.files().look(&place).and_then(|entry| entry.bytes()) {
+        Some(bytes) => bytes.to_vec(alloc),
+        None => Ok(Vec::new(alloc)),
+    }
 }
 
 // The place of a full path: the names after the colon, which slashes separate.

@@ -157,7 +157,7 @@ fn run_script<
 ) -> Result<Status, Fault>
     requires agrees { Agrees world.old [] }
 {
-    let mut plan = Plan::new(rt.alloc(), world.files())?;
+    let mut plan = Plan::new(rt.alloc(), options.mirror.limits, world.files())?;
     let script = add_files(rt, options, world, &mut plan)?;
     let lines = lines_for(rt, options, share.as_ref(), &plan, &script)?;
     let shared = share.as_ref().map(|share| share.place());
@@ -222,7 +222,7 @@ fn add_files<R: AllocGlobal + Files + Eprint + Clone + Drop>(
         report(rt, line);
     }
     let bytes = read_checked(rt, options)?;
-    Ok(bring_script(rt, world.files(), options.script, bytes, plan)?)
+    Ok(bring_script(rt, world.files(), options.script, &bytes, plan)?)
 }
 
 // Tells which files are gone.
