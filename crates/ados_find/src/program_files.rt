@@ -5,19 +5,20 @@ ghost use Rattle.ados_find.specs.Search.{file_kind};
 ghost use Rattle.ados_resident.specs.Programs.{recognized_program};
 
 use crate::search::{Found, ProgramFile};
+use crate::shared::Shared;
 use ados_ram::{Entry, FileBytes, Place};
-use ados_resident::{Hosts, MARK, Program};
+use ados_resident::{MARK, Program};
 use ados_text::{NoMemory, Result2};
 use std::alloc::Global;
 
 /// What a word stands for that leads to this file.
 pub(crate) fn file_as(
     alloc: Global,
-    hosts: &Hosts,
+    shared: &Shared,
     place: &Place,
     entry: &Entry,
 ) -> Result<Found, NoMemory>
-    ensures { IfOk result (λ found. found ≡ file_kind hosts.now place.now entry.now) }
+    ensures { IfOk result (λ found. found ≡ file_kind shared.now place.now entry.now) }
 {
     if entry.bits.script {
         return Ok(Found::Script(place.copy()?));
@@ -25,7 +26,7 @@ pub(crate) fn file_as(
     if !entry.bits.execute {
         return Ok(Found::NotExecutable(Result2::NOT_EXECUTABLE));
     }
-    match entry_program(alloc, hosts, entry)? {
+    match entry_program(alloc, shared, entry)? {
         Some(program) => Ok(Found::File(ProgramFile {
             place: place.copy()?,
             program,
@@ -38,28 +39,28 @@ pub(crate) fn file_as(
 /// they are.
 pub fn program_of(
     alloc: Global,
-    hosts: &Hosts,
+    shared: &Shared,
     bytes: &FileBytes,
 ) -> Result<Option<Program>, NoMemory>
-    ensures { IfOk result (λ program. program ≡ recognized_program hosts.now bytes.now) }
+    ensures { IfOk result (λ program. program ≡ recognized_program shared.now.dialect shared.now.hosts bytes.now) }
 {
     if !bytes.starts_with(&MARK) {
         return Ok(None);
     }
     let row = bytes.to_vec(alloc)?;
-    Program::of_file(hosts, &row)
+    Program::of_file(shared.dialect, &shared.hosts, &row)
 }
 
 /// The program whose file is an object, if it is that of one.
 pub fn entry_program(
     alloc: Global,
-    hosts: &Hosts,
+    shared: &Shared,
     entry: &Entry,
 ) -> Result<Option<Program>, NoMemory>
-    ensures { IfOk result (λ program. program ≡ recognized_program hosts.now (bytes_of entry.now)) }
+    ensures { IfOk result (λ program. program ≡ recognized_program shared.now.dialect shared.now.hosts (bytes_of entry.now)) }
 {
     match entry.bytes() {
         None => Ok(None),
-        Some(bytes) => program_of(alloc, hosts, bytes),
+        Some(bytes) => program_of(alloc, shared, bytes),
     }
 }
