@@ -1,4 +1,4 @@
-//! The check of each script before its first line is taken: one with a line that must not be run as it is does not run.
+//! The check of each script when it begins: one with a line that must not be run as it is does not run.
 ghost use Rattle.std.specs.Prelude.{◌≡◌, None, IfErr};
 ghost use Rattle.amishell_execute.specs.Playing.{drive_fault_of};
 
@@ -6,7 +6,6 @@ use crate::faults::{Fault, report, unread_script};
 use crate::request::Options;
 use ados_check::{Finding, check, mark, mark_printed, strike};
 use ados_flow::{Frame, FrameKind};
-use ados_launch::Next;
 use ados_ram::Place;
 use ados_shell::Shell;
 use ados_text::{Name, NoMemory, Text, lines_of};
@@ -72,23 +71,25 @@ impl<'a> Checks<'a> {
         })
     }
 
-    /// Before an event: if a shell is to take the first line of a script, all lines of that script are checked, with its arguments
-    /// in them.
+    /// After an event at which a frame began in a shell: if it is a script, all its lines are checked, with its arguments in them.
     ///
     /// `NotRun` if one of them must not be run as it is.
-    pub fn attend<R: AllocGlobal + Eprint>(
+    pub fn check_begun<R: AllocGlobal + Eprint>(
         &mut self,
         rt: &R,
         world: &World,
-        next: Next,
+        number: u8,
     ) -> Result<(), Fault>
         ensures { IfErr result (λ why. drive_fault_of why ≡ None) }
     {
         if self.is_lenient {
             return Ok(());
         }
-        match begun_script(world, next) {
-            Some((shell, frame)) => self.check_frame(rt, world, shell, frame),
+        let Some(shell) = world.shell(number) else {
+            return Ok(());
+        };
+        match shell.frames().last() {
+            Some(frame) => self.check_frame(rt, world, shell, frame),
             None => Ok(()),
         }
     }
@@ -140,19 +141,6 @@ impl<'a> Checks<'a> {
             return self.file;
         }
         std::str::from_utf8(name.as_bytes()).unwrap_or("")
-    }
-}
-
-// The script whose first line is taken next, and its shell.
-fn begun_script(world: &World, next: Next) -> Option<(&Shell, &Frame)> {
-    let Next::Turn(number) = next else {
-        return None;
-    };
-    let shell = world.shell(number)?;
-    let frame = shell.frames().last()?;
-    match frame.script_line() {
-        Some((_, 0)) => Some((shell, frame)),
-        _ => None,
     }
 }
 
