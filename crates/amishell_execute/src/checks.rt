@@ -1,4 +1,4 @@
-//! The check of each script when it begins: one with a line that must not be run as it is does not run.
+//! The check of each script before its first line is taken: one with a line that must not be run as it is does not run.
 ghost use Rattle.std.specs.Prelude.{◌≡◌, None, IfErr};
 ghost use Rattle.amishell_execute.specs.Playing.{drive_fault_of};
 
@@ -6,6 +6,7 @@ use crate::faults::{Fault, report, unread_script};
 use crate::request::Options;
 use ados_check::{Finding, check, mark, mark_printed, strike};
 use ados_flow::{Frame, FrameKind};
+use ados_launch::Next;
 use ados_ram::Place;
 use ados_shell::Shell;
 use ados_text::{Name, NoMemory, Text, lines_of};
@@ -25,6 +26,8 @@ pub struct Checks<'a> {
     path: Text,
     // The full paths of the scripts of which a harmless problem was reported.
     reported: Vec<Text>,
+    // The shells in which a frame began, and which had no turn since.
+    begun: Vec<u8>,
 }
 
 /// The bytes of the script of the command line as it is brought in. Where Echo or Ask prints a byte above 127 it has `_`, which no
@@ -68,28 +71,41 @@ impl<'a> Checks<'a> {
             file: options.script,
             path: script.path(alloc)?,
             reported: Vec::new(alloc),
+            begun: Vec::new(alloc),
         })
     }
 
-    /// After an event at which a frame began in a shell: if it is a script, all its lines are checked, with its arguments in them.
+    /// A frame began in this shell.
+    pub fn add_begun(&mut self, number: u8) -> Result<(), NoMemory> {
+        if !self.is_lenient {
+            self.begun.push(number)?;
+        }
+        Ok(())
+    }
+
+    /// A frame began of which no line was taken yet.
+    pub fn are_due(&self) -> bool {
+        !self.begun.is_empty()
+    }
+
+    /// Before an event, while checks are due: if a shell is to take the first line of a script, all lines of that script are checked,
+    /// with its arguments in them.
     ///
     /// `NotRun` if one of them must not be run as it is.
-    pub fn check_begun<R: AllocGlobal + Eprint>(
+    pub fn attend<R: AllocGlobal + Eprint>(
         &mut self,
         rt: &R,
         world: &World,
-        number: u8,
+        next: Next,
     ) -> Result<(), Fault>
         ensures { IfErr result (λ why. drive_fault_of why ≡ None) }
     {
-        if self.is_lenient {
-            return Ok(());
-        }
-        let Some(shell) = world.shell(number) else {
+        let Next::Turn(number) = next else {
             return Ok(());
         };
-        match shell.frames().last() {
-            Some(frame) => self.check_frame(rt, world, shell, frame),
+        self.begun.retain(|begun| *begun != number);
+        match begun_script(world, number) {
+            Some((shell, frame)) => self.check_frame(rt, world, shell, frame),
             None => Ok(()),
         }
     }
@@ -141,6 +157,16 @@ impl<'a> Checks<'a> {
             return self.file;
         }
         std::str::from_utf8(name.as_bytes()).unwrap_or("")
+    }
+}
+
+// The script of a shell whose first line is taken next, and the shell.
+fn begun_script(world: &World, number: u8) -> Option<(&Shell, &Frame)> {
+    let shell = world.shell(number)?;
+    let frame = shell.frames().last()?;
+    match frame.script_line() {
+        Some((_, 0)) => Some((shell, frame)),
+        _ => None,
     }
 }
 

@@ -174,8 +174,8 @@ impl<R: AllocGlobal + Files + Eprint + Processes + Clone + Drop + Clock, I: Read
         Ok(session.finish(world)?)
     }
 
-    // Follows the shell that had the last event: the scripts that ended are told, then a script that began is checked, and once
-    // shell 1 has ended it is told which others run.
+    // Follows the shell that had the last event: the scripts that ended are told, what began is to be checked, and once shell 1 has
+    // ended it is told which others run.
     fn follow(
         &mut self,
         world: &World,
@@ -188,13 +188,13 @@ impl<R: AllocGlobal + Files + Eprint + Processes + Clone + Drop + Clock, I: Read
     {
         self.teller.tell_ends(self.rt, world, trail, session.reports())?;
         match trail.follow(world)? {
-            Change::Begun(number) => self.checks.check_begun(self.rt, world, number),
+            Change::Begun(number) => Ok(self.checks.add_begun(number)?),
             Change::Ended(1) => Ok(self.teller.tell_waiting(self.rt, world, trail)?),
             Change::Same | Change::Ended(_) => Ok(()),
         }
     }
 
-    // Attends to the time, and to the shared folder, if there is one.
+    // Attends to the time, to a script that begins, and to the shared folder, if there is one.
     #[tactic(auto, using(crate::proofs::Pairs::lines_stay))]
     fn attend(
         &mut self,
@@ -216,6 +216,11 @@ impl<R: AllocGlobal + Files + Eprint + Processes + Clone + Drop + Clock, I: Read
     {
         if let Some(deadline) = &self.deadline {
             deadline.check(self.rt)?;
+        }
+        if self.checks.are_due()
+            && let Some(next) = session.next(world)
+        {
+            self.checks.attend(self.rt, world, next)?;
         }
         let Some(share) = share else {
             return Ok(());
