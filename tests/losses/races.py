@@ -5,7 +5,7 @@ from typing import Callable
 from rooms import FOLDER, filled
 
 LINE = "a line of another program"
-SHARED = ["--share", "f"]
+SHARED = ["--core", "--share", "f"]
 
 
 @dataclass
@@ -19,7 +19,7 @@ class Race:
     judge: Callable
     most: int = 0
     named: str = ""
-    options: list = field(default_factory=lambda: ["--share", "f"])
+    options: list = field(default_factory=lambda: ["--core", "--share", "f"])
     prepare: str = "true"
     is_after_start: bool = True
 

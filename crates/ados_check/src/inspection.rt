@@ -232,7 +232,13 @@ impl Look<'_> {
                 None => Ok(()),
             };
         }
-        match jump_problem(self.alloc, &self.script, number, flow, &args)? {
+        match jump_problem(
+            self.alloc,
+            self.dialect,
+            (&self.script, number),
+            flow,
+            &args,
+        )? {
             Some(problem) if !self.is_open() => push_other(found, number, problem),
             Some(_) | None => Ok(()),
         }

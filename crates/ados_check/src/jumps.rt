@@ -10,34 +10,37 @@ ghost use Rattle.ados_check.specs.Jumps.{leads_nowhere};
 ghost use Rattle.ados_check.specs.Signs.{told_sign};
 
 use crate::findings::Problem;
+use ados_flow::{label_sought, skip_from};
 use ados_readargs::Args;
-use ados_resident::FlowCommand;
+use ados_resident::{Dialect, FlowCommand};
 use ados_script::{Jump, Script};
 use ados_text::{NoMemory, Text};
 use std::alloc::Global;
 
-/// The problem of a command in a line of a script with these arguments, if it is a jump that leads nowhere.
+/// The problem of a command with these arguments at a line of a script, which has its number beside it, if it is a jump that
+/// leads nowhere in a world of a dialect.
 pub fn jump_problem(
     alloc: Global,
-    script: &Script,
-    line: usize,
+    dialect: Dialect,
+    at: (&Script, usize),
     command: FlowCommand,
     args: &Args,
 ) -> Result<Option<Problem>, NoMemory>
     ensures told { IfOk result (λ found. IfSome found (λ problem. told_sign problem ≡ None)) }
-    ensures nowhere { IfOk result (λ found. is_some found ≡ leads_nowhere command script.now line args.now) }
+    ensures nowhere { IfOk result (λ found. is_some found ≡ leads_nowhere dialect command at.0.now at.1 args.now) }
     // Whenever the line is taken, in whatever shell, the script ends there with 20 and 205, and nothing else is done.
-    ensures ends { IfOk result (λ found. is_some found ≡ true → (shared : SharedState) (view : View)
-        → row_of command shared (Some (record { lines = script.now; line = line })) view args.now ≡ Quits (fail_codes OBJECT_NOT_FOUND)) }
+    ensures ends { IfOk result (λ found. is_some found ≡ true → (shared : SharedState) (view : View) → shared.dialect ≡ dialect
+        → row_of command shared (Some (record { lines = at.0.now; line = at.1 })) view args.now ≡ Quits (fail_codes OBJECT_NOT_FOUND)) }
 {
+    let (script, line) = at;
     match command {
         FlowCommand::Else => Ok(match script.after_else(line) {
             Jump::None => Some(Problem::ElseWithoutEndIf),
             Jump::To(_) | Jump::EndSkip(_) => None,
         }),
-        FlowCommand::Skip => match script.skip(line, args.text(0), args.has_switch(1)) {
+        FlowCommand::Skip => match skip_from(alloc, dialect, script, line, args)? {
             Jump::None => {
-                let label = args.made_text(alloc, 0)?;
+                let label = label_sought(alloc, dialect, args)?;
                 Ok(Some(Problem::NoLab(label.unwrap_or(Text::new(alloc)))))
             }
             Jump::To(_) | Jump::EndSkip(_) => Ok(None),

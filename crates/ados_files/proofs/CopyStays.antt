@@ -15,7 +15,7 @@ use Rattle.ados_ram.specs.FileOperations.{comment_fault, protect_fault, make_dir
 use Rattle.ados_ram.proofs.StayLemmas.{comment-stays, insert-stays, place-outside, protect-stays}
 use Rattle.ados_find.specs.declared.codes.Codes.{Codes}
 use Rattle.ados_find.specs.Done.{Done, fresh_work, refused_or, act_on_each}
-use Rattle.ados_find.specs.Shared.{SharedState}
+use Rattle.ados_find.specs.Shared.{SharedState, limits_of}
 use Rattle.ados_find.specs.Views.{View}
 use Rattle.ados_find.specs.Effects.{codes_effect, if_found, if_given}
 use Rattle.ados_find.specs.Paths.{place_of}
@@ -40,7 +40,7 @@ apart to place key below out = subst (λ (p : Place). is_same_key (key_of p) key
 
 made-stays : (to : Place) (done : Done) (place : Place) → IsBelow to place → Stay (is_at_or_below (key_of to)) done.shared (make_one done place).shared
 made-stays to done place below =
-    kept-refused (stay-kept (is_at_or_below (key_of to))) (make_dir_fault done.shared.files (key_of place) (last_name place)) done _
+    kept-refused (stay-kept (is_at_or_below (key_of to))) (make_dir_fault (limits_of done.shared.dialect) done.shared.files (key_of place) (last_name place)) done _
     (λ key out. insert-stays done.shared.files (key_of place) _ key (apart to place key below out))
 
 at-stays : (to : Place) (done : Done) (place : Place) (there : Option Entry) → IsBelow to place → Stay (is_at_or_below (key_of to)) done.shared (ensure_directory done place there).shared
@@ -82,7 +82,7 @@ copied-stays manner files target e key out =
 
 written-stays : (view : View) (manner : Manner) (source to names : Place) (e : Entry) (done : Done) → Stay (is_at_or_below (key_of to)) done.shared (copy_written view manner source (to ++ names) e done).shared
 written-stays view manner source to names e done =
-    kept-refused (stay-kept (is_at_or_below (key_of to))) (copied_fault view.busy done.shared.files (to ++ names) e) done _
+    kept-refused (stay-kept (is_at_or_below (key_of to))) (copied_fault (limits_of done.shared.dialect) view.busy done.shared.files (to ++ names) e) done _
     (λ key out. copied-stays manner done.shared.files (to ++ names) e key (place-outside to names key out))
 
 entry-stays : (view : View) (manner : Manner) (to : Place) (done : Done) (job : Job) (there : Option Entry) → Stay (is_at_or_below (key_of to)) done.shared (copy_entry view manner to done job there).shared

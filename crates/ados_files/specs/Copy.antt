@@ -13,10 +13,11 @@ use Rattle.ados_ram.specs.Files.{Files, is_some_file, is_some_directory}
 use Rattle.ados_ram.specs.InUse.{InUse, is_output}
 use Rattle.ados_ram.specs.FileOperations.{comment_fault, comment_of, protect_fault, protect_of, read_fault, write_as_of, write_fault}
 use Rattle.ados_ram.specs.Written.{full_path}
+use Rattle.ados_ram.specs.declared.limits.Limits.{Limits}
 use Rattle.ados_ram.specs.declared.entries.Bits.{Bits}
 use Rattle.ados_ram.specs.declared.entries.Entry.{Entry}
 use Rattle.ados_find.specs.Codes.{fail_codes}
-use Rattle.ados_find.specs.Shared.{SharedState, with_files}
+use Rattle.ados_find.specs.Shared.{SharedState, limits_of, with_files}
 use Rattle.ados_find.specs.Views.{View}
 use Rattle.ados_find.specs.Effects.{Effect, codes_effect, if_found, if_given}
 use Rattle.ados_find.specs.Done.{Done, fresh_work, refused_or, unless_stopped, act_on_each, end_effect}
@@ -93,12 +94,12 @@ abbrev pub copied_files : Manner → Files → Place → Entry → Files
 copied_files manner files target e =
     cloned_files manner.bits (noted_files manner.comment (written_files manner files target e) target e) target e
 
-abbrev pub copied_fault : InUse → Files → Place → Entry → Option Result2
-copied_fault busy files target e = write_fault (is_output busy (key_of target)) files (key_of target) (last_name target) (bytes_of e)
+abbrev pub copied_fault : Limits → InUse → Files → Place → Entry → Option Result2
+copied_fault limits busy files target e = write_fault limits (is_output busy (key_of target)) files (key_of target) (last_name target) (bytes_of e)
 
 abbrev pub copy_written : View → Manner → Place → Place → Entry → Done → Done
 copy_written view manner source target e done =
-    refused_or (copied_fault view.busy done.shared.files target e) done
+    refused_or (copied_fault (limits_of done.shared.dialect) view.busy done.shared.files target e) done
     (record done {
       shared = with_files done.shared (copied_files manner done.shared.files target e);
       output = say manner.quiet done.output (copied_line done.shared.files source);

@@ -6,7 +6,7 @@ use Rattle.ados_readargs.specs.Args.{option_texts, option_text}
 use Rattle.ados_ram.specs.Place.{Place, key_of, last_name}
 use Rattle.ados_ram.specs.InUse.{is_output}
 use Rattle.ados_ram.specs.FileOperations.{write_of, write_fault}
-use Rattle.ados_find.specs.Shared.{SharedState, with_files}
+use Rattle.ados_find.specs.Shared.{SharedState, limits_of, with_files}
 use Rattle.ados_find.specs.Views.{View}
 use Rattle.ados_find.specs.Effects.{Effect, codes_effect, if_given}
 use Rattle.ados_find.specs.Done.{Done, fresh_work, refused_or, unless_stopped, act_on_each, end_effect}
@@ -17,7 +17,7 @@ use Rattle.ados_files.specs.declared.type_files.Printing.TheVariants.{Plain}
 -- bytes are written to a file
 abbrev pub write_one : View → Bytes → Done → Place → Done
 write_one view bytes done place =
-    refused_or (write_fault (is_output view.busy (key_of place)) done.shared.files (key_of place) (last_name place) bytes) done
+    refused_or (write_fault (limits_of done.shared.dialect) (is_output view.busy (key_of place)) done.shared.files (key_of place) (last_name place) bytes) done
     (record done { shared = with_files done.shared (write_of done.shared.files (key_of place) (last_name place) bytes) })
 
 -- what was read is not printed

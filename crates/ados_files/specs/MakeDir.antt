@@ -7,7 +7,7 @@ use Rattle.ados_readargs.specs.Args.{option_texts}
 use Rattle.ados_ram.specs.Place.{Place, key_of, last_name}
 use Rattle.ados_ram.specs.FileOperations.{make_dir_of, make_dir_fault}
 use Rattle.ados_find.specs.Codes.{fail_codes}
-use Rattle.ados_find.specs.Shared.{SharedState, with_files}
+use Rattle.ados_find.specs.Shared.{SharedState, limits_of, with_files}
 use Rattle.ados_find.specs.Views.{View}
 use Rattle.ados_find.specs.Effects.{Effect, codes_effect}
 use Rattle.ados_find.specs.Done.{Done, fresh_work, refused_or, act_on_each, end_effect}
@@ -16,7 +16,7 @@ use Rattle.ados_files.specs.Acts.{at_path}
 -- one directory is created
 abbrev pub make_one : Done → Place → Done
 make_one done place =
-    refused_or (make_dir_fault done.shared.files (key_of place) (last_name place)) done
+    refused_or (make_dir_fault (limits_of done.shared.dialect) done.shared.files (key_of place) (last_name place)) done
     (record done { shared = with_files done.shared (make_dir_of done.shared.files (key_of place) (last_name place)) })
 
 -- without a name an argument is missing

@@ -6,8 +6,8 @@ ghost use Rattle.ados_ram.specs.Files.{Files};
 ghost use Rattle.ados_text.specs.Stop.{Answers};
 ghost use Rattle.ados_text.specs.declared.codes.Result2.{Result2};
 ghost use Rattle.ados_find.specs.Done.{done_of, act_on_each};
-ghost use Rattle.ados_find.specs.Shared.{version};
-ghost use Rattle.ados_files.specs.Copy.{middle_directories, make_missing, copy_fault, files_unless, new_bits, noted_files, cloned_files, copied_files, copied_fault, copy_written, copy_unless, copy_entry, copy_one};
+ghost use Rattle.ados_find.specs.Shared.{limits_of, version};
+ghost use Rattle.ados_files.specs.Copy.{middle_directories, make_missing, copy_fault, files_unless, new_bits, noted_files, cloned_files, copied_files, copied_fault, written_files, copy_written, copy_unless, copy_entry, copy_one};
 
 use crate::acts::go_on_saying;
 use crate::jobs::Job;
@@ -163,9 +163,8 @@ fn copy_written(
     ensures { OnOk result (done_of shared.now work.new ≡
         copy_written copying.now.view.now copying.now.manner source.now target.now entry.now (done_of shared.now work.old)) }
 {
-    let ram = &current(shared, &work.shared).ram;
-    let view = copying.view;
-    let change = copied(&view.busy, copying.manner, ram, target, entry);
+    let now = current(shared, &work.shared);
+    let change = copied(copying, now, target, entry);
     go_on_saying(
         shared,
         work,
@@ -177,19 +176,27 @@ fn copy_written(
 }
 
 // The files with a copy of an entry.
-fn copied(
-    busy: &Busy,
-    manner: Manner,
-    ram: &Ram,
-    target: &Place,
-    entry: &Entry,
-) -> Result<Ram, Stop>
-    ensures ok { IfOk result (λ new. new ≡ copied_files manner ram.now target.now entry.now) }
-    ensures fault { Answers result (copied_fault busy.now ram.now target.now entry.now) }
+fn copied(copying: &Copying, now: &Shared, target: &Place, entry: &Entry) -> Result<Ram, Stop>
+    ensures ok { IfOk result (λ new. new ≡ copied_files copying.now.manner now.now.files target.now entry.now) }
+    ensures fault { Answers result (copied_fault (limits_of now.now.dialect) copying.now.view.now.busy now.now.files target.now entry.now) }
 {
-    match ram.write_as(busy, target, entry.bytes(), new_bits(manner, entry)) {
+    match written(copying, now, target, entry) {
         Err(stop) => Err(stop),
-        Ok(written) => Ok(changed(manner, written, target, entry)?),
+        Ok(written) => Ok(changed(copying.manner, written, target, entry)?),
+    }
+}
+
+// The files with the bytes of an entry at another place too: both share them.
+fn written(copying: &Copying, now: &Shared, target: &Place, entry: &Entry) -> Result<Ram, Stop>
+    ensures ok { IfOk result (λ new. new ≡ written_files copying.now.manner now.now.files target.now entry.now) }
+    ensures fault { Answers result (copied_fault (limits_of now.now.dialect) copying.now.view.now.busy now.now.files target.now entry.now) }
+{
+    let limits = now.limits();
+    let busy = &copying.view.busy;
+    let bits = new_bits(copying.manner, entry);
+    match entry.bytes() {
+        None => now.ram.write_as(limits, busy, target, &[], bits),
+        Some(bytes) => now.ram.write_shared(limits, busy, target, bytes, bits),
     }
 }
 

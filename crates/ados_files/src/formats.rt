@@ -217,7 +217,7 @@ fn push_part(output: &mut Vec<u8>, part: Part, path: &Text, entry: &Entry) -> Re
 fn push_size(output: &mut Vec<u8>, entry: &Entry) -> Result<(), NoMemory>
     ensures { OnOk result (output.new.items ≡ output.old.items ++ decimal (size_of entry.now)) }
 {
-    let size = Text::of_number(*output.allocator(), entry.bytes().len())?;
+    let size = Text::of_number(*output.allocator(), entry.len())?;
     output.extend_from_slice(size.as_bytes())?;
     Ok(())
 }

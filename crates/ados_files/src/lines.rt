@@ -91,7 +91,7 @@ fn push_size(output: &mut Vec<u8>, body: &Body) -> Result<(), NoMemory>
     match body {
         Body::Directory => push_right(output, 7, b"Dir"),
         Body::File(bytes) => {
-            let size = Text::of_number(*output.allocator(), bytes.as_bytes().len())?;
+            let size = Text::of_number(*output.allocator(), bytes.len())?;
             push_right(output, 7, size.as_bytes())
         }
     }

@@ -29,7 +29,8 @@ impl Act<Place> for Making {
     ghost act = { λ s. make_one };
 
     fn act(&self, shared: &Shared, work: &mut Work, place: &Place) -> Result<(), NoMemory> {
-        let change = current(shared, &work.shared).ram.make_dir(place);
+        let now = current(shared, &work.shared);
+        let change = now.ram.make_dir(now.limits(), place);
         go_on(shared, work, change)
     }
 }

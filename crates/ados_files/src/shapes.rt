@@ -9,8 +9,8 @@ use ados_pattern::Pattern;
 use ados_ram::{Entry, Place, Ram};
 use ados_text::{NoMemory, Text, same_name};
 
-/// ALL shows what is below a directory down to this depth: there are no more objects.
-pub const DEEPEST: usize = 1024;
+/// ALL shows what is below a directory down to this depth: there are no more objects in any dialect.
+pub const DEEPEST: usize = 65_536;
 
 /// What List shows: the names that match a pattern, those in which a text stands, the name alone, files, directories, a
 /// line by LFORMAT; and how far below what its arguments stand for it looks.

@@ -15,7 +15,7 @@ use ados_find::{
     Act, Codes, CommandResult, Lookup, Outcome, Refusal, Shared, ShellView, Work, current, each,
     output_to,
 };
-use ados_ram::Place;
+use ados_ram::{FileBytes, Place};
 use ados_readargs::Args;
 use ados_text::{NoMemory, Result2, Text, fold};
 use std::alloc::Global;
@@ -164,12 +164,18 @@ impl<'a> Act<Place> for Typing<'a> {
     }
 }
 
-fn push_file(output: &mut Vec<u8>, printing: Printing, bytes: &[u8]) -> Result<(), NoMemory>
+fn push_file(
+    output: &mut Vec<u8>,
+    printing: Printing,
+    bytes: &FileBytes,
+) -> Result<(), NoMemory>
     ensures { OnOk result (output.new.items ≡ output.old.items ++ file_text printing bytes.now) }
 {
     match printing {
-        Printing::Plain | Printing::Numbered => output.extend_from_slice(bytes)?,
-        Printing::Hex => push_hex(output, bytes)?,
+        Printing::Plain | Printing::Numbered => bytes.push_to(output),
+        Printing::Hex => {
+            let row = bytes.to_vec(*output.allocator())?;
+            push_hex(output, &row)
+        }
     }
-    Ok(())
 }

@@ -12,7 +12,7 @@ use Rattle.ados_find.specs.declared.targets.Target.{Target}
 use Rattle.ados_find.specs.declared.targets.Target.TheVariants.{Nil, At}
 use Rattle.ados_find.specs.Codes.{error_codes}
 use Rattle.ados_find.specs.Effects.{Effect, unless_refused}
-use Rattle.ados_find.specs.Shared.{with_files}
+use Rattle.ados_find.specs.Shared.{limits_of, with_files}
 use Rattle.ados_find.specs.Targets.{target_of}
 use Rattle.ados_find.specs.Views.{View}
 
@@ -28,7 +28,7 @@ output_in fault files effect =
 -- its output is the content of the file at a place
 abbrev pub output_at : View → Effect → Place → Effect
 output_at view effect place =
-    output_in (write_fault (is_output view.busy (key_of place)) effect.shared.files (key_of place) (last_name place) effect.output)
+    output_in (write_fault (limits_of effect.shared.dialect) (is_output view.busy (key_of place)) effect.shared.files (key_of place) (last_name place) effect.output)
     (write_of effect.shared.files (key_of place) (last_name place) effect.output) effect
 
 abbrev pub output_by : View → Effect → Result Target Result2 → Effect

@@ -70,7 +70,9 @@ fn output_at(
     ensures { IfOk result (λ after. effect_of shared.now after ≡ output_at view.now (effect_of shared.now outcome) place.now) }
 {
     let old = current(shared, &outcome.shared);
-    let change = old.ram.write(&view.busy, place, outcome.output.as_bytes());
+    let limits = old.limits();
+    let bytes = outcome.output.as_bytes();
+    let change = old.ram.write(limits, &view.busy, place, bytes);
     output_in(alloc, shared, outcome, change)
 }
 

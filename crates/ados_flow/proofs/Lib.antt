@@ -2,3 +2,4 @@ pub mod GatheringLemmas
 pub mod InUseLemmas
 pub mod ShellsLemmas
 pub mod DeviceLemmas
+mod PhraseLemmas

@@ -29,8 +29,9 @@ core_template_of flow.Lab = codes "LABEL/F"
 core_template_of flow.Quit = codes "RC/N"
 core_template_of flow.Skip = codes "LABEL,BACK/S"
 
--- in Full it is the same
+-- in Full
 abbrev pub full_template_of : FlowCommand → Text
+full_template_of flow.Skip = codes "LABEL/M,BACK/S"
 full_template_of command = core_template_of command
 
 -- the text of a command's template in a dialect

@@ -1,14 +1,14 @@
-// Branches: If, Else and Skip, by which a script continues at another line.
+//! Branches: If, Else and Skip, by which a script continues at another line.
 ghost use Rattle.std.specs.Prelude.{◌≡◌, IfOk};
 ghost use Rattle.std.specs.Option.{option_copied, option_map};
 ghost use Rattle.ados_text.specs.declared.codes.TheConstants.Result2.{WRONG_TYPE};
 ghost use Rattle.ados_find.specs.Codes.{fail_codes};
 ghost use Rattle.ados_find.specs.Effects.{codes_effect};
 ghost use Rattle.ados_find.specs.Shared.{SharedState};
-ghost use Rattle.ados_readargs.specs.Args.{has_switch, option_text};
+ghost use Rattle.ados_readargs.specs.Args.{has_switch, option_texts};
 ghost use Rattle.ados_script.specs.Skips.{skip as skip_of};
 ghost use Rattle.ados_flow.specs.Actions.{Does, action_effect};
-ghost use Rattle.ados_flow.specs.Branches.{else_row, if_row, jump_action, skip_row};
+ghost use Rattle.ados_flow.specs.Branches.{else_row, if_row, jump_action, label_sought, phrase_or_none, skip_row};
 ghost use Rattle.ados_flow.specs.Frames.{script_line_of};
 
 use crate::actions::Action;
@@ -16,9 +16,16 @@ use crate::conditions::tested;
 use crate::frames::Frame;
 use ados_find::{Codes, Refusal, Shared, ShellView};
 use ados_readargs::Args;
+use ados_resident::Dialect;
 use ados_script::{Jump, Script};
-use ados_text::{NoMemory, Result2};
+use ados_text::{NoMemory, Result2, Text};
 use std::alloc::Global;
+
+/// The place of Skip's LABEL among its options.
+pub const SKIP_LABEL: usize = 0;
+
+/// The place of its BACK.
+pub const SKIP_BACK: usize = 1;
 
 /// If continues, or jumps after its Else or EndIf if its test fails. NOT inverts the test.
 ///
@@ -59,20 +66,66 @@ pub fn pass_block(alloc: Global, frame: Option<&Frame>) -> Action
 /// after an EndSkip that comes before that.
 ///
 /// 212 if the newest frame is not a script.
-pub fn skip(alloc: Global, frame: Option<&Frame>, args: &Args) -> Action
-    ensures { (shared : SharedState) → action_effect shared result ≡ skip_row shared (script_line_of (option_copied frame.entry)) args.now }
+pub fn skip(
+    alloc: Global,
+    shared: &Shared,
+    frame: Option<&Frame>,
+    args: &Args,
+) -> Result<Action, NoMemory>
+    ensures { IfOk result (λ action. action_effect shared.now action ≡ skip_row shared.now (script_line_of (option_copied frame.entry)) args.now) }
 {
     match script_line(frame) {
-        None => wrong_type(alloc),
-        Some((script, line)) => jumped(skip_from(script, line, args)),
+        None => Ok(wrong_type(alloc)),
+        Some((script, line)) => Ok(jumped(skip_from(alloc, shared.dialect, script, line, args)?)),
     }
 }
 
-// Where a Skip at a line leads.
-fn skip_from(script: &Script, line: usize, args: &Args) -> Jump
-    ensures { result ≡ skip_of script.now line (option_text args.now 0) (has_switch args.now 1) }
+/// Where a Skip with these arguments at a line of a script leads. `NoMemory` only if an allocation fails.
+pub fn skip_from(
+    alloc: Global,
+    dialect: Dialect,
+    script: &Script,
+    line: usize,
+    args: &Args,
+) -> Result<Jump, NoMemory>
+    ensures { IfOk result (λ jump. jump ≡ skip_of dialect script.now line (label_sought dialect args.now) (has_switch args.now SKIP_BACK)) }
 {
-    script.skip(line, args.text(0), args.has_switch(1))
+    let back = args.has_switch(SKIP_BACK);
+    if let Dialect::Core = dialect {
+        return Ok(script.skip(dialect, line, args.text(SKIP_LABEL), back));
+    }
+    match label_sought(alloc, dialect, args)? {
+        None => Ok(script.skip(dialect, line, None, back)),
+        Some(label) => Ok(script.skip(dialect, line, Some(label.as_bytes()), back)),
+    }
+}
+
+/// The label that Skip's arguments name, if they do. `NoMemory` only if an allocation fails.
+pub fn label_sought(alloc: Global, dialect: Dialect, args: &Args) -> Result<Option<Text>, NoMemory>
+    ensures { IfOk result (λ label. label ≡ label_sought dialect args.now) }
+{
+    match dialect {
+        Dialect::Core => args.made_text(alloc, SKIP_LABEL),
+        Dialect::Full => phrase(alloc, args),
+    }
+}
+
+// The words of the label, with one blank between two.
+#[tactic(auto, using(crate::proofs::PhraseLemmas::joined))]
+fn phrase(alloc: Global, args: &Args) -> Result<Option<Text>, NoMemory>
+    ensures { IfOk result (λ label. label ≡ phrase_or_none (option_texts args.now SKIP_LABEL)) }
+{
+    let count = args.texts_len(SKIP_LABEL);
+    if count == 0 {
+        return Ok(None);
+    }
+    let mut label = Text::new(alloc);
+    label.push_bytes(args.text_of(SKIP_LABEL, 0))?;
+    for number in 1..count {
+        label.push(b' ')?;
+        label.push_bytes(args.text_of(SKIP_LABEL, number))?;
+    }
+    Ok(Some(label))
 }
 
 // Where a command of the newest frame is, if that is a script.

@@ -113,7 +113,8 @@ pub fn call_script(
         Err(fault) => Ok(Action::answering(alloc, Codes::erred(fault))),
         Ok(bytes) => {
             let name = shared.ram.full_path(place)?;
-            call_lines(alloc, name, bytes, args, view.number)
+            let row = bytes.to_vec(alloc)?;
+            call_lines(alloc, name, &row, args, view.number)
         }
     }
 }

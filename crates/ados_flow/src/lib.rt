@@ -19,6 +19,7 @@ mod rows;
 
 pub use actions::Action;
 pub use ask::reply_of;
+pub use branches::{label_sought, skip_from};
 pub use called::Called;
 pub use code_rule::{FIRST_LIMIT, is_reached};
 pub use devices::push_devices;

@@ -68,8 +68,8 @@ fn full_template(command: FlowCommand) -> &'static str
         | FlowCommand::Execute
         | FlowCommand::If
         | FlowCommand::Lab
-        | FlowCommand::Quit
-        | FlowCommand::Skip => core_template(command),
+        | FlowCommand::Quit => core_template(command),
+        FlowCommand::Skip => "LABEL/M,BACK/S",
     }
 }
 
@@ -96,6 +96,6 @@ pub fn run(
         FlowCommand::Execute => execute(alloc, shared, view, args),
         FlowCommand::If => branch(alloc, shared, frame, view, args),
         FlowCommand::Quit => Ok(quit(args)),
-        FlowCommand::Skip => Ok(skip(alloc, frame, args)),
+        FlowCommand::Skip => skip(alloc, shared, frame, args),
     }
 }

@@ -8,7 +8,7 @@ ghost use Rattle.ados_launcher.specs.declared.calls.Call.{Call};
 ghost use Rattle.ados_launch.specs.Alone.{AgreesAfterLine};
 ghost use Rattle.ados_launch.specs.Deeds.{Does};
 ghost use Rattle.ados_launch.specs.Rounds.{asks_read_or_wait, due_place};
-ghost use Rattle.ados_launch.specs.Schedule.{first_schedule_state, next_named, scheduled_next, unless_break};
+ghost use Rattle.ados_launch.specs.Schedule.{IsInRound, first_schedule_state, next_named, scheduled_next, unless_break};
 ghost use Rattle.ados_launch.specs.Session.{moment_of};
 ghost use Rattle.ados_launch.specs.Steps.{HasTakeResult, is_write_fault, next_request};
 
@@ -19,7 +19,7 @@ use crate::events::shell_answered;
 use crate::faults::DriveFault;
 use crate::intake::Intake;
 use crate::next::Next;
-use crate::schedule::Schedule;
+use crate::schedule::{self, Schedule};
 use crate::written::write_whole;
 use crate::{Sink, Source};
 use ados_launcher::Launcher;
@@ -131,7 +131,9 @@ impl<'a> Session<'a> {
         let Some(next) = self.schedule.next(world) else {
             return Ok(false);
         };
+        show(writer, world, next);
         self.intake.take(world, launcher, reader, next)?;
+        writer.heed_ends(self.intake.draft.reports.as_slice());
         write_whole(writer, self.intake.draft.printed.as_slice())?;
         self.schedule.pass(next);
         Ok(true)
@@ -180,5 +182,17 @@ impl<'a> Session<'a> {
         ensures room { L.is_full launcher.new ≡ L.is_full launcher.old }
     {
         wait_for_open(launcher, &self.intake.children);
+    }
+}
+
+// Shows the writer what comes next, if it is no break.
+fn show<K: Sink>(writer: &mut K, world: &World, next: schedule::Next)
+    requires { IsInRound next }
+    ensures contents { K.contents writer.new ≡ K.contents writer.old }
+    ensures faults { K.faults writer.new ≡ K.faults writer.old }
+    ensures stalls { K.stalls writer.new ≡ K.stalls writer.old }
+{
+    if let schedule::Next::Due(found) = next {
+        writer.heed(world, Next::at(found.place));
     }
 }

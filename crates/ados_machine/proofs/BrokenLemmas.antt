@@ -4,6 +4,7 @@ use Rattle.std.proofs.lemmas.Bool.{cases_Bool, eq-eqb, ne_eqb}
 use Rattle.ados_text.specs.Text.{Bytes}
 use Rattle.ados_ram.specs.Files.{Files}
 use Rattle.ados_ram.specs.FileOperations.{put_open_of, put_open_fault}
+use Rattle.ados_find.specs.Shared.{limits_of}
 use Rattle.ados_ram.specs.Place.{key_of, last_name}
 use Rattle.ados_text.specs.declared.codes.Result2.{Result2}
 use Rattle.ados_find.specs.declared.codes.Codes.{Codes}
@@ -150,7 +151,7 @@ put-flag (To Nil) output answered course = refl
 put-flag (To (At place)) [] answered course = refl
 put-flag (To (At place)) (byte ∷ bytes) answered course =
     let files = course.shared.files in
-    unless-flag (put_open_fault files (key_of place) (last_name place) (byte ∷ bytes)) answered (put_open_of files (key_of place) (last_name place) (byte ∷ bytes)) course
+    unless-flag (put_open_fault (limits_of course.shared.dialect) files (key_of place) (last_name place) (byte ∷ bytes)) answered (put_open_of files (key_of place) (last_name place) (byte ∷ bytes)) course
 
 pub commands-use-up : CommandsUseUpTheFlag
 commands-use-up w k shell line effect world out items now takes accepted there =

@@ -11,6 +11,7 @@ use Rattle.ados_text.specs.Text.{Text, folded_text, is_same}
 use Rattle.ados_items.specs.declared.items.Item.{Item}
 use Rattle.ados_items.specs.declared.items.Item.TheVariants.{Word, Quoted, Equal, End, Unmatched}
 use Rattle.ados_items.specs.Items.{item_at, bytes_between}
+use Rattle.ados_resident.specs.declared.dialects.Dialect.{Dialect}
 use Rattle.ados_script.specs.declared.heads.Head.{Head}
 use Rattle.ados_script.specs.declared.heads.Head.TheVariants as head
 use Rattle.ados_script.specs.declared.jumps.Jump.TheVariants.{To, EndSkip}
@@ -91,11 +92,11 @@ kind-begins line other (End at) same = cc
 kind-begins line other (Unmatched at) same = cc
 
 -- a line at which no Skip stops
-passes : (label : Option Text) (line : Text) (a b c : Bool) → stops label line (kind_by a b c false false) ≡ false
-passes label line true b c = refl
-passes label line false true c = refl
-passes label line false false true = refl
-passes label line false false false = refl
+passes : (dialect : Dialect) (label : Option Text) (line : Text) (a b c : Bool) → stops dialect label line (kind_by a b c false false) ≡ false
+passes dialect label line true b c = refl
+passes dialect label line false true c = refl
+passes dialect label line false false true = refl
+passes dialect label line false false false = refl
 
 -- the next line, and what is below it
 record IsNextLine (lines : List Text) (i : ℕ) (line : Text) (rest : List Text) : Type 0 where
@@ -120,34 +121,34 @@ below-more lines i h =
     ap (range_with_len (i + 1)) left
 
 -- the search of a Skip at its next line
-at-line : (label : Option Text) (lines : List Text) (i : ℕ) (line : Text) (rest : List Text) (kind : Head) → IsNextLine lines i line rest → head_of line ≡ kind →
-    skip_below label lines i
-    ≡ (if stops label line kind then (if is_end_skip kind then EndSkip (i + 1 + 1) else To (i + 1 + 1)) else skip_below label lines (i + 1))
-at-line label lines i line rest kind next is =
+at-line : (dialect : Dialect) (label : Option Text) (lines : List Text) (i : ℕ) (line : Text) (rest : List Text) (kind : Head) → IsNextLine lines i line rest → head_of line ≡ kind →
+    skip_below dialect label lines i
+    ≡ (if stops dialect label line kind then (if is_end_skip kind then EndSkip (i + 1 + 1) else To (i + 1 + 1)) else skip_below dialect label lines (i + 1))
+at-line dialect label lines i line rest kind next is =
     rw (below-more lines i next.within, next.here, is)
-    (elim (cases_Bool (stops label line kind)) [
+    (elim (cases_Bool (stops dialect label line kind)) [
       | inl stop ↦ rw (stop, next.here, is) refl
       | inr on ↦ rw on refl
     ])
 
-skip-is : (label : Option Text) (lines : List Text) (i : ℕ) (rest : List Text) → drop i lines ≡ rest → skip_below label lines i ≡ past_label label i rest
-skip-is label lines i [] e =
+skip-is : (dialect : Dialect) (label : Option Text) (lines : List Text) (i : ℕ) (rest : List Text) → drop i lines ≡ rest → skip_below dialect label lines i ≡ past_label dialect label i rest
+skip-is dialect label lines i [] e =
     let none : length lines - i ≡ 0 = omega (arith, length-drop i lines, ap length e) in
     rw none refl
-skip-is label lines i (line ∷ rest) e =
+skip-is dialect label lines i (line ∷ rest) e =
     let next = next-line lines i line rest e in
-    let on = skip-is label lines (i + 1) rest next.after in
+    let on = skip-is dialect label lines (i + 1) rest next.after in
     elim (cases_Bool (begins_with line (codes "EndSkip"))) [
-      | inl stop ↦ rw (at-line label lines i line rest head.EndSkip next (kind-begins line (codes "EndSkip") (item_at true line 0) stop), stop) refl
+      | inl stop ↦ rw (at-line dialect label lines i line rest head.EndSkip next (kind-begins line (codes "EndSkip") (item_at true line 0) stop), stop) refl
       | inr no_stop ↦ rw no_stop
           (elim (cases_Bool (begins_with line (codes "Lab"))) [
-            | inl lab ↦ rw (at-line label lines i line rest head.Lab next (kind-begins line (codes "Lab") (item_at true line 0) lab), lab, on) refl
+            | inl lab ↦ rw (at-line dialect label lines i line rest head.Lab next (kind-begins line (codes "Lab") (item_at true line 0) lab), lab, on) refl
             | inr no_lab ↦ rw no_lab
-                (at-line label lines i line rest (kind_by (begins_with line (codes "If")) (begins_with line (codes "Else")) (begins_with line (codes "EndIf")) false false) next (kind-of-line line ∙ rw (no_stop, no_lab) refl)
-                ∙ rw (passes label line (begins_with line (codes "If")) (begins_with line (codes "Else")) (begins_with line (codes "EndIf"))) on)
+                (at-line dialect label lines i line rest (kind_by (begins_with line (codes "If")) (begins_with line (codes "Else")) (begins_with line (codes "EndIf")) false false) next (kind-of-line line ∙ rw (no_stop, no_lab) refl)
+                ∙ rw (passes dialect label line (begins_with line (codes "If")) (begins_with line (codes "Else")) (begins_with line (codes "EndIf"))) on)
           ])
     ]
 
 pub skips-lead : SkipsLeadPastTheirLabel
-skips-lead lines i label true = skip-is label lines 0 lines refl
-skips-lead lines i label false = skip-is label lines i (drop i lines) refl
+skips-lead dialect lines i label true = skip-is dialect label lines 0 lines refl
+skips-lead dialect lines i label false = skip-is dialect label lines i (drop i lines) refl

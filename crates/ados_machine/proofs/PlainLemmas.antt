@@ -7,6 +7,7 @@ use Rattle.ados_text.specs.declared.codes.Result2.{Result2}
 use Rattle.ados_line.specs.declared.lines.Line.{Line}
 use Rattle.ados_ram.specs.Files.{Files}
 use Rattle.ados_ram.specs.FileOperations.{put_open_of, put_open_fault}
+use Rattle.ados_find.specs.Shared.{limits_of}
 use Rattle.ados_ram.specs.Place.{Place, key_of, last_name}
 use Rattle.ados_readargs.specs.declared.args.Arg.{Arg}
 use Rattle.ados_readargs.specs.Args.{option_number}
@@ -243,7 +244,7 @@ put-renamed (To Nil) output answered course = refl
 put-renamed (To (At place)) [] answered course = refl
 put-renamed (To (At place)) (byte ∷ bytes) answered course =
     let files = course.shared.files in
-    unless-renamed (put_open_fault files (key_of place) (last_name place) (byte ∷ bytes)) answered (put_open_of files (key_of place) (last_name place) (byte ∷ bytes)) course
+    unless-renamed (put_open_fault (limits_of course.shared.dialect) files (key_of place) (last_name place) (byte ∷ bytes)) answered (put_open_of files (key_of place) (last_name place) (byte ∷ bytes)) course
 
 abbrev directory_of : Option ShellState → Option Place
 directory_of o = option_map (λ shell. shell.parts.directory) o

@@ -8,7 +8,6 @@ use Rattle.ados_items.specs.Items.{item_at, bytes_between}
 use Rattle.ados_script.specs.declared.jumps.Jump.{Jump}
 use Rattle.ados_script.specs.declared.jumps.Jump.TheVariants.{To, EndSkip, None as Nowhere}
 use Rattle.ados_script.specs.Blocks.{after_if, after_else}
-use Rattle.ados_script.specs.Heads.{label_of}
 use Rattle.ados_script.specs.Skips.{is_sought, skip}
 use Rattle.ados_ram.specs.Entry.{is_directory, bytes_of}
 use Rattle.ados_ram.specs.Place.{Place, key_of}
@@ -19,6 +18,7 @@ use Rattle.ados_find.specs.declared.search.Found.TheVariants as found
 use Rattle.ados_find.specs.Paths.{place_of}
 use Rattle.ados_find.specs.Search.{is_path}
 use Rattle.ados_find.specs.Shared.{SharedState}
+use Rattle.ados_resident.specs.declared.dialects.Dialect.{Dialect}
 use Rattle.ados_resident.specs.declared.hosts.HostEntry.{HostEntry}
 use Rattle.ados_resident.specs.declared.programs.Program.{Program}
 use Rattle.ados_resident.specs.declared.residents.Internal.{Internal}
@@ -48,11 +48,11 @@ past_block at_else depth i (line ∷ lines) =
     past_block at_else depth (i + 1) lines))
 
 -- they are passed over to a label, or to any Lab if none is named; an EndSkip on the way stops that
-abbrev pub past_label : Option Text → ℕ → List Text → Jump
-past_label label i [] = Nowhere
-past_label label i (line ∷ lines) =
+abbrev pub past_label : Dialect → Option Text → ℕ → List Text → Jump
+past_label dialect label i [] = Nowhere
+past_label dialect label i (line ∷ lines) =
     if begins_with line (codes "EndSkip") then EndSkip (i + 1 + 1) else
-    (if begins_with line (codes "Lab") && is_sought label (label_of line) then To (i + 1 + 1) else past_label label (i + 1) lines)
+    (if begins_with line (codes "Lab") && is_sought dialect label line then To (i + 1 + 1) else past_label dialect label (i + 1) lines)
 
 -- an If at line i that fails, and an Else there
 abbrev pub IfsLeadPastTheirBlock : Type 0
@@ -63,8 +63,8 @@ ElsesLeadPastTheirBlock = (lines : List Text) (i : ℕ) → after_else lines i �
 
 -- a Skip at line i looks at the lines after it, and with BACK at all from the first
 abbrev pub SkipsLeadPastTheirLabel : Type 0
-SkipsLeadPastTheirLabel = (lines : List Text) (i : ℕ) (label : Option Text) (back : Bool) →
-    skip lines i label back ≡ (if back then past_label label 0 lines else past_label label i (drop i lines))
+SkipsLeadPastTheirLabel = (dialect : Dialect) (lines : List Text) (i : ℕ) (label : Option Text) (back : Bool) →
+    skip dialect lines i label back ≡ (if back then past_label dialect label 0 lines else past_label dialect label i (drop i lines))
 
 -- a file is a script if it has the bit s; without the bit e it can't be run (305), and with it it is a program, or none (121)
 abbrev pub cannot_run : ℕ → Found

@@ -115,7 +115,10 @@ fn push_entry(text: &mut Vec<u8>, entry: &Entry, path: &[u8]) -> Result<(), NoMe
         &[b"= ", entry.bits.letters().as_slice(), kind, path, b"\n"],
     )?;
     push_lines(text, b"; ", entry.comment.as_bytes())?;
-    push_lines(text, b"", entry.bytes())
+    match entry.bytes() {
+        Some(bytes) => push_lines(text, b"", &bytes.to_vec(*text.allocator())?),
+        None => push_lines(text, b"", &[]),
+    }
 }
 
 fn push_assigns(text: &mut Vec<u8>, files: &Ram, assigns: &[Assign]) -> Result<(), NoMemory> {

@@ -1,27 +1,25 @@
--- Files with an entry put where the directories above exist are files again: a tree of directories within the limits.
-use Rattle.std.proofs.Common.{◌≡◌, ℕ, Bool, true, false, cond, not, T, List, [], ◌∷◌, ◌++◌, Option, Some, None, IsSome, IsTrue, refl, sym, ap, ◌∙◌, subst, append_assoc, ◌+◌, ◌≤◌, ◌&&◌, ◌||◌, nat_le, length, arith}
-use Rattle.std.proofs.lemmas.Bool.{leb-true}
+-- Files with an entry put where the directories above exist are files again: a tree of directories.
+use Rattle.std.proofs.Common.{◌≡◌, ℕ, Bool, true, false, cond, not, T, List, [], ◌∷◌, ◌++◌, Option, Some, None, IsSome, IsTrue, refl, sym, ap, ◌∙◌, subst, append_assoc, ◌&&◌, ◌||◌}
 use Rattle.std.proofs.lemmas.List.{append-nil}
 use Rattle.std.specs.Ordering.{is_eq}
 use Rattle.std.specs.declared.cmp.Ordering.{Ordering}
 use Rattle.std.specs.declared.cmp.Ordering.TheVariants.{Less, Equal, Greater}
 use Rattle.std.specs.Option.{option_or}
 use Rattle.std.specs.FinMap as map
-use Rattle.std.specs.FinMap.{find, get-insert, get-remove, get-entries, len-entries}
+use Rattle.std.specs.FinMap.{find, get-insert, get-remove, get-entries}
 use Rattle.std.specs.Cmp.{eq_by_cmp_equiv}
 use Rattle.ados_text.specs.declared.codes.Result2.{Result2}
-use Rattle.ados_text.specs.declared.codes.TheConstants.Result2.{OBJECT_IN_USE, WRONG_TYPE, DIRECTORY_NOT_EMPTY, DISK_FULL, DELETE_PROTECTED}
+use Rattle.ados_text.specs.declared.codes.TheConstants.Result2.{OBJECT_IN_USE, WRONG_TYPE, DIRECTORY_NOT_EMPTY, DELETE_PROTECTED}
 use Rattle.ados_text.specs.Name.{name_cmp_total}
 use Rattle.ados_ram.specs.declared.entries.Entry.{Entry}
 use Rattle.ados_ram.specs.Place.{place_cmp, place_cmp_total, place_cmp_exact, is_same_key, is_root, key_suffix, has_names, is_below}
-use Rattle.ados_ram.specs.Entry.{is_directory, is_directory_body, bytes_of_body, fresh_bits, size_of, file_entry, file_entry_with_bits, new_directory}
-use Rattle.ados_ram.specs.Files.{Files, Rows, IsTree, is_some_directory, is_some_file, entry_bytes, total_of, file_limit, bytes_limit, objects_limit}
-use Rattle.ados_ram.specs.FileOperations.{parent_fault, way_fault, write_target_fault, full_fault, limit_fault, write_of, write_fault, write_as_of, append_of, is_put, put_open_of, put_open_fault, free_fault, make_dir_of, make_dir_fault, has_descendants, delete_target_fault, delete_fault}
+use Rattle.ados_ram.specs.Entry.{is_directory, is_directory_body, file_entry, file_entry_with_bits, new_directory}
+use Rattle.ados_ram.specs.Files.{Files, Rows, IsTree, is_some_directory, is_some_file, entry_bytes}
+use Rattle.ados_ram.specs.declared.limits.Limits.{Limits}
+use Rattle.ados_ram.specs.FileOperations.{parent_fault, way_fault, write_target_fault, write_fault, write_as_of, append_of, is_put, put_open_of, free_fault, make_dir_of, make_dir_fault, has_descendants, delete_target_fault, delete_fault}
 use Rattle.ados_ram.specs.InUse.{InUse, is_in_use}
 use Rattle.ados_ram.specs.declared.entries.Bits.{Bits}
-use Rattle.ados_ram.specs.Rows.{other_rows}
 use Rattle.ados_ram.specs.declared.entries.Body.{Body}
-use Rattle.ados_ram.proofs.RowsLemmas.{AreRowsOf, size-written, own_rows, entries_rows, deleted_rows, total-insert, len-insert, total-without, length-without, total-found, length-found}
 
 pub equal : (r : Ordering) → is_eq r ≡ true → r ≡ Equal
 equal Less p = absurd (subst T (sym p) tt)
@@ -74,22 +72,14 @@ kept m key new k keeps d =
 pub put_files : {m : Files} (key : List (List ℕ)) (new : Entry) → IsTree m
     → ((place : List (List ℕ)) (name : List ℕ) (rest : List (List ℕ)) → place ++ name ∷ rest ≡ key → IsTrue (is_some_directory (map.get m place)))
     → (IsTrue (is_some_directory (map.get m key)) → IsTrue (is_directory new))
-    → size_of new ≤ file_limit → total_of (map.entries (map.insert m key new)) ≤ bytes_limit → map.len (map.insert m key new) ≤ objects_limit
     → IsTree (map.insert m key new)
-put_files {m} key new files clear keeps size total count = record {
+put_files {m} key new files clear keeps = record {
   root = kept m key new [] keeps files.root;
   above = λ place name rest h. kept m key new place keeps (
       elim (is_same_key (place ++ name ∷ rest) key) as (λ b. is_same_key (place ++ name ∷ rest) key ≡ b → IsSome (cond b (Some new) (map.get m (place ++ name ∷ rest))) → IsTrue (is_some_directory (map.get m place))) [
         | true ↦ λ t g. clear place name rest (same (place ++ name ∷ rest) key t)
         | false ↦ λ t g. files.above place name rest g
       ] refl (subst (λ (o : Option Entry). IsSome o) (get-insert place_cmp_total m key new (place ++ name ∷ rest)) h));
-  each_file = λ place. subst (λ (o : Option Entry). length (entry_bytes o) ≤ file_limit) (sym (get-insert place_cmp_total m key new place))
-      (elim (is_same_key place key) as (λ b. length (entry_bytes (cond b (Some new) (map.get m place))) ≤ file_limit) [
-        | true ↦ size
-        | false ↦ files.each_file place
-      ]);
-  all_bytes = total;
-  objects = count;
 }
 
 pub no_directory : (is_open : Bool) (o : Option Entry) → write_target_fault is_open o ≡ None → IsTrue (is_some_directory o) → ⊥
@@ -99,27 +89,6 @@ no_directory is_open (Some e) h d = not_free (is_directory e) _ h d
     not_free : (b : Bool) (rest : Option Result2) → cond b (Some WRONG_TYPE) rest ≡ None → IsTrue b → ⊥
     not_free true rest h d = cc
     not_free false rest h d = cc
-
-record AllHold (a b c : Bool) : Type 0 where
-  pub first : IsTrue a
-  pub second : IsTrue b
-  pub third : IsTrue c
-
-all_hold : (a b c : Bool) → cond (a && b && c) None (Some DISK_FULL) ≡ None → AllHold a b c
-all_hold true true true h = record { first = refl; second = refl; third = refl }
-all_hold true true false h = cc
-all_hold true false c h = cc
-all_hold false b c h = cc
-
-pub record IsWithin (s t n : ℕ) : Type 0 where
-  pub size : s ≤ file_limit
-  pub total : t ≤ bytes_limit
-  pub count : n ≤ objects_limit
-
-pub no_limit_fault : (size total count : ℕ) → limit_fault size total count ≡ None → IsWithin size total count
-no_limit_fault size total count h =
-    let all : AllHold (nat_le size file_limit) (nat_le total bytes_limit) (nat_le count objects_limit) = all_hold _ _ _ h in
-    record { size = leb-true _ _ all.first; total = leb-true _ _ all.second; count = leb-true _ _ all.third }
 
 pub clash : {A : Type 0} → false ≡ true → A
 clash e = absurd (subst T (sym e) tt)
@@ -133,26 +102,15 @@ after-append [] way = refl
 after-append (n ∷ ns) way =
     ap (λ b. cond b (key_suffix ns (ns ++ way)) None) ((eq_by_cmp_equiv name_cmp_total).refl n) ∙ after-append ns way
 
--- the bits of a new file do not affect the sizes
-same_total : (m : Files) (key : List (List ℕ)) (name bytes : List ℕ) (bits : Bits) → total_of (map.entries (write_of m key name bytes)) ≡ total_of (map.entries (write_as_of m key name bytes bits))
-same_total m key name bytes bits =
-    total-insert m key _
-    ∙ ap (λ s. s + total_of (other_rows key (map.entries m))) (size-written fresh_bits (map.get m key) name bytes ∙ sym (size-written bits (map.get m key) name bytes))
-    ∙ sym (total-insert m key _)
-
 -- after a write that is not refused
-pub written_files : {m : Files} (is_open : Bool) (key : List (List ℕ)) (name bytes : List ℕ) (bits : Bits) → IsTree m → write_fault is_open m key name bytes ≡ None → IsTree (write_as_of m key name bytes bits)
-written_files {m} is_open key name bytes bits files e =
+pub written_files : {m : Files} (limits : Limits) (is_open : Bool) (key : List (List ℕ)) (name bytes : List ℕ) (bits : Bits) → IsTree m → write_fault limits is_open m key name bytes ≡ None → IsTree (write_as_of m key name bytes bits)
+written_files {m} limits is_open key name bytes bits files e =
     let new = file_entry_with_bits bits (map.get m key) name bytes in
     let way = or_first (way_fault m [] key) _ e in
     let rest = or_second (way_fault m [] key) _ e in
-    let within = no_limit_fault _ _ _ (or_second (write_target_fault is_open (map.get m key)) _ rest) in
     put_files key new files
     (λ place n more t. way_clear m [] place n more (subst (λ (q : List (List ℕ)). way_fault m [] q ≡ None) (sym t) way))
     (λ d. absurd (no_directory is_open (map.get m key) (or_first (write_target_fault is_open (map.get m key)) _ rest) d))
-    (subst (λ (n : ℕ). n ≤ file_limit) (sym (size-written bits (map.get m key) name bytes)) within.size)
-    (subst (λ (n : ℕ). n ≤ bytes_limit) (same_total m key name bytes bits) within.total)
-    (subst (λ (n : ℕ). n ≤ objects_limit) (len-insert m key _ ∙ sym (len-insert m key new)) within.count)
 
 not_both : (b : Bool) → not b ≡ true → IsTrue b → ⊥
 not_both true h t = clash h
@@ -170,47 +128,31 @@ there : (o : Option Entry) (more : Bool) → (is_some_file o && more) ≡ true �
 there None more h = clash h
 there (Some e) more h = refl
 
--- after bytes were appended to an open output, if that is not refused
-pub put_open_files : {m : Files} (key : List (List ℕ)) (name bytes : List ℕ) → IsTree m → put_open_fault m key name bytes ≡ None → IsTree (put_open_of m key name bytes)
-put_open_files {m} key name bytes files e =
-    elim (is_put (map.get m key) bytes) as (λ b. is_put (map.get m key) bytes ≡ b → cond b (full_fault (length (entry_bytes (map.get m key) ++ bytes)) (append_of m key name bytes)) None ≡ None → IsTree (cond b (append_of m key name bytes) m)) [
-      | true ↦ λ t g.
-          let within = no_limit_fault _ _ _ g in
+-- after bytes were appended to an open output
+pub put_open_files : {m : Files} (key : List (List ℕ)) (name bytes : List ℕ) → IsTree m → IsTree (put_open_of m key name bytes)
+put_open_files {m} key name bytes files =
+    elim (is_put (map.get m key) bytes) as (λ b. is_put (map.get m key) bytes ≡ b → IsTree (cond b (append_of m key name bytes) m)) [
+      | true ↦ λ t.
           put_files key (file_entry (map.get m key) name (entry_bytes (map.get m key) ++ bytes)) files
           (λ place n more p. files.above place n more (subst (λ (q : List (List ℕ)). IsSome (map.get m q)) (sym p) (there (map.get m key) _ t)))
           (λ d. absurd (a_file (map.get m key) _ t d))
-          (subst (λ (n : ℕ). n ≤ file_limit) (sym (size-written fresh_bits (map.get m key) name (entry_bytes (map.get m key) ++ bytes))) within.size)
-          within.total within.count
-      | false ↦ λ t g. files
-    ] refl e
+      | false ↦ λ t. files
+    ] refl
 
 -- after a directory was created, if that is not refused
-pub made_files : {m : Files} (key : List (List ℕ)) (name : List ℕ) → IsTree m → make_dir_fault m key name ≡ None → IsTree (make_dir_of m key name)
-made_files {m} key name files e =
+pub made_files : {m : Files} (limits : Limits) (key : List (List ℕ)) (name : List ℕ) → IsTree m → make_dir_fault limits m key name ≡ None → IsTree (make_dir_of m key name)
+made_files {m} limits key name files e =
     let way = or_first (way_fault m [] key) _ e in
-    let rest = or_second (way_fault m [] key) _ e in
-    let within = no_limit_fault 0 _ _ (or_second (free_fault (map.get m key)) _ rest) in
     put_files key (new_directory name) files
     (λ place n more t. way_clear m [] place n more (subst (λ (q : List (List ℕ)). way_fault m [] q ≡ None) (sym t) way))
-    (λ d. refl) (omega arith) within.total within.count
+    (λ d. refl)
 
 -- after an entry was changed, but not its bytes
 pub changed_files : {m : Files} (key : List (List ℕ)) (change : Entry → Entry) (e : Entry) → IsTree m → map.get m key ≡ Some e → (change e).body ≡ e.body → IsTree (map.insert m key (change e))
 changed_files {m} key change e files found body =
-    let r = own_rows m in
-    let there : find place_cmp key (map.entries m) ≡ Some e = sym (get-entries m key) ∙ found in
-    let size : size_of (change e) ≡ size_of e = ap (λ b. length (bytes_of_body b)) body in
-    let small : size_of e ≤ file_limit = subst (λ (o : Option Entry). length (entry_bytes o) ≤ file_limit) found (files.each_file key) in
-    let all = files.all_bytes in
-    let count = files.objects in
-    let total : total_of (map.entries (map.insert m key (change e))) ≡ size_of (change e) + total_of (other_rows key (map.entries m)) = total-insert m key (change e) in
-    let number : map.len (map.insert m key (change e)) ≡ 1 + length (other_rows key (map.entries m)) = len-insert m key (change e) in
     put_files key (change e) files
     (λ place name rest t. files.above place name rest (subst (λ (o : Option Entry). IsSome o) (sym (ap (map.get m) t ∙ found)) refl))
     (λ d. subst (λ (b : Body). IsTrue (is_directory_body b)) (sym body) (subst (λ (o : Option Entry). IsTrue (is_some_directory o)) found d))
-    (omega arith)
-    (omega (arith, total-found key e (map.entries m) there))
-    (omega (arith, length-found key e (map.entries m) there, len-entries m))
 
 -- if none of the rows is below a place, nothing is found below it
 has_descendants-there : (key q : List (List ℕ)) (es : Rows) → has_descendants key es ≡ false → is_below key q ≡ true → find place_cmp q es ≡ None
@@ -252,18 +194,10 @@ above_left {m} key place name rest files empty =
 -- after an object with nothing below it was removed
 pub removed_files : {m : Files} (key : List (List ℕ)) → IsTree m → is_root key ≡ false → has_descendants key (map.entries m) ≡ false → IsTree (map.remove m key)
 removed_files {m} key files not_root empty =
-    let r : AreRowsOf (other_rows key (map.entries m)) (map.remove m key) = deleted_rows key (own_rows m) refl in
-    let left : map.entries (map.remove m key) ≡ other_rows key (map.entries m) = entries_rows (other_rows key (map.entries m)) r in
-    let all = files.all_bytes in
-    let objects = files.objects in
     record {
       root = subst (λ (o : Option Entry). IsTrue (is_some_directory o)) (sym (get-remove place_cmp_total m key [])) (no_root_left m key not_root files.root);
       above = λ place name rest h. subst (λ (o : Option Entry). IsTrue (is_some_directory o)) (sym (get-remove place_cmp_total m key place))
           (above_left key place name rest files empty (subst (λ (o : Option Entry). IsSome o) (get-remove place_cmp_total m key (place ++ name ∷ rest)) h));
-      each_file = λ place. subst (λ (o : Option Entry). length (entry_bytes o) ≤ file_limit) (sym (get-remove place_cmp_total m key place))
-          (elim (is_same_key place key) as (λ b. length (entry_bytes (cond b nothing (map.get m place))) ≤ file_limit) [ true ↦ omega arith | false ↦ files.each_file place ]);
-      all_bytes = subst (λ (es : Rows). total_of es ≤ bytes_limit) (sym left) (omega (arith, total-without key (map.entries m)));
-      objects = subst (λ (n : ℕ). n ≤ objects_limit) (sym (len-entries _ ∙ ap length left)) (omega (arith, length-without key (map.entries m), len-entries m));
     }
 
 pub record CanDelete (key : List (List ℕ)) (es : Rows) : Type 0 where

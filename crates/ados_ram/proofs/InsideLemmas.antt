@@ -7,6 +7,7 @@ use Rattle.ados_text.specs.declared.codes.Result2.{Result2}
 use Rattle.ados_ram.specs.declared.entries.Entry.{Entry}
 use Rattle.ados_ram.specs.Place.{Key, Place, key_of, place_cmp_total, is_same_key, is_root, key_suffix, has_names, is_below, is_at_or_below}
 use Rattle.ados_ram.specs.InUse.{InUse}
+use Rattle.ados_ram.specs.declared.limits.Limits.{Limits}
 use Rattle.ados_ram.specs.Files.{Files, IsTree, is_some_directory}
 use Rattle.ados_ram.specs.FileOperations.{way_fault, write_target_fault, write_fault, free_fault, make_dir_fault, has_descendants, delete_target_fault, delete_fault, rename_target_fault, rename_fault}
 use Rattle.ados_ram.specs.Tree.{parent_key, MayMove}
@@ -47,12 +48,12 @@ by_root (n ∷ ns) h = refl
 root_is : (m : Files) (key : Key) → IsTree m → key ≡ [] → IsTrue (is_some_directory (map.get m key))
 root_is m key files e = subst (λ (k : Key). IsTrue (is_some_directory (map.get m k))) (sym e) files.root
 
-pub written-inside : (m : Files) (is_open : Bool) (key : Key) (name bytes : List ℕ) → IsTree m → write_fault is_open m key name bytes ≡ None → is_root key ≡ false
-written-inside m is_open key name bytes files e =
+pub written-inside : (limits : Limits) (m : Files) (is_open : Bool) (key : Key) (name bytes : List ℕ) → IsTree m → write_fault limits is_open m key name bytes ≡ None → is_root key ≡ false
+written-inside limits m is_open key name bytes files e =
     by_root key (λ t. no_directory is_open (map.get m key) (or_first (write_target_fault is_open (map.get m key)) _ (or_second (way_fault m [] key) _ e)) (root_is m key files t))
 
-pub made-inside : (m : Files) (key : Key) (name : List ℕ) → IsTree m → make_dir_fault m key name ≡ None → is_root key ≡ false
-made-inside m key name files e =
+pub made-inside : (limits : Limits) (m : Files) (key : Key) (name : List ℕ) → IsTree m → make_dir_fault limits m key name ≡ None → is_root key ≡ false
+made-inside limits m key name files e =
     by_root key (λ t. taken (map.get m key) (or_first (free_fault (map.get m key)) _ (or_second (way_fault m [] key) _ e)) (root_is m key files t))
   where
     taken : (o : Option Entry) → free_fault o ≡ None → IsTrue (is_some_directory o) → ⊥
@@ -80,9 +81,9 @@ pub free-rename : {refusal : Option Result2} {lent_from lent_to : Place} (busy :
 free-rename {lent_from = lent_from} busy m from to e f refused none =
     ap (λ k. rename_fault busy m (key_of k) (key_of to)) (sym e) ∙ ap (λ k. rename_fault busy m (key_of lent_from) (key_of k)) (sym f) ∙ sym refused ∙ none
 
-pub free-write : {refusal : Option Result2} {lent : Place} (is_open : Bool) (m : Files) (place : Place) (name bytes : List ℕ) → lent ≡ place
-    → refusal ≡ write_fault is_open m (key_of lent) name bytes → refusal ≡ None → write_fault is_open m (key_of place) name bytes ≡ None
-free-write is_open m place name bytes e refused none = ap (λ k. write_fault is_open m (key_of k) name bytes) (sym e) ∙ sym refused ∙ none
+pub free-write : (limits : Limits) {refusal : Option Result2} {lent : Place} (is_open : Bool) (m : Files) (place : Place) (name bytes : List ℕ) → lent ≡ place
+    → refusal ≡ write_fault limits is_open m (key_of lent) name bytes → refusal ≡ None → write_fault limits is_open m (key_of place) name bytes ≡ None
+free-write limits is_open m place name bytes e refused none = ap (λ k. write_fault limits is_open m (key_of k) name bytes) (sym e) ∙ sym refused ∙ none
 
 -- a rename that is not refused
 pub may_move : (busy : InUse) (m : Files) (from to : Key) → IsTree m → rename_fault busy m from to ≡ None → MayMove from to m

@@ -20,3 +20,7 @@ pub mod TotalLemmas
 pub mod InsideLemmas
 pub mod WrittenLemmas
 pub mod NamedLemmas
+pub mod ConcatLemmas
+pub mod CutLemmas
+pub mod StartLemmas
+pub mod WithinLemmas

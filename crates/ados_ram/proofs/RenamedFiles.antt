@@ -1,5 +1,5 @@
 -- Files after a rename are files.
-use Rattle.std.proofs.Common.{◌≡◌, ℕ, ◌≤◌, Bool, true, false, cond, not, ◌&&◌, ◌||◌, List, [], ◌∷◌, ◌++◌, Option, Some, None, is_some, IsSome, IsTrue, refl, sym, ap, ◌∙◌, subst, append_assoc, length, arith}
+use Rattle.std.proofs.Common.{◌≡◌, ℕ, suc, ◌≤◌, Bool, true, false, cond, not, ◌&&◌, ◌||◌, List, [], ◌∷◌, ◌++◌, Option, Some, None, is_some, IsSome, IsTrue, refl, sym, ap, ◌∙◌, subst, append_assoc, length, arith}
 use Rattle.std.proofs.lemmas.List.{append-nil}
 use Rattle.std.specs.Ordering.{is_eq}
 use Rattle.std.specs.Cmp.{eq_by_cmp_equiv}
@@ -10,7 +10,9 @@ use Rattle.ados_text.specs.Name.{name_cmp, name_cmp_total}
 use Rattle.ados_ram.specs.declared.entries.Entry.{Entry}
 use Rattle.ados_ram.specs.Place.{is_same_key, is_root, key_suffix, has_names, is_below, is_at_or_below}
 use Rattle.ados_ram.specs.InUse.{InUse, holds_output}
-use Rattle.ados_ram.specs.Files.{Files, Rows, IsTree, is_some_directory, entry_bytes, total_of, file_limit, bytes_limit, objects_limit}
+use Rattle.ados_ram.specs.Files.{Files, Rows, IsTree, is_some_directory, IsWithin, entry_bytes, total_of}
+use Rattle.ados_ram.specs.Limits.{file_limit, bytes_limit, objects_limit}
+use Rattle.ados_ram.specs.declared.limits.Limits.{Limits}
 use Rattle.ados_ram.specs.FileOperations.{way_fault, moved_rows, rename_of, rename_target_fault, rename_fault}
 use Rattle.ados_ram.proofs.RowsLemmas.{sorted_of, AreRowsOf, own_rows, entries_rows, renamed_rows, total-sorted_of, length-sorted_of}
 use Rattle.ados_ram.proofs.FilesLemmas.{same, way_clear, or_first, or_second, clash, nothing, after-append}
@@ -137,16 +139,16 @@ root_stays m [] to name files can = clash (sym can.not_root)
 root_stays m (x ∷ xs) [] name files can = clash (can.free (some_of (map.get m []) files.root))
 root_stays m (x ∷ xs) (n ∷ ns) name files can = dir_out m (x ∷ xs) (n ∷ ns) name [] refl refl files.root
 
-sizes_stay : (m : Files) (from to : List (List ℕ)) (name : List ℕ) (place : List (List ℕ)) → IsTree m → Within to from (map.entries m) → length (entry_bytes (map.get (rename_of m from to name) place)) ≤ file_limit
-sizes_stay m from to name place files within =
-    elim (key_suffix to place) as (λ o. key_suffix to place ≡ o → length (entry_bytes (map.get (rename_of m from to name) place)) ≤ file_limit) [
+sizes_stay : {limits : Limits} (m : Files) (from to : List (List ℕ)) (name : List ℕ) (place : List (List ℕ)) → IsWithin limits m → Within to from (map.entries m) → length (entry_bytes (map.get (rename_of m from to name) place)) ≤ file_limit limits
+sizes_stay {limits} m from to name place files within =
+    elim (key_suffix to place) as (λ o. key_suffix to place ≡ o → length (entry_bytes (map.get (rename_of m from to name) place)) ≤ file_limit limits) [
       | Some w ↦ λ p.
           let e : length (entry_bytes (map.get (rename_of m from to name) place)) ≡ length (entry_bytes (map.get m (from ++ w))) =
           ap (λ q. length (entry_bytes (map.get (rename_of m from to name) q))) (after-exact to place w p)
           ∙ ap (λ o. length (entry_bytes o)) (get-moved_in m from to name w within) ∙ bytes-renamed name w (map.get m (from ++ w)) in
-          subst (λ (k : ℕ). k ≤ file_limit) (sym e) (files.each_file (from ++ w))
-      | None ↦ λ p. subst (λ (o : Option Entry). length (entry_bytes o) ≤ file_limit) (sym (get-moved_out m from to name place p))
-          (elim (is_at_or_below from place) as (λ b. length (entry_bytes (cond b nothing (map.get m place))) ≤ file_limit) [ true ↦ omega arith | false ↦ files.each_file place ])
+          subst (λ (k : ℕ). k ≤ file_limit limits) (sym e) (files.each_file (from ++ w))
+      | None ↦ λ p. subst (λ (o : Option Entry). length (entry_bytes o) ≤ file_limit limits) (sym (get-moved_out m from to name place p))
+          (elim (is_at_or_below from place) as (λ b. length (entry_bytes (cond b nothing (map.get m place))) ≤ file_limit limits) [ true ↦ omega arith | false ↦ files.each_file place ])
     ] refl
 
 -- after a rename that is not refused
@@ -155,10 +157,6 @@ renamed_files {m} busy from to name files e =
     let clear : way_fault m [] to ≡ None = or_first (way_fault m [] to) _ e in
     let can : CanMove from to (map.get m to) = can_move busy from to (map.get m from) (map.get m to) (or_second (way_fault m [] to) _ e) in
     let within : Within to from (map.entries m) = within_from m from to files can.free in
-    let r : AreRowsOf (sorted_of (moved_rows from to name (map.entries m))) (rename_of m from to name) = renamed_rows from to name (own_rows m) refl in
-    let rows : map.entries (rename_of m from to name) ≡ sorted_of (moved_rows from to name (map.entries m)) = entries_rows _ r in
-    let all = files.all_bytes in
-    let objects = files.objects in
     record {
       root = root_stays m from to name files can;
       above = λ place n rest h.
@@ -169,7 +167,19 @@ renamed_files {m} busy from to name files e =
                 (there-renamed name way (map.get m (from ++ way)) (subst (λ (o : Option Entry). IsSome o) (ap (map.get (rename_of m from to name)) is ∙ get-moved_in m from to name way within) h))
             | None ↦ λ p. above_out m from to name place n rest files p (subst (λ (o : Option Entry). IsSome o) (get-moved_out m from to name (place ++ n ∷ rest) p) h)
           ] refl;
+    }
+
+-- and it is within the same limits
+pub renamed-within : {limits : Limits} {m : Files} (busy : InUse) (from to : List (List ℕ)) (name : List ℕ) → IsTree m → IsWithin limits m → rename_fault busy m from to ≡ None → IsWithin limits (rename_of m from to name)
+renamed-within {limits} {m} busy from to name tree files e =
+    let can : CanMove from to (map.get m to) = can_move busy from to (map.get m from) (map.get m to) (or_second (way_fault m [] to) _ e) in
+    let within : Within to from (map.entries m) = within_from m from to tree can.free in
+    let r : AreRowsOf (sorted_of (moved_rows from to name (map.entries m))) (rename_of m from to name) = renamed_rows from to name (own_rows m) refl in
+    let rows : map.entries (rename_of m from to name) ≡ sorted_of (moved_rows from to name (map.entries m)) = entries_rows _ r in
+    let all = files.all_bytes in
+    let objects = files.objects in
+    record {
       each_file = λ place. sizes_stay m from to name place files within;
-      all_bytes = subst (λ (es : Rows). total_of es ≤ bytes_limit) (sym rows) (omega (arith, total-sorted_of (moved_rows from to name (map.entries m)), total-moved_rows from to name (map.entries m)));
-      objects = subst (λ (k : ℕ). k ≤ objects_limit) (sym (len-entries _ ∙ ap length rows)) (omega (arith, length-sorted_of (moved_rows from to name (map.entries m)), length-moved_rows from to name (map.entries m), len-entries m));
+      all_bytes = subst (λ (es : Rows). total_of es ≤ bytes_limit limits) (sym rows) (omega (arith, total-sorted_of (moved_rows from to name (map.entries m)), total-moved_rows from to name (map.entries m)));
+      objects = subst (λ (k : ℕ). k ≤ suc (objects_limit limits)) (sym (len-entries _ ∙ ap length rows)) (omega (arith, length-sorted_of (moved_rows from to name (map.entries m)), length-moved_rows from to name (map.entries m), len-entries m));
     }

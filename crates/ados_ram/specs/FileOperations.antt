@@ -1,6 +1,7 @@
--- File operations: for each the fault, which is the first of its faults that applies, and what it gives. `is_open` says
--- that a place is an open output; `name` is the name that a new object takes.
-use Rattle.std.specs.Prelude.{ℕ, Bool, false, cond, not, ◌&&◌, ◌||◌, nat_le, nat_lt, List, [], ◌∷◌, ◌++◌, length, Option, Some, None, is_some, Result, Ok, Err}
+-- File operations: for each the fault, which is the first of its faults that applies, and what it gives. `limits` are
+-- those that what is given keeps; `is_open` says that a place is an open output; `name` is the name that a new object
+-- takes.
+use Rattle.std.specs.Prelude.{ℕ, suc, Bool, false, cond, not, ◌&&◌, ◌||◌, nat_le, nat_lt, List, [], ◌∷◌, ◌++◌, length, Option, Some, None, is_some, Result, Ok, Err}
 use Rattle.std.specs.Option.{option_or}
 use Rattle.std.specs.FinMap as map
 use Rattle.ados_text.specs.declared.codes.Result2.{Result2}
@@ -9,7 +10,9 @@ use Rattle.ados_text.specs.Text.{Text, Bytes}
 use Rattle.ados_text.specs.Name.{Name}
 use Rattle.ados_ram.specs.Place.{Place, Key, key_of, any_same, is_root, is_same_key, key_suffix, is_below, is_child}
 use Rattle.ados_ram.specs.Entry.{is_directory, new_directory, file_entry, file_entry_with_bits, with_bits, with_comment, renamed_entry}
-use Rattle.ados_ram.specs.Files.{Files, Rows, is_some_file, entry_bytes, total_of, file_limit, bytes_limit, objects_limit}
+use Rattle.ados_ram.specs.Files.{Files, Rows, is_some_file, entry_bytes, total_of}
+use Rattle.ados_ram.specs.Limits.{file_limit, bytes_limit, objects_limit}
+use Rattle.ados_ram.specs.declared.limits.Limits.{Limits}
 use Rattle.ados_ram.specs.InUse.{InUse, is_in_use, holds_output}
 use Rattle.ados_ram.specs.declared.entries.Bits.{Bits}
 use Rattle.ados_ram.specs.declared.entries.Entry.{Entry}
@@ -25,12 +28,13 @@ way_fault m above [] = None
 way_fault m above (name ∷ rest) = parent_fault (map.get m above) (way_fault m (above ++ name ∷ []) rest)
 
 -- the fault of the limits, for the size of one file, of all files, and the number of objects
-abbrev pub limit_fault : ℕ → ℕ → ℕ → Option Result2
-limit_fault size total count = cond (nat_le size file_limit && nat_le total bytes_limit && nat_le count objects_limit) None (Some DISK_FULL)
+abbrev pub limit_fault : Limits → ℕ → ℕ → ℕ → Option Result2
+limit_fault limits size total count =
+    cond (nat_le size (file_limit limits) && nat_le total (bytes_limit limits) && nat_le count (suc (objects_limit limits))) None (Some DISK_FULL)
 
 -- the fault of files in which one has a new size
-abbrev pub full_fault : ℕ → Files → Option Result2
-full_fault size m = limit_fault size (total_of (map.entries m)) (map.len m)
+abbrev pub full_fault : Limits → ℕ → Files → Option Result2
+full_fault limits size m = limit_fault limits size (total_of (map.entries m)) (map.len m)
 
 -- Read
 abbrev pub read_fault : Bool → Option Entry → Option Result2
@@ -66,10 +70,10 @@ write_target_fault is_open None = None
 write_target_fault is_open (Some e) =
     cond (is_directory e) (Some WRONG_TYPE) (cond is_open (Some OBJECT_IN_USE) (cond e.bits.write None (Some WRITE_PROTECTED)))
 
-abbrev pub write_fault : Bool → Files → Key → Name → Bytes → Option Result2
-write_fault is_open m key name bytes =
+abbrev pub write_fault : Limits → Bool → Files → Key → Name → Bytes → Option Result2
+write_fault limits is_open m key name bytes =
     option_or (way_fault m [] key)
-    (option_or (write_target_fault is_open (map.get m key)) (full_fault (length bytes) (write_of m key name bytes)))
+    (option_or (write_target_fault is_open (map.get m key)) (full_fault limits (length bytes) (write_of m key name bytes)))
 
 -- Write, with other bits for a new file; the faults are those of writing
 abbrev pub write_as_of : Files → Key → Name → Bytes → Bits → Files
@@ -79,8 +83,8 @@ write_as_of m key name bytes bits = map.insert m key (file_entry_with_bits bits 
 abbrev pub append_of : Files → Key → Name → Bytes → Files
 append_of m key name bytes = write_of m key name (entry_bytes (map.get m key) ++ bytes)
 
-abbrev pub append_fault : Bool → Files → Key → Name → Bytes → Option Result2
-append_fault is_open m key name bytes = write_fault is_open m key name (entry_bytes (map.get m key) ++ bytes)
+abbrev pub append_fault : Limits → Bool → Files → Key → Name → Bytes → Option Result2
+append_fault limits is_open m key name bytes = write_fault limits is_open m key name (entry_bytes (map.get m key) ++ bytes)
 
 -- Append to an open output, whatever its bits say, if there is one byte or more and there is a file. Only the limits
 -- refuse it
@@ -90,9 +94,9 @@ is_put there bytes = is_some_file there && nat_lt 0 (length bytes)
 abbrev pub put_open_of : Files → Key → Name → Bytes → Files
 put_open_of m key name bytes = cond (is_put (map.get m key) bytes) (append_of m key name bytes) m
 
-abbrev pub put_open_fault : Files → Key → Name → Bytes → Option Result2
-put_open_fault m key name bytes =
-    cond (is_put (map.get m key) bytes) (full_fault (length (entry_bytes (map.get m key) ++ bytes)) (append_of m key name bytes)) None
+abbrev pub put_open_fault : Limits → Files → Key → Name → Bytes → Option Result2
+put_open_fault limits m key name bytes =
+    cond (is_put (map.get m key) bytes) (full_fault limits (length (entry_bytes (map.get m key) ++ bytes)) (append_of m key name bytes)) None
 
 -- Make a directory: the only limit that it can exceed is the number of objects
 abbrev pub make_dir_of : Files → Key → Name → Files
@@ -102,9 +106,9 @@ abbrev pub free_fault : Option Entry → Option Result2
 free_fault None = None
 free_fault (Some e) = Some OBJECT_EXISTS
 
-abbrev pub make_dir_fault : Files → Key → Name → Option Result2
-make_dir_fault m key name =
-    option_or (way_fault m [] key) (option_or (free_fault (map.get m key)) (full_fault 0 (make_dir_of m key name)))
+abbrev pub make_dir_fault : Limits → Files → Key → Name → Option Result2
+make_dir_fault limits m key name =
+    option_or (way_fault m [] key) (option_or (free_fault (map.get m key)) (full_fault limits 0 (make_dir_of m key name)))
 
 -- Delete: the files without a place. Where it is forced, bit d is not asked
 abbrev pub has_descendants : Key → Rows → Bool

@@ -1,13 +1,16 @@
 -- Files: a finite map from places to entries. The root exists and is a directory, each place above an existing one is a
--- directory, the limits hold, and each object is at the key of its names.
-use Rattle.std.specs.Prelude.{◌≡◌, ◌+◌, ◌≤◌, ℕ, Bool, false, not, List, [], ◌∷◌, ◌++◌, Option, Some, None, IsSome, IsTrue, codes, length}
+-- directory, the largest limits hold, and each object is at the key of its names.
+use Rattle.std.specs.Prelude.{◌≡◌, ◌+◌, ◌≤◌, ℕ, suc, Bool, false, not, List, [], ◌∷◌, ◌++◌, Option, Some, None, IsSome, IsTrue, codes, length}
 use Rattle.std.specs.Coded.{Coded, coded_list, coded_ℕ}
 use Rattle.std.specs.FinMap as map
 use Rattle.ados_text.specs.Text.{Bytes, folded_text}
 use Rattle.ados_text.specs.Name.{Name}
 use Rattle.ados_ram.specs.Place.{Key, key_of, last_name, place_cmp}
 use Rattle.ados_ram.specs.Entry.{is_directory, bytes_of, size_of, new_directory, coded_entry}
+use Rattle.ados_ram.specs.Limits.{file_limit, bytes_limit, objects_limit}
 use Rattle.ados_ram.specs.declared.entries.Entry.{Entry}
+use Rattle.ados_ram.specs.declared.limits.Limits.{Limits}
+use Rattle.ados_ram.specs.declared.limits.Limits.TheVariants.{Large}
 
 -- the files: the entry at each place
 abbrev pub Files : Type 0
@@ -44,23 +47,16 @@ total_of (e ∷ es) = size_of e.1 + total_of es
 abbrev pub OthersStay : (Key → Bool) → Files → Files → Type 0
 OthersStay may_change old new = (place : Key) → may_change place ≡ false → map.get new place ≡ map.get old place
 
--- the limits: bytes in one file, bytes in all, objects with the root
-abbrev pub file_limit : ℕ
-file_limit = 65536
-
-abbrev pub bytes_limit : ℕ
-bytes_limit = 1048576
-
-abbrev pub objects_limit : ℕ
-objects_limit = 1025
-
--- a tree of directories within the limits
+-- a tree of directories
 pub record IsTree (m : Files) : Type 0 where
   pub root : IsTrue (is_some_directory (map.get m []))
   pub above : (place : Key) (name : Name) (rest : Key) → IsSome (map.get m (place ++ name ∷ rest)) → IsTrue (is_some_directory (map.get m place))
-  pub each_file : (place : Key) → length (entry_bytes (map.get m place)) ≤ file_limit
-  pub all_bytes : total_of (map.entries m) ≤ bytes_limit
-  pub objects : map.len m ≤ objects_limit
+
+-- the files are within limits: the bytes of each, of all together, and the objects
+pub record IsWithin (limits : Limits) (m : Files) : Type 0 where
+  pub each_file : (place : Key) → length (entry_bytes (map.get m place)) ≤ file_limit limits
+  pub all_bytes : total_of (map.entries m) ≤ bytes_limit limits
+  pub objects : map.len m ≤ suc (objects_limit limits)
 
 -- an object is named by its key: the key's names are in lower case, and its last is the object's own, in lower case
 pub record IsNamedBy (key : Key) (e : Entry) : Type 0 where
@@ -71,9 +67,10 @@ pub record IsNamedBy (key : Key) (e : Entry) : Type 0 where
 abbrev pub AreNamed : Files → Type 0
 AreNamed m = (key : Key) (e : Entry) → map.get m key ≡ Some e → IsNamedBy key e
 
--- what all files are: a tree of directories within the limits, in which each object is at the key of its names
+-- what all files are: a tree of directories within the largest limits, in which each object is at the key of its names
 pub record AreFiles (m : Files) : Type 0 where
   pub tree : IsTree m
+  pub within : IsWithin Large m
   pub named : AreNamed m
 
 -- a directory in the root

@@ -1,6 +1,7 @@
 pub mod Place
 pub mod Entry
 pub mod InUse
+pub mod Limits
 pub mod Files
 pub mod FileOperations
 pub mod Contents
@@ -10,3 +11,5 @@ pub mod Tree
 pub mod Blocks
 pub mod Falls
 pub mod Renames
+pub mod Cut
+pub mod Starts

@@ -1,9 +1,11 @@
 -- Rows in order: the entries of the files with their places.
-use Rattle.std.specs.Prelude.{◌≡◌, ◌≤◌, ℕ, Bool, cond, [], ◌∷◌, length, IsTrue, codes}
+use Rattle.std.specs.Prelude.{◌≡◌, ◌≤◌, ℕ, suc, Bool, cond, [], ◌∷◌, length, IsTrue, codes}
 use Rattle.std.specs.FinMap as map
 use Rattle.ados_ram.specs.Place.{Key, place_cmp, is_same_key}
 use Rattle.ados_ram.specs.Entry.{new_directory}
-use Rattle.ados_ram.specs.Files.{Rows, directory_row, total_of, bytes_limit, objects_limit}
+use Rattle.ados_ram.specs.Files.{Rows, directory_row, total_of}
+use Rattle.ados_ram.specs.Limits.{bytes_limit, objects_limit}
+use Rattle.ados_ram.specs.declared.limits.Limits.TheVariants.{Large}
 use Rattle.ados_ram.specs.Contents.{is_within}
 
 -- the rows are in order, `total` is the number of bytes of their files, and `count` that of the rows
@@ -11,8 +13,8 @@ pub record AreRows (es : Rows) (total count : ℕ) : Type 0 where
   pub sorted : IsTrue (map.is_sorted place_cmp es)
   pub summed : total ≡ total_of es
   pub counted : count ≡ length es
-  pub fits : total ≤ bytes_limit
-  pub few : count ≤ objects_limit
+  pub fits : total ≤ bytes_limit Large
+  pub few : count ≤ suc (objects_limit Large)
 
 -- the rows without a place
 abbrev pub other_rows : Key → Rows → Rows

@@ -14,7 +14,8 @@ use std::alloc::Global;
 use std::marker::Model;
 use std::rc::Rc;
 
-// A block of more objects than this is split.
+// A block of more objects than this, and more than the directory has blocks, is split: so a change of a large directory
+// goes through as many blocks as a block has objects.
 const BLOCK_LIMIT: usize = 32;
 
 /// The objects of a directory. A change replaces one block; the others are shared.
@@ -110,7 +111,7 @@ impl Children {
         ensures { IfOk result (λ children. children ≡ kids.items) }
     {
         let mut blocks = Vec::new(*kids.allocator());
-        push_block(&mut blocks, kids)?;
+        push_block(&mut blocks, kids, 1)?;
         Ok(Children { blocks })
     }
 
@@ -163,16 +164,22 @@ impl Children {
         ensures { IfOk result (λ children. children ≡ replace_kid (folded_text name.now) new self.now) }
     {
         let at = block_of(&self.blocks, name);
+        let count = self.blocks.len();
         let (before, rest) = self.blocks.split_at(at);
-        let mut blocks = Vec::with_capacity(self.allocator(), self.blocks.len() + 1)?;
+        let mut blocks = Vec::with_capacity(self.allocator(), count + 1)?;
         share_blocks(&mut blocks, before)?;
         let Some((block, after)) = rest.split_first() else {
-            push_block(&mut blocks, changed(self.allocator(), &[], name, new)?)?;
+            push_block(
+                &mut blocks,
+                changed(self.allocator(), &[], name, new)?,
+                count,
+            )?;
             return Ok(Children { blocks });
         };
         push_block(
             &mut blocks,
             changed(self.allocator(), block.kids(), name, new)?,
+            count,
         )?;
         share_blocks(&mut blocks, after)?;
         Ok(Children { blocks })
@@ -200,8 +207,9 @@ fn share_blocks(out: &mut Vec<Block>, blocks: &[Block]) -> Result<(), NoMemory>
     Ok(())
 }
 
-// Appends objects as a block, or as two if they are too many for one; no objects add no block.
-fn push_block(out: &mut Vec<Block>, kids: Vec<Branch>) -> Result<(), NoMemory>
+// Appends objects as a block of a directory that has so many, or as two if they are too many for one; no objects add no
+// block.
+fn push_block(out: &mut Vec<Block>, kids: Vec<Branch>, count: usize) -> Result<(), NoMemory>
     requires { AllFull out.old.items }
     ensures kids { OnOk result (all_kids out.new.items ≡ all_kids out.old.items ++ kids.items) }
     ensures full { OnOk result (AllFull out.new.items) }
@@ -210,8 +218,9 @@ fn push_block(out: &mut Vec<Block>, kids: Vec<Branch>) -> Result<(), NoMemory>
         return Ok(());
     }
     let mut kids = kids;
-    if kids.len() > BLOCK_LIMIT {
-        let upper = kids.split_off(BLOCK_LIMIT / 2)?;
+    let limit = BLOCK_LIMIT.max(count);
+    if kids.len() > limit {
+        let upper = kids.split_off(limit / 2)?;
         out.push(Block::new(kids)?)?;
         out.push(Block::new(upper)?)?;
         return Ok(());

@@ -96,7 +96,7 @@ pub struct Entry {
 }
 
 impl Entry {
-    ghost use Rattle.ados_ram.specs.Entry.{is_directory, bytes_of, bytes_or_none, new_directory, file_entry_with_bits, with_bits, with_comment, renamed_entry};
+    ghost use Rattle.ados_ram.specs.Entry.{is_directory, bytes_of, bytes_or_none, size_of, new_directory, file_entry_with_bits, with_bits, with_comment, renamed_entry};
 
     /// Whether it is a directory.
     pub fn is_directory(&self) -> bool
@@ -108,23 +108,23 @@ impl Entry {
         }
     }
 
-    /// The bytes of a file; a directory has none.
-    pub fn bytes(&self) -> &[u8]
-        ensures { result.now ≡ bytes_of self.now }
-    {
-        match &self.body {
-            Body::Directory => &[],
-            Body::File(bytes) => bytes.as_bytes(),
-        }
-    }
-
-    /// The shared bytes of a file; none of a directory.
-    pub fn file(&self) -> Option<&FileBytes>
+    /// The bytes of a file; none of a directory.
+    pub fn bytes(&self) -> Option<&FileBytes>
         ensures { bytes_or_none (option_copied result) ≡ bytes_of self.now }
     {
         match &self.body {
             Body::Directory => None,
             Body::File(bytes) => Some(bytes),
+        }
+    }
+
+    /// The number of bytes of a file; 0 of a directory.
+    pub fn len(&self) -> usize
+        ensures { result ≡ size_of self.now }
+    {
+        match &self.body {
+            Body::Directory => 0,
+            Body::File(bytes) => bytes.len(),
         }
     }
 

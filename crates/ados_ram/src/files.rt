@@ -5,7 +5,7 @@ ghost use Rattle.std.specs.FinMap as map;
 ghost use Rattle.ados_ram.specs.Place.{key_of, last_name};
 ghost use Rattle.ados_ram.specs.Files.{AreFiles, entry_bytes, first_files};
 ghost use Rattle.ados_ram.specs.InUse.{is_output};
-ghost use Rattle.ados_ram.specs.FileOperations.{read_fault, list_fault, child_names, write_of, write_fault, write_as_of, append_of, append_fault, put_open_of, put_open_fault};
+ghost use Rattle.ados_ram.specs.FileOperations.{read_fault, list_fault, child_names};
 ghost use Rattle.ados_text.specs.Stop.{Answers};
 ghost use Rattle.ados_ram.specs.FileOperations.{make_dir_of, make_dir_fault, delete_fault, rename_of, rename_fault, protect_of, protect_fault, comment_of, comment_fault};
 ghost use Rattle.ados_ram.specs.Contents.{children, contents, directory_files};
@@ -15,13 +15,14 @@ ghost use Rattle.ados_ram.specs.Written.{written_place, full_path};
 use crate::contents::{child_names, children, directory_files};
 use crate::cursors::Cursor;
 use crate::entries::{Bits, COMMENT_LIMIT, Entry};
+use crate::file_bytes::FileBytes;
 use crate::in_use::Busy;
+use crate::limits::Limits;
 use crate::places::Place;
 use crate::refusals::{
-    changeable, delete_refusal, list_refusal, make_dir_refusal, put_refusal, read_refusal,
-    rename_refusal,
+    changeable, delete_refusal, list_refusal, make_dir_refusal, readable, rename_refusal,
 };
-use crate::table::{Table, entry_bytes, entry_file};
+use crate::table::Table;
 use ados_text::{Name, NoMemory, Result2, Stop, Text};
 use std::alloc::Global;
 use std::marker::Model;
@@ -77,15 +78,12 @@ impl Ram {
     ///
     /// 205 (object not found) if there is nothing, 212 (wrong type of object) for a directory, 202 (object in use)
     /// for an open output, 224 (read protected) without bit r.
-    pub fn read(&self, busy: &Busy, place: &Place) -> Result<&[u8], Result2>
+    pub fn read(&self, busy: &Busy, place: &Place) -> Result<&FileBytes, Result2>
         ensures ok { IfOk result (λ bytes. bytes.now ≡ entry_bytes (map.get self.now (key_of place.now))) }
         ensures fault { result_err result ≡ read_fault (is_output busy.now (key_of place.now)) (map.get self.now (key_of place.now)) }
     {
         let entry = self.table.find(place.names());
-        match read_refusal(busy.is_output(place.names()), entry) {
-            Some(fault) => Err(fault),
-            None => Ok(entry_bytes(entry)),
-        }
+        readable(busy.is_output(place.names()), entry)
     }
 
     /// The names directly in a directory, as they are written, in the order of the names in lower case.
@@ -104,78 +102,15 @@ impl Ram {
         }
     }
 
-    /// Writes a file: the files in which it holds these bytes. An existing one keeps its name, its comment and its bits,
-    /// except for bit a; a new one takes the name as it is written here and the bits `----rwed`.
-    ///
-    /// 204 (directory not found) if a directory above does not exist, 212 (wrong type of object) if a file is in its
-    /// place; 212 (wrong type of object) for a directory, 202 (object in use) for an open output, 223 (write protected)
-    /// without bit w; 221 (disk full) for a file of more than 65,536 bytes, for more than 1,048,576 bytes in all, or for
-    /// more than 1,024 objects.
-    pub fn write(&self, busy: &Busy, place: &Place, bytes: &[u8]) -> Result<Ram, Stop>
-        ensures ok { IfOk result (λ new. new ≡ write_of self.now (key_of place.now) (last_name place.now) bytes.now) }
-        ensures fault { Answers result (write_fault (is_output busy.now (key_of place.now)) self.now (key_of place.now) (last_name place.now) bytes.now) }
-    {
-        self.put(busy, place, None, bytes, Bits::FRESH)
-    }
-
-    /// Writes a file as `write` does, but a new one takes these bits.
-    ///
-    /// 204 (directory not found), 212 (wrong type of object), 202 (object in use), 223 (write protected) and 221 (disk
-    /// full), each when `write` gives it.
-    pub fn write_as(
-        &self,
-        busy: &Busy,
-        place: &Place,
-        bytes: &[u8],
-        bits: Bits,
-    ) -> Result<Ram, Stop>
-        ensures ok { IfOk result (λ new. new ≡ write_as_of self.now (key_of place.now) (last_name place.now) bytes.now bits) }
-        ensures fault { Answers result (write_fault (is_output busy.now (key_of place.now)) self.now (key_of place.now) (last_name place.now) bytes.now) }
-    {
-        self.put(busy, place, None, bytes, bits)
-    }
-
-    /// Appends bytes to a file; a file that does not exist is created.
-    ///
-    /// 204 (directory not found), 212 (wrong type of object), 202 (object in use) and 223 (write protected), each when
-    /// `write` gives it; 221 (disk full) when `write` gives it for the bytes that the file would then hold.
-    pub fn append(&self, busy: &Busy, place: &Place, bytes: &[u8]) -> Result<Ram, Stop>
-        ensures ok { IfOk result (λ new. new ≡ append_of self.now (key_of place.now) (last_name place.now) bytes.now) }
-        ensures fault { Answers result (append_fault (is_output busy.now (key_of place.now)) self.now (key_of place.now) (last_name place.now) bytes.now) }
-    {
-        self.put(
-            busy,
-            place,
-            entry_file(self.table.find(place.names())),
-            bytes,
-            Bits::FRESH,
-        )
-    }
-
-    /// Appends bytes to an output that is open, whatever its bits have become. Its bit a is cleared by one byte or more;
-    /// no bytes change nothing, and if there is no file the bytes are discarded.
-    ///
-    /// 221 (disk full) when `write` gives it for the bytes that the file would then hold, and only if there is a file
-    /// and a byte to append.
-    pub fn put_open(&self, place: &Place, bytes: &[u8]) -> Result<Ram, Stop>
-        ensures ok { IfOk result (λ new. new ≡ put_open_of self.now (key_of place.now) (last_name place.now) bytes.now) }
-        ensures fault { Answers result (put_open_fault self.now (key_of place.now) (last_name place.now) bytes.now) }
-    {
-        match put_refusal(&self.table, place.names(), bytes) {
-            Some(fault) => Err(Stop::Refused(fault)),
-            None => Ok(self.with_put(place, bytes)?),
-        }
-    }
-
     /// Creates a directory, which takes the name as it is written here and the bits `----rwed`.
     ///
     /// 204 (directory not found) if a directory above does not exist, 212 (wrong type of object) if a file is in its
-    /// place; 203 (object exists) if there is an object already; 221 (disk full) for more than 1,024 objects.
-    pub fn make_dir(&self, place: &Place) -> Result<Ram, Stop>
+    /// place; 203 (object exists) if there is an object already; 221 (disk full) for more objects than the limits allow.
+    pub fn make_dir(&self, limits: Limits, place: &Place) -> Result<Ram, Stop>
         ensures ok { IfOk result (λ new. new ≡ make_dir_of self.now (key_of place.now) (last_name place.now)) }
-        ensures fault { Answers result (make_dir_fault self.now (key_of place.now) (last_name place.now)) }
+        ensures fault { Answers result (make_dir_fault limits self.now (key_of place.now) (last_name place.now)) }
     {
-        match make_dir_refusal(&self.table, place.names()) {
+        match make_dir_refusal(limits, &self.table, place.names()) {
             Some(fault) => Err(Stop::Refused(fault)),
             None => {
                 let entry = Entry::directory(self.alloc, place.last_name()?)?;

@@ -5,10 +5,11 @@ ghost use Rattle.std.specs.FinMap as map;
 ghost use Rattle.ados_text.specs.Text.{Bytes, Text};
 ghost use Rattle.ados_text.specs.Name.{Name, name_cmp};
 ghost use Rattle.ados_ram.specs.declared.entries.Bits.{Bits};
+ghost use Rattle.ados_ram.specs.declared.limits.Limits.{Limits};
 ghost use Rattle.ados_ram.specs.InUse.{InUse};
 ghost use Rattle.ados_ram.specs.Place.{Key, Place, key_of, last_name, place_cmp, is_same_key, is_child, is_below, is_at_or_below};
-ghost use Rattle.ados_ram.specs.Files.{AreNamed, Files, IsTree, first_files, is_some_file, OthersStay};
-ghost use Rattle.ados_ram.specs.FileOperations.{write_of, write_as_of, append_of, put_open_of, make_dir_of, rename_fault, rename_of, protect_of, comment_of};
+ghost use Rattle.ados_ram.specs.Files.{AreNamed, Files, IsTree, IsWithin, first_files, is_some_file, OthersStay};
+ghost use Rattle.ados_ram.specs.FileOperations.{write_of, write_as_of, write_fault, append_of, append_fault, put_open_of, put_open_fault, make_dir_of, make_dir_fault, rename_fault, rename_of, protect_of, comment_of};
 ghost use Rattle.ados_ram.specs.Renames.{RenamesMove};
 ghost use Rattle.ados_ram.specs.Contents.{children, contents, is_within, directory_files, contents_cmp, ListsJust};
 
@@ -58,4 +59,25 @@ pub fn objects_keep_their_names()
         AreNamed files → AreNamed (rename_of files (key_of from) (key_of to) (last_name to)) }
     ensures protect { (files : Files) (key : Key) (bits : Bits) → AreNamed files → AreNamed (protect_of files key bits) }
     ensures comment { (files : Files) (key : Key) (comment : Text) → AreNamed files → AreNamed (comment_of files key comment) }
+{}
+
+/// Files stay within the limits: the initial files are within them, and each operation that these limits do not refuse
+/// keeps it.
+pub fn limits_hold()
+    ensures first { (limits : Limits) → IsWithin limits first_files }
+    ensures write { (limits : Limits) (is_open : Bool) (files : Files) (key : Key) (name : Name) (bytes : Bytes) → write_fault limits is_open files key name bytes ≡ None →
+        IsWithin limits files → IsWithin limits (write_of files key name bytes) }
+    ensures write_as { (limits : Limits) (is_open : Bool) (files : Files) (key : Key) (name : Name) (bytes : Bytes) (bits : Bits) → write_fault limits is_open files key name bytes ≡ None →
+        IsWithin limits files → IsWithin limits (write_as_of files key name bytes bits) }
+    ensures append { (limits : Limits) (is_open : Bool) (files : Files) (key : Key) (name : Name) (bytes : Bytes) → append_fault limits is_open files key name bytes ≡ None →
+        IsWithin limits files → IsWithin limits (append_of files key name bytes) }
+    ensures put_open { (limits : Limits) (files : Files) (key : Key) (name : Name) (bytes : Bytes) → put_open_fault limits files key name bytes ≡ None →
+        IsWithin limits files → IsWithin limits (put_open_of files key name bytes) }
+    ensures make_dir { (limits : Limits) (files : Files) (key : Key) (name : Name) → make_dir_fault limits files key name ≡ None →
+        IsWithin limits files → IsWithin limits (make_dir_of files key name) }
+    ensures delete { (limits : Limits) (files : Files) (key : Key) → IsWithin limits files → IsWithin limits (map.remove files key) }
+    ensures rename { (limits : Limits) (busy : InUse) (files : Files) (from to : Key) (name : Name) → IsTree files → rename_fault busy files from to ≡ None →
+        IsWithin limits files → IsWithin limits (rename_of files from to name) }
+    ensures protect { (limits : Limits) (files : Files) (key : Key) (bits : Bits) → IsWithin limits files → IsWithin limits (protect_of files key bits) }
+    ensures comment { (limits : Limits) (files : Files) (key : Key) (comment : Text) → IsWithin limits files → IsWithin limits (comment_of files key comment) }
 {}

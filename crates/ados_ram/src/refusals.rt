@@ -6,38 +6,36 @@ ghost use Rattle.std.specs.FinMap as map;
 ghost use Rattle.ados_ram.specs.declared.entries.Entry.{Entry};
 ghost use Rattle.ados_ram.specs.Place.{key_of};
 ghost use Rattle.ados_ram.specs.Entry.{size_of};
+ghost use Rattle.ados_ram.specs.Files.{entry_bytes};
 ghost use Rattle.ados_ram.specs.FileOperations.{read_fault, list_fault, write_target_fault, write_fault, full_fault, is_put, put_open_fault, free_fault, make_dir_fault, delete_fault, rename_target_fault, rename_fault, change_fault};
 
-use crate::entries::Entry;
+use crate::entries::{Body, Entry};
+use crate::file_bytes::FileBytes;
 use crate::in_use::Busy;
+use crate::limits::Limits;
+use crate::new_bytes::NewBytes;
 use crate::places::{is_below, is_same};
-use crate::table::{Table, entry_bytes};
+use crate::table::{Table, entry_len};
 use ados_text::{Name, Result2};
 
-/// The most bytes of a file.
-pub const FILE_LIMIT: usize = 65_536;
-/// The most bytes of all files together.
-pub const BYTES_LIMIT: usize = 1_048_576;
-/// The most objects, with the root.
-pub const OBJECTS_LIMIT: usize = 1_025;
-
-/// Why a file is not read; `is_open` says that it is an open output.
-pub fn read_refusal(is_open: bool, entry: Option<&Entry>) -> Option<Result2>
-    ensures { result ≡ read_fault is_open (option_copied entry.entry) }
+/// The bytes of a file, or why it is not read; `is_open` says that it is an open output.
+pub fn readable(is_open: bool, entry: Option<&Entry>) -> Result<&FileBytes, Result2>
+    ensures ok { IfOk result (λ bytes. bytes.now ≡ entry_bytes (option_copied entry.entry)) }
+    ensures fault { result_err result ≡ read_fault is_open (option_copied entry.entry) }
 {
     let Some(entry) = entry else {
-        return Some(Result2::OBJECT_NOT_FOUND);
+        return Err(Result2::OBJECT_NOT_FOUND);
     };
-    if entry.is_directory() {
-        return Some(Result2::WRONG_TYPE);
-    }
+    let Body::File(bytes) = &entry.body else {
+        return Err(Result2::WRONG_TYPE);
+    };
     if is_open {
-        return Some(Result2::OBJECT_IN_USE);
+        return Err(Result2::OBJECT_IN_USE);
     }
     if entry.bits.read {
-        None
+        Ok(bytes)
     } else {
-        Some(Result2::READ_PROTECTED)
+        Err(Result2::READ_PROTECTED)
     }
 }
 
@@ -52,20 +50,21 @@ pub fn list_refusal(entry: Option<&Entry>) -> Option<Result2>
     }
 }
 
-/// Why bytes are not written at a place after those that are kept there; `is_open` says that it is an open output.
+/// Why bytes are not written at a place; `is_open` says that it is an open output.
 pub fn write_refusal(
+    limits: Limits,
     is_open: bool,
     table: &Table,
     names: &[Name],
-    kept: usize,
-    more: usize,
+    bytes: &NewBytes<'_>,
 ) -> Option<Result2>
-    ensures { (name bytes : List ℕ) → length bytes ≡ kept + more → result ≡ write_fault is_open table.now (key_of names.now) name bytes }
+    ensures { (name : List ℕ) → result ≡ write_fault limits is_open table.now (key_of names.now) name bytes.now }
 {
+    let (kept, more) = bytes.lengths();
     table
         .way(names)
         .or(write_target(is_open, table.find(names)))
-        .or(limits(table, names, kept, more))
+        .or(full(limits, table, names, kept, more))
 }
 
 /// Whether bytes that are appended to an open output change something: there is one or more, and there is a file.
@@ -79,25 +78,25 @@ pub fn is_put(entry: Option<&Entry>, bytes: &[u8]) -> bool
 }
 
 /// Why bytes are not appended to an open output.
-pub fn put_refusal(table: &Table, names: &[Name], bytes: &[u8]) -> Option<Result2>
-    ensures { (name : List ℕ) → result ≡ put_open_fault table.now (key_of names.now) name bytes.now }
+pub fn put_refusal(limits: Limits, table: &Table, names: &[Name], bytes: &[u8]) -> Option<Result2>
+    ensures { (name : List ℕ) → result ≡ put_open_fault limits table.now (key_of names.now) name bytes.now }
 {
     let entry = table.find(names);
     if is_put(entry, bytes) {
-        limits(table, names, entry_bytes(entry).len(), bytes.len())
+        full(limits, table, names, entry_len(entry), bytes.len())
     } else {
         None
     }
 }
 
 /// Why a directory is not created.
-pub fn make_dir_refusal(table: &Table, names: &[Name]) -> Option<Result2>
-    ensures { (name : List ℕ) → result ≡ make_dir_fault table.now (key_of names.now) name }
+pub fn make_dir_refusal(limits: Limits, table: &Table, names: &[Name]) -> Option<Result2>
+    ensures { (name : List ℕ) → result ≡ make_dir_fault limits table.now (key_of names.now) name }
 {
     table
         .way(names)
         .or(free(table.find(names)))
-        .or(limits(table, names, 0, 0))
+        .or(full(limits, table, names, 0, 0))
 }
 
 /// Why an object is not deleted; `force` says that bit d is not asked.
@@ -185,16 +184,17 @@ fn write_target(is_open: bool, entry: Option<&Entry>) -> Option<Result2>
 }
 
 // The fault of the limits, if the object at a place then holds the bytes that are kept and more.
-fn limits(table: &Table, names: &[Name], kept: usize, more: usize) -> Option<Result2>
-    ensures { (new : Entry) → size_of new ≡ kept + more → result ≡ full_fault (kept + more) (map.insert table.now (key_of names.now) new) }
+fn full(limits: Limits, table: &Table, names: &[Name], kept: usize, more: usize) -> Option<Result2>
+    ensures { (new : Entry) → size_of new ≡ kept + more → result ≡ full_fault limits (kept + more) (map.insert table.now (key_of names.now) new) }
 {
-    if kept > FILE_LIMIT || more > FILE_LIMIT - kept {
+    let beside = table.bytes_beside(names);
+    if kept > limits.file() || more > limits.file() - kept {
         return Some(Result2::DISK_FULL);
     }
-    if kept + more > BYTES_LIMIT - table.bytes_beside(names) {
+    if beside > limits.bytes() || kept + more > limits.bytes() - beside {
         return Some(Result2::DISK_FULL);
     }
-    if table.objects_with(names) > OBJECTS_LIMIT {
+    if table.objects_with(names) > limits.objects() + 1 {
         return Some(Result2::DISK_FULL);
     }
     None

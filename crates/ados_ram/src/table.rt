@@ -1,11 +1,13 @@
 // The table of all objects, in a tree: the files as a map.
-ghost use Rattle.std.specs.Prelude.{◌≡◌, ◌+◌, ◌≤◌, [], false, IfOk, IsSome};
+ghost use Rattle.std.specs.Prelude.{◌≡◌, ◌+◌, ◌≤◌, [], false, length, IfOk, IsSome};
 ghost use Rattle.std.specs.Option.{option_copied};
 ghost use Rattle.std.specs.FinMap as map;
 ghost use Rattle.ados_ram.specs.declared.entries.Entry.{Entry};
 ghost use Rattle.ados_ram.specs.Place.{key_of, is_root, last_name};
 ghost use Rattle.ados_ram.specs.Entry.{size_of, bytes_or_none};
-ghost use Rattle.ados_ram.specs.Files.{IsTree, entry_bytes, total_of, bytes_limit, first_files};
+ghost use Rattle.ados_ram.specs.Files.{AreFiles, entry_bytes, total_of, first_files};
+ghost use Rattle.ados_ram.specs.Limits.{bytes_limit};
+ghost use Rattle.ados_ram.specs.declared.limits.Limits.TheVariants.{Large};
 ghost use Rattle.ados_ram.specs.FileOperations.{has_descendants, rename_of, way_fault};
 ghost use Rattle.ados_ram.specs.Contents.{contents};
 ghost use Rattle.ados_ram.specs.Rows.{inner_rows};
@@ -128,9 +130,9 @@ impl Table {
     /// The number of bytes of all files except the one at a place.
     pub fn bytes_beside(&self, names: &[Name]) -> usize
         ensures total { (new : Entry) → total_of (map.entries (map.insert self.now (key_of names.now) new)) ≡ size_of new + result }
-        ensures fits { result ≤ bytes_limit }
+        ensures fits { result ≤ bytes_limit Large }
     {
-        self.total - entry_bytes(self.find(names)).len()
+        self.total - entry_len(self.find(names))
     }
 
     /// The number of objects if there is one at this place.
@@ -146,11 +148,11 @@ impl Table {
     /// The table with an entry at a place, which is not the root.
     pub fn with(&self, place: &Place, entry: Entry) -> Result<Table, NoMemory>
         requires root { is_root (key_of place.now) ≡ false }
-        requires files { IsTree (map.insert self.now (key_of place.now) entry) }
+        requires files { AreFiles (map.insert self.now (key_of place.now) entry) }
         ensures { IfOk result (λ new. new ≡ map.insert self.now (key_of place.now) entry) }
     {
         let there = self.root.at(place.names());
-        let total = self.bytes_beside(place.names()) + entry.bytes().len();
+        let total = self.bytes_beside(place.names()) + entry.len();
         let count = self.objects_with(place.names());
         let new = with_entry(self.alloc, there, place, entry)?;
         Ok(Table {
@@ -208,22 +210,22 @@ impl Table {
 }
 
 /// The bytes of an entry; none if there is no file.
-pub fn entry_bytes(entry: Option<&Entry>) -> &[u8]
-    ensures { result.now ≡ entry_bytes (option_copied entry.entry) }
-{
-    match entry {
-        None => &[],
-        Some(entry) => entry.bytes(),
-    }
-}
-
-/// The shared bytes of an entry; none if there is no file.
-pub fn entry_file(entry: Option<&Entry>) -> Option<&FileBytes>
+pub fn entry_bytes(entry: Option<&Entry>) -> Option<&FileBytes>
     ensures { bytes_or_none (option_copied result) ≡ entry_bytes (option_copied entry.entry) }
 {
     match entry {
         None => None,
-        Some(entry) => entry.file(),
+        Some(entry) => entry.bytes(),
+    }
+}
+
+/// The number of bytes of an entry; 0 if there is no file.
+pub fn entry_len(entry: Option<&Entry>) -> usize
+    ensures { result ≡ length (entry_bytes (option_copied entry.entry)) }
+{
+    match entry {
+        None => 0,
+        Some(entry) => entry.len(),
     }
 }
 

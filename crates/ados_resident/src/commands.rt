@@ -1,6 +1,8 @@
 // The table of commands. Each is internal or in C:, has a name, and is implemented by one of three crates.
 ghost use Rattle.std.specs.Prelude.{◌≡◌};
-ghost use Rattle.ados_resident.specs.Commands.{disk_builtin, disk_name, internal_builtin, internal_name};
+ghost use Rattle.ados_resident.specs.Commands.{disk_builtin, disk_commands, disk_name, internal_builtin, internal_name};
+
+use crate::dialects::Dialect;
 
 /// The commands that neither control flow nor work on files: those of `ados_env`.
 #[derive(Clone, Copy)]
@@ -40,6 +42,7 @@ pub enum FilesCommand {
     MakeDir,
     Protect,
     Rename,
+    Sort,
     Type,
 }
 
@@ -192,7 +195,7 @@ impl InternalCommand {
     }
 }
 
-/// The disk commands: each is a program file in C:.
+/// The disk commands: each is a program file in C:. Sort is one in the dialect Full alone.
 #[derive(Clone, Copy)]
 pub enum DiskCommand {
     Assign,
@@ -208,14 +211,15 @@ pub enum DiskCommand {
     MakeDir,
     Protect,
     Rename,
+    Sort,
     Status,
     Type,
     Which,
 }
 
 impl DiskCommand {
-    /// All disk commands, in the order of their names.
-    pub const ALL: [DiskCommand; 16] = [
+    /// The disk commands of Core, in the order of their names.
+    pub const CORE: [DiskCommand; 16] = [
         DiskCommand::Assign,
         DiskCommand::Break,
         DiskCommand::Copy,
@@ -233,6 +237,37 @@ impl DiskCommand {
         DiskCommand::Type,
         DiskCommand::Which,
     ];
+
+    /// All disk commands, which are those of Full, in the order of their names.
+    pub const ALL: [DiskCommand; 17] = [
+        DiskCommand::Assign,
+        DiskCommand::Break,
+        DiskCommand::Copy,
+        DiskCommand::Delete,
+        DiskCommand::Dir,
+        DiskCommand::Eval,
+        DiskCommand::Execute,
+        DiskCommand::Filenote,
+        DiskCommand::Join,
+        DiskCommand::List,
+        DiskCommand::MakeDir,
+        DiskCommand::Protect,
+        DiskCommand::Rename,
+        DiskCommand::Sort,
+        DiskCommand::Status,
+        DiskCommand::Type,
+        DiskCommand::Which,
+    ];
+
+    /// The disk commands of a dialect, in the order of their names.
+    pub fn of_dialect(dialect: Dialect) -> &'static [DiskCommand]
+        ensures { result.now ≡ disk_commands dialect }
+    {
+        match dialect {
+            Dialect::Core => &DiskCommand::CORE,
+            Dialect::Full => &DiskCommand::ALL,
+        }
+    }
 
     /// Its name.
     pub fn name(self) -> &'static str
@@ -252,6 +287,7 @@ impl DiskCommand {
             DiskCommand::MakeDir => "MakeDir",
             DiskCommand::Protect => "Protect",
             DiskCommand::Rename => "Rename",
+            DiskCommand::Sort => "Sort",
             DiskCommand::Status => "Status",
             DiskCommand::Type => "Type",
             DiskCommand::Which => "Which",
@@ -276,6 +312,7 @@ impl DiskCommand {
             DiskCommand::MakeDir => Builtin::Files(FilesCommand::MakeDir),
             DiskCommand::Protect => Builtin::Files(FilesCommand::Protect),
             DiskCommand::Rename => Builtin::Files(FilesCommand::Rename),
+            DiskCommand::Sort => Builtin::Files(FilesCommand::Sort),
             DiskCommand::Status => Builtin::Env(EnvCommand::Status),
             DiskCommand::Type => Builtin::Files(FilesCommand::Type),
             DiskCommand::Which => Builtin::Env(EnvCommand::Which),

@@ -4,6 +4,7 @@ ghost use Rattle.ados_resident.specs.Commands.{disk_name, internal_name};
 ghost use Rattle.ados_resident.specs.Names.{disk_named, first_with_name, internal_named};
 
 use crate::commands::{DiskCommand, InternalCommand};
+use crate::dialects::Dialect;
 use ados_text::{Text, same_name};
 
 impl InternalCommand {
@@ -29,12 +30,12 @@ fn first_internal(word: &Text, commands: &[InternalCommand]) -> Option<InternalC
 }
 
 impl DiskCommand {
-    /// The disk command with this name; case is ignored.
+    /// The disk command of a dialect with this name; case is ignored.
     #[tactic(auto, unfolding(crate::specs::Names::disk_named))]
-    pub fn named(name: &[u8]) -> Option<DiskCommand>
-        ensures { result ≡ disk_named name.now }
+    pub fn named(dialect: Dialect, name: &[u8]) -> Option<DiskCommand>
+        ensures { result ≡ disk_named dialect name.now }
     {
-        first_disk(name, &DiskCommand::ALL)
+        first_disk(name, DiskCommand::of_dialect(dialect))
     }
 }
 

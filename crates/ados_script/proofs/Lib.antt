@@ -5,3 +5,4 @@ mod LineLemmas
 pub mod ListLemmas
 pub mod SkipLemmas
 pub mod TableLemmas
+mod PhraseLemmas

@@ -5,6 +5,7 @@ use Rattle.std.specs.List.{filter, find}
 use Rattle.std.specs.List.Sorted.{IsSortedByKey}
 use Rattle.ados_text.specs.Text.{Text, folded_text, is_same}
 use Rattle.ados_text.specs.Name.{name_cmp}
+use Rattle.ados_resident.specs.declared.dialects.Dialect.{Dialect}
 use Rattle.ados_script.specs.declared.heads.Head.{Head}
 use Rattle.ados_script.specs.declared.heads.Head.TheVariants.{If, Else, EndIf, Lab}
 use Rattle.ados_script.specs.declared.blocks.Ends.{Ends}
@@ -15,7 +16,8 @@ use Rattle.ados_script.specs.declared.jumps.Jump.TheVariants.{To, EndSkip as Aft
 use Rattle.ados_script.specs.Heads.{head_of, label_of}
 use Rattle.ados_script.specs.Lines.{line_of, is_some_and, numbers_below}
 use Rattle.ados_script.specs.Blocks.{ends_block}
-use Rattle.ados_script.specs.Skips.{is_end_skip_at}
+use Rattle.ados_script.specs.Phrases.{phrase_of}
+use Rattle.ados_script.specs.Skips.{is_end_skip_at, is_sought}
 
 -- where the block that line i begins or stands in ends, by the kinds of the script's lines: at the first EndIf below it at depth 0, and
 -- at the first Else or EndIf there
@@ -64,29 +66,33 @@ is_lab _ = false
 abbrev pub is_lab_at : List Text → ℕ → Bool
 is_lab_at lines j = is_some_and (λ line. is_lab (head_of line)) (line_of lines j)
 
--- the first of some lines that is below line i
-abbrev pub first_below : List ℕ → ℕ → Option ℕ
-first_below numbers i = find (λ line. nat_lt i line) numbers
-
 abbrev pub text_or : Option Text → Text
 text_or None = []
 text_or (Some line) = line
 
--- the label of line j, with its number
-abbrev pub label_at : List Text → ℕ → Label
-label_at lines j = record { text = label_of (text_or (line_of lines j)); line = j }
+-- line j is a Lab that is looked for
+abbrev pub sought_at : Dialect → Option Text → List Text → ℕ → Bool
+sought_at dialect label lines j = is_lab_at lines j && is_sought dialect label (text_or (line_of lines j))
+
+-- the first of some lines that is below line i
+abbrev pub first_below : List ℕ → ℕ → Option ℕ
+first_below numbers i = find (λ line. nat_lt i line) numbers
+
+-- the label of line j, with its number; `text_of` gives the label that a line has
+abbrev pub label_at : (Text → Text) → List Text → ℕ → Label
+label_at text_of lines j = record { text = text_of (text_or (line_of lines j)); line = j }
 
 -- the labels of the Lab lines below line i, in the order of the lines
-abbrev pub labels_below : List Text → ℕ → List Label
-labels_below lines i = map (label_at lines) (filter (is_lab_at lines) (numbers_below lines i))
+abbrev pub labels_below : (Text → Text) → List Text → ℕ → List Label
+labels_below text_of lines i = map (label_at text_of lines) (filter (is_lab_at lines) (numbers_below lines i))
 
 abbrev pub has_text : Text → Label → Bool
 has_text text label = is_same label.text text
 
 -- the labels are in the order of their texts, ignoring case, and those with the same text in the order of their lines
-pub record AreByText (lines : List Text) (labels : List Label) : Type 0 where
+pub record AreByText (text_of : Text → Text) (lines : List Text) (labels : List Label) : Type 0 where
   pub sorted : IsSortedByKey (λ (label : Label). folded_text label.text) name_cmp labels
-  pub all : (text : Text) → filter (has_text text) labels ≡ filter (has_text text) (labels_below lines 0)
+  pub all : (text : Text) → filter (has_text text) labels ≡ filter (has_text text) (labels_below text_of lines 0)
 
 -- the tables are those of these lines, which are few enough that the one after the last has a number too
 pub record AreTables (lines : List Text) (tables : Tables) : Type 0 where
@@ -94,7 +100,14 @@ pub record AreTables (lines : List Text) (tables : Tables) : Type 0 where
   pub ends : (i : ℕ) → kept_ends tables.ends.items i ≡ first_ends (map head_of lines) i
   pub end_skips : tables.end_skips.items ≡ filter (is_end_skip_at lines) (numbers_below lines 0)
   pub labs : tables.labs.items ≡ filter (is_lab_at lines) (numbers_below lines 0)
-  pub labels : AreByText lines tables.labels.items
+  pub labels : AreByText label_of lines tables.labels.items
+  pub phrases : AreByText phrase_of lines tables.phrases.items
+
+-- the nearer of two lines, of which one may not be there
+abbrev pub nearer_of : Option ℕ → Option ℕ → Option ℕ
+nearer_of None other = other
+nearer_of (Some line) None = Some line
+nearer_of (Some line) (Some other) = if nat_lt line other then Some line else Some other
 
 -- the jump to after the Lab or the EndSkip that was found, whichever comes first
 abbrev pub jump_past_first : Option ℕ → Option ℕ → Jump

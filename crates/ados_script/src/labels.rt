@@ -1,5 +1,5 @@
-// The labels of Lab lines, in the order of their texts. A search compares the bytes in place, and allocates nothing.
-ghost use Rattle.std.specs.Prelude.{◌≡◌, ℕ, List, nat_lt, IfOk, OnOk};
+//! The labels of Lab lines, in the order of their texts. A search compares the bytes in place, and allocates nothing.
+ghost use Rattle.std.specs.Prelude.{◌≡◌, ℕ, List, reverse, nat_lt, IfOk, OnOk};
 ghost use Rattle.std.specs.List.{filter, find};
 ghost use Rattle.std.specs.List.Sorted.{IsNonDecreasingBy, IsSortedByKey};
 ghost use Rattle.std.specs.Option.{option_copied, option_map};
@@ -23,6 +23,15 @@ pub struct Label {
     pub line: usize,
 }
 
+impl Label {
+    /// A label of the line of a number.
+    pub fn new(text: Name, line: usize) -> Label
+        ensures { result ≡ record { text = text; line = line } }
+    {
+        Label { text, line }
+    }
+}
+
 /// The label of a Lab line: the text of its second item, empty if there is none and for an open quote.
 pub fn read_label(alloc: Global, line: &Text) -> Result<Name, NoMemory>
     ensures { IfOk result (λ text. text ≡ label_of line.now) }
@@ -35,8 +44,19 @@ pub fn read_label(alloc: Global, line: &Text) -> Result<Name, NoMemory>
     Ok(Name::new(text))
 }
 
-/// Sorts labels by their texts; those with the same text keep their order.
-pub fn sort(labels: &mut Vec<Label>) -> Result<(), NoMemory>
+/// Labels that were read from the last one up, in the order of their texts; those with the same text in that of their lines.
+pub fn in_order(labels: Vec<Label>) -> Result<Vec<Label>, NoMemory>
+    ensures sorted { IfOk result (λ sorted. IsSortedByKey (λ (label : Label). folded_text label.text) name_cmp sorted.items) }
+    ensures all { IfOk result (λ sorted. (text : List ℕ) → filter (has_text text) sorted.items ≡ filter (has_text text) (reverse labels.items)) }
+{
+    let mut labels = labels;
+    labels.reverse();
+    sort(&mut labels)?;
+    Ok(labels)
+}
+
+// Sorts labels by their texts; those with the same text keep their order.
+fn sort(labels: &mut Vec<Label>) -> Result<(), NoMemory>
     ensures sorted { OnOk result (IsSortedByKey (λ (label : Label). folded_text label.text) name_cmp labels.new.items) }
     ensures stable { OnOk result ((text : List ℕ) → filter (has_text text) labels.new.items ≡ filter (has_text text) labels.old.items) }
 {

@@ -5,6 +5,7 @@ mod blocks;
 mod heads;
 mod jumps;
 mod labels;
+mod phrases;
 mod scripts;
 mod skips;
 mod tables;

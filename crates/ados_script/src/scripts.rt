@@ -1,15 +1,19 @@
-ghost use Rattle.std.specs.Prelude.{◌≡◌, IfOk};
+//! The lines of a script, and where its jumps lead.
+ghost use Rattle.std.specs.Prelude.{◌≡◌, Some, IfOk};
+ghost use Rattle.std.specs.List.{find};
 ghost use Rattle.std.specs.Option.{option_copied, option_map};
 ghost use Rattle.ados_script.specs.Blocks.{after_if, after_else};
 ghost use Rattle.ados_script.specs.Jumps.{LeadsWithin};
-ghost use Rattle.ados_script.specs.Lines.{line_of};
+ghost use Rattle.ados_script.specs.Lines.{line_of, numbers_below};
 ghost use Rattle.ados_script.specs.Skips.{skip};
+ghost use Rattle.ados_script.specs.Tables.{sought_at};
 
 use crate::blocks::kept_ends;
 use crate::jumps::{Jump, jump_to_next};
 use crate::labels::first_of;
-use crate::skips::{first_below, jump_past_first};
+use crate::skips::{first_below, jump_past_first, nearer};
 use crate::tables::{Tables, read_tables};
+use ados_resident::Dialect;
 use ados_text::{NoMemory, Text};
 use std::alloc::Global;
 use std::marker::Model;
@@ -81,18 +85,29 @@ impl Script {
     }
 
     /// Where the script continues after a Skip in line `i`: after the first Lab below it that has the label, ignoring
-    /// case, or after the first Lab if no label is given; with `back` the search begins at line 1. A Lab with no second
-    /// item, or with an open quote there, has the empty label. `EndSkip` if an EndSkip comes first, `None` if
-    /// neither exists.
-    pub fn skip(&self, i: usize, label: Option<&[u8]>, back: bool) -> Jump
-        ensures jump { result ≡ skip self.now i (option_map (λ t. t.now) label.entry) back }
+    /// case, or after the first Lab if no label is given; with `back` the search begins at line 1. A Lab has the text of its
+    /// second item as a label, and in Full also its phrase, which is that of all its words. With no second item, or with an
+    /// open quote there, the label is empty. `EndSkip` if an EndSkip comes first, `None` if neither exists.
+    pub fn skip(&self, dialect: Dialect, i: usize, label: Option<&[u8]>, back: bool) -> Jump
+        ensures jump { result ≡ skip dialect self.now i (option_map (λ t. t.now) label.entry) back }
         ensures within { LeadsWithin self.now result }
     {
         let start = if back { 0 } else { i };
         let lab = match label {
             None => first_below(&self.tables.labs, start),
-            Some(label) => first_of(&self.tables.labels, label, start),
+            Some(label) => self.first_lab(dialect, label, start),
         };
         jump_past_first(lab, first_below(&self.tables.end_skips, start))
+    }
+
+    // The first Lab below line `i` that has a label.
+    fn first_lab(&self, dialect: Dialect, label: &[u8], i: usize) -> Option<usize>
+        ensures { result ≡ find (sought_at dialect (Some label.now) self.now) (numbers_below self.now i) }
+    {
+        let labelled = first_of(&self.tables.labels, label, i);
+        match dialect {
+            Dialect::Core => labelled,
+            Dialect::Full => nearer(labelled, first_of(&self.tables.phrases, label, i)),
+        }
     }
 }

@@ -1,7 +1,7 @@
 // Where a Skip leads: to the nearer of two lines, each the first one below the Skip in an ascending list.
 ghost use Rattle.std.specs.Prelude.{◌≡◌, ◌+◌, ◌<◌, ◌^◌, IfSome};
 ghost use Rattle.std.specs.List.Sorted.{IsNonDecreasing};
-ghost use Rattle.ados_script.specs.Tables.{jump_past_first, first_below};
+ghost use Rattle.ados_script.specs.Tables.{jump_past_first, first_below, nearer_of};
 
 use crate::jumps::Jump;
 
@@ -11,6 +11,23 @@ pub fn first_below(lines: &[usize], i: usize) -> Option<usize>
     ensures { result ≡ first_below lines.now i }
 {
     lines.get(lines.partition_point(|line| *line <= i)).copied()
+}
+
+/// The nearer of two lines, of which one may not be there.
+pub fn nearer(line: Option<usize>, other: Option<usize>) -> Option<usize>
+    ensures { result ≡ nearer_of line other }
+{
+    match (line, other) {
+        (None, other) => other,
+        (Some(line), None) => Some(line),
+        (Some(line), Some(other)) => {
+            if line < other {
+                Some(line)
+            } else {
+                Some(other)
+            }
+        }
+    }
 }
 
 /// To the line after the Lab or the EndSkip that was found, whichever comes first.

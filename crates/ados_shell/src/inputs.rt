@@ -48,7 +48,7 @@ fn lines_at(
 {
     match shared.ram.read(busy, place) {
         Err(fault) => Err(Stop::Refused(fault)),
-        Ok(bytes) => Ok(Some(lines_of(alloc, bytes)?)),
+        Ok(bytes) => Ok(Some(lines_of(alloc, &bytes.to_vec(alloc)?)?)),
     }
 }
 

@@ -6,6 +6,7 @@ ghost use Rattle.ados_machine.specs.Course.{put};
 ghost use Rattle.ados_machine.specs.Sinks.{To, sink_or};
 ghost use Rattle.ados_find.specs.declared.targets.Target.TheVariants.{At};
 ghost use Rattle.ados_ram.specs.FileOperations.{put_open_fault, put_open_of};
+ghost use Rattle.ados_find.specs.Shared.{limits_of};
 ghost use Rattle.ados_text.specs.Stop.{Answers};
 ghost use Rattle.ados_ram.specs.Place.{key_of, last_name};
 
@@ -197,9 +198,10 @@ impl Draft {
     /// 221 if they do not fit.
     fn files_with(&self, scene: &Scene, place: &Place, output: &[u8]) -> Result<Ram, Stop>
         ensures ok { IfOk result (λ files. files ≡ put_open_of (course_of scene.now self.now).shared.files (key_of place.now) (last_name place.now) output.now) }
-        ensures fault { Answers result (put_open_fault (course_of scene.now self.now).shared.files (key_of place.now) (last_name place.now) output.now) }
+        ensures fault { Answers result (put_open_fault (limits_of (course_of scene.now self.now).shared.dialect) (course_of scene.now self.now).shared.files (key_of place.now) (last_name place.now) output.now) }
     {
-        self.current(scene).ram.put_open(place, output)
+        let now = self.current(scene);
+        now.ram.put_open(now.limits(), place, output)
     }
 
     /// Holds other files.

@@ -2,7 +2,7 @@ use crate::places::{are_names, at, name};
 use crate::wrong::{Wrong, expect};
 use ados_assign::{Assigns, Binding, Places};
 use ados_names::Path;
-use ados_ram::{Busy, Place, Ram};
+use ados_ram::{Busy, Limits, Place, Ram};
 use ados_text::{NoMemory, Stop, Text};
 use std::alloc::Global;
 
@@ -44,7 +44,7 @@ fn assigns_hold_five_directories(rt: HostRuntime) -> Result<(), Wrong> {
 
 // The files at first and the file `T/x`.
 fn files(alloc: Global) -> Result<Ram, Stop> {
-    Ram::new(alloc)?.write(&Busy::none(alloc), &at(alloc, "T/x")?, b"1")
+    Ram::new(alloc)?.write(Limits::Small, &Busy::none(alloc), &at(alloc, "T/x")?, b"1")
 }
 
 fn text(alloc: Global, written: &str) -> Result<Text, NoMemory> {

@@ -18,7 +18,7 @@ fn first(alloc: Global) -> Result<Shared, NoMemory> {
 
 // The same with the directory `T/d`.
 fn with_place(alloc: Global, shared: &Shared) -> Result<Shared, Stop> {
-    let files = shared.ram.make_dir(&at(alloc, "T/d")?)?;
+    let files = shared.ram.make_dir(shared.limits(), &at(alloc, "T/d")?)?;
     Ok(shared.with_files(files)?)
 }
 

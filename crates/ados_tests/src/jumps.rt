@@ -1,4 +1,5 @@
 // Where jumps lead in scripts whose blocks do not match, and at which line a Skip stops.
+use ados_resident::Dialect;
 use ados_script::{Jump, Script};
 use ados_text::{NoMemory, Text};
 use std::alloc::Global;
@@ -23,9 +24,9 @@ fn blocks_that_do_not_match_are_counted(rt: HostRuntime) -> Result<(), NoMemory>
 #[test]
 fn a_skip_stops_at_the_first_of_its_label_and_an_end_skip(rt: HostRuntime) -> Result<(), NoMemory> {
     let script = script(rt.alloc(), &["Lab a", "Skip b", "EndSkip", "Lab b"])?;
-    assert!(rt; script.skip(2, Some(b"b"), false) == Jump::EndSkip(4));
-    assert!(rt; script.skip(2, Some(b"a"), true) == Jump::To(2));
-    assert!(rt; script.skip(2, Some(b"b"), true) == Jump::EndSkip(4));
-    assert!(rt; script.skip(3, Some(b"b"), false) == Jump::To(5));
+    assert!(rt; script.skip(Dialect::Core, 2, Some(b"b"), false) == Jump::EndSkip(4));
+    assert!(rt; script.skip(Dialect::Core, 2, Some(b"a"), true) == Jump::To(2));
+    assert!(rt; script.skip(Dialect::Core, 2, Some(b"b"), true) == Jump::EndSkip(4));
+    assert!(rt; script.skip(Dialect::Core, 3, Some(b"b"), false) == Jump::To(5));
     Ok(())
 }

@@ -1,6 +1,6 @@
 use crate::places::at;
 use crate::wrong::{Wrong, expect};
-use ados_ram::{Busy, Ram};
+use ados_ram::{Busy, Limits, Ram};
 use ados_text::{NoMemory, Stop};
 use std::alloc::Global;
 
@@ -15,7 +15,7 @@ fn fault(answer: Result<Ram, Stop>) -> Result<u16, NoMemory> {
 
 // The files at first and the file `S/q`, which holds `Quit`.
 fn with_script(alloc: Global) -> Result<Ram, Stop> {
-    Ram::new(alloc)?.write(&Busy::none(alloc), &at(alloc, "s/q")?, b"Quit")
+    Ram::new(alloc)?.write(Limits::Small, &Busy::none(alloc), &at(alloc, "s/q")?, b"Quit")
 }
 
 // An output is open at `S/q`.

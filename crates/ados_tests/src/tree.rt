@@ -1,5 +1,5 @@
 // Versions that are kept, and the files at their limit: wide and deep.
-use ados_ram::{Bits, Busy, Place, Ram};
+use ados_ram::{Bits, Busy, Limits, Place, Ram};
 use ados_text::{Name, NoMemory, Stop, Text};
 use std::alloc::Global;
 
@@ -13,7 +13,7 @@ fn at(alloc: Global, names: &[&[u8]]) -> Result<Place, NoMemory> {
 }
 
 fn written(alloc: Global, ram: &Ram, names: &[&[u8]], bytes: &[u8]) -> Result<Ram, Stop> {
-    ram.write(&Busy::none(alloc), &at(alloc, names)?, bytes)
+    ram.write(Limits::Small, &Busy::none(alloc), &at(alloc, names)?, bytes)
 }
 
 fn renamed(alloc: Global, ram: &Ram, from: &[&[u8]], to: &[&[u8]]) -> Result<Ram, Stop> {
@@ -23,7 +23,8 @@ fn renamed(alloc: Global, ram: &Ram, from: &[&[u8]], to: &[&[u8]]) -> Result<Ram
 // A file of the directory S holds these bytes.
 fn holds(alloc: Global, ram: &Ram, bytes: &[u8]) -> Result<bool, NoMemory> {
     let place = at(alloc, &[b"s", b"kept"])?;
-    Ok(ram.look(&place).is_some_and(|entry| entry.bytes() == bytes))
+    let file = ram.look(&place).and_then(|entry| entry.bytes());
+    Ok(file.is_some_and(|found| found.is(bytes)))
 }
 
 // A hundred changes: files of the directory S, a new one each time, and one that is written again.
@@ -82,14 +83,14 @@ fn is_reached(alloc: Global, ram: &Ram) -> Result<bool, NoMemory> {
 
 // The same files with what is at A one directory deeper.
 fn deeper(alloc: Global, ram: &Ram) -> Result<Ram, Stop> {
-    let with = ram.make_dir(&at(alloc, &[b"P"])?)?;
+    let with = ram.make_dir(Limits::Small, &at(alloc, &[b"P"])?)?;
     let inside = renamed(alloc, &with, &[b"A"], &[b"P", b"D"])?;
     renamed(alloc, &inside, &[b"P"], &[b"A"])
 }
 
 // The files with a thousand directories, each in the one before.
 fn deep(alloc: Global) -> Result<Ram, Stop> {
-    let mut ram = Ram::new(alloc)?.make_dir(&at(alloc, &[b"A"])?)?;
+    let mut ram = Ram::new(alloc)?.make_dir(Limits::Small, &at(alloc, &[b"A"])?)?;
     for _ in 0..999 {
         ram = deeper(alloc, &ram)?;
     }

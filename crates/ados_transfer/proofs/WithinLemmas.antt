@@ -1,5 +1,5 @@
 -- Bytes within others, from one place to the next.
-use Rattle.std.proofs.Common.{ℕ, zero, suc, ◌≡◌, ◌<◌, ◌+◌, ◌-◌, ◌==◌, ◌||◌, ◌∙◌, Bool, false, [], ◌∷◌, length, take, drop, length-drop, ap, sym, add-one, arith}
+use Rattle.std.proofs.Common.{ℕ, zero, suc, ◌≡◌, ◌<◌, ◌+◌, ◌-◌, ◌==◌, ◌||◌, ◌&&◌, ◌∙◌, Bool, true, false, refl, [], ◌∷◌, length, take, drop, length-drop, ap, sym, add-one, arith}
 use Rattle.std.proofs.lemmas.List.{take_all}
 use Rattle.std.specs.List.{starts_with}
 use Rattle.ados_text.specs.Text.{Bytes}
@@ -18,3 +18,17 @@ pub within_kept : (bytes all : Bytes) (from : ℕ) (found : Bool) → from < len
 within_kept bytes all from found inside is missed kept =
     let whole : take (length all - from) (drop from all) ≡ drop from all = take_all (length all - from) (drop from all) (omega (arith, length-drop from all)) in
     kept ∙ rw add-one (after-place bytes all from inside (ap (λ rest. starts_with ◌==◌ rest bytes) (sym whole) ∙ sym is ∙ missed))
+
+and-false : (b : Bool) → (b && false) ≡ false
+and-false true = refl
+and-false false = refl
+
+no-start : (bytes all : Bytes) → length all < length bytes → starts_with ◌==◌ all bytes ≡ false
+no-start [] all fewer = absurd (omega (arith, fewer))
+no-start (y ∷ ys) [] fewer = refl
+no-start (y ∷ ys) (x ∷ xs) fewer = ap (λ b. (y == x) && b) (no-start ys xs (omega (arith, fewer))) ∙ and-false (y == x)
+
+-- bytes are not within fewer ones
+pub longer_is_no_part : (bytes all : Bytes) → length all < length bytes → is_substring bytes all ≡ false
+longer_is_no_part bytes [] fewer = refl
+longer_is_no_part bytes (x ∷ xs) fewer = rw (no-start bytes (x ∷ xs) fewer) (longer_is_no_part bytes xs (omega (arith, fewer)))

@@ -27,5 +27,5 @@ has_stamp here found = is_stamped (stamp_of here) found
 -- The bytes of a file that was seen were moved: they occur in a file that could not be written, and not in `new`, the bytes that are
 -- to replace the file.
 abbrev pub is_moved_away : Here → Bytes → List Bytes → Bool
-is_moved_away (File bytes stamp mode) new unwritten = not (is_substring bytes.items new) && is_in_unwritten unwritten bytes.items
+is_moved_away (File bytes stamp mode) new unwritten = not (is_substring bytes new) && is_in_unwritten unwritten bytes
 is_moved_away _ new unwritten = false

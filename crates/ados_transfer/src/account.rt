@@ -1,12 +1,14 @@
 //! What one update of the shared folder could not write, and what follows from that.
-ghost use Rattle.std.specs.Prelude.{◌≡◌, ◌++◌, ◌∷◌, [], OnOk, string_bytes};
+ghost use Rattle.std.specs.Prelude.{◌≡◌, ◌++◌, ◌∷◌, [], IfOk, OnOk, string_bytes};
 ghost use Rattle.std.specs.List.{list_any};
 ghost use Rattle.std.specs.Option.{option_map, is_some};
+ghost use Rattle.ados_ram.specs.Entry.{bytes_of};
 ghost use Rattle.ados_transfer.specs.Account.{first_path, is_in_unwritten, is_substring, with_bytes_of};
 
 use crate::faults::TransferFault;
 use crate::records::Record;
 use ados_ram::{Body, Entry, FileBytes};
+use ados_text::NoMemory;
 use std::alloc::Global;
 
 /// When the folder is brought up to date.
@@ -127,10 +129,13 @@ impl Account {
     }
 
     /// These bytes are in a file that is not written.
-    pub fn is_in_unwritten(&self, bytes: &[u8]) -> bool
-        ensures { result ≡ is_in_unwritten self.now.bytes.items bytes.now }
+    pub fn is_in_unwritten(&self, bytes: &FileBytes) -> Result<bool, NoMemory>
+        ensures { IfOk result (λ is. is ≡ is_in_unwritten self.now.bytes.items bytes.now) }
     {
-        !bytes.is_empty() && is_in_any(bytes, self.bytes.as_slice())
+        if bytes.len() == 0 {
+            return Ok(false);
+        }
+        is_in_any(self.alloc, bytes, self.bytes.as_slice())
     }
 
     /// Notes that an object is not deleted.
@@ -165,7 +170,7 @@ impl Account {
     }
 
     /// The mode of a file with these bytes that was moved aside.
-    pub fn mode_of(&self, bytes: &[u8]) -> Option<u32> {
+    pub fn mode_of(&self, bytes: &FileBytes) -> Option<u32> {
         self.aside
             .iter()
             .find(|aside| aside.record.is_file_of(bytes))
@@ -190,12 +195,36 @@ impl Account {
 }
 
 // The bytes are in one of the files.
-fn is_in_any(bytes: &[u8], files: &[FileBytes]) -> bool
-    ensures { result ≡ list_any (is_substring bytes.now) files.now }
+fn is_in_any(alloc: Global, bytes: &FileBytes, files: &[FileBytes]) -> Result<bool, NoMemory>
+    ensures { IfOk result (λ is. is ≡ list_any (is_substring bytes.now) files.now) }
 {
-    files
-        .iter()
-        .any(|file| is_substring(bytes, file.as_bytes()))
+    for file in files {
+        if is_part(alloc, bytes, file)? {
+            return Ok(true);
+        }
+    }
+    Ok(false)
+}
+
+/// The second content has the first one in it. A shorter one is not looked at.
+#[tactic(auto, using(crate::proofs::WithinLemmas::longer_is_no_part))]
+pub fn is_part(alloc: Global, bytes: &FileBytes, all: &FileBytes) -> Result<bool, NoMemory>
+    ensures { IfOk result (λ is. is ≡ is_substring bytes.now all.now) }
+{
+    if all.len() < bytes.len() {
+        return Ok(false);
+    }
+    Ok(is_substring(&bytes.to_vec(alloc)?, &all.to_vec(alloc)?))
+}
+
+/// The bytes of an entry have others in them.
+pub fn is_part_of(alloc: Global, bytes: &FileBytes, entry: &Entry) -> Result<bool, NoMemory>
+    ensures { IfOk result (λ is. is ≡ is_substring bytes.now (bytes_of entry.now)) }
+{
+    match entry.bytes() {
+        None => Ok(false),
+        Some(all) => is_part(alloc, bytes, all),
+    }
 }
 
 /// The second bytes have the first ones in them.

@@ -9,8 +9,8 @@ use crate::room::Room;
 use crate::script::is_shell_script;
 use crate::share_lines::ShareLines;
 use ados_names::PATH_LIMIT;
-use ados_ram::{Entry, Place, Ram};
-use ados_text::Octets;
+use ados_ram::{Entry, FileBytes, Limits, Place, Ram};
+use ados_text::NoMemory;
 use std::alloc::Global;
 use std::collections::BTreeSet;
 use std::time::SystemTime;
@@ -30,16 +30,17 @@ pub struct ArrivalPlan<'a> {
 }
 
 impl<'a> ArrivalPlan<'a> {
-    /// No arrivals, for these files, at this time.
+    /// No arrivals, for these files, within these limits, at this time.
     pub fn new(
         alloc: Global,
+        limits: Limits,
         files: &'a Ram,
         now: SystemTime,
     ) -> Result<ArrivalPlan<'a>, TransferFault> {
         Ok(ArrivalPlan {
             alloc,
             files,
-            room: Room::new(alloc, files)?,
+            room: Room::new(alloc, limits, files)?,
             now,
             deleted: BTreeSet::new(alloc),
             made: BTreeSet::new(alloc),
@@ -69,6 +70,11 @@ impl<'a> ArrivalPlan<'a> {
     /// An object is deleted in the Shell's files.
     pub fn deletes(&self, key: &str) -> bool {
         self.deleted.contains(key)
+    }
+
+    /// The limits of the Shell's files.
+    pub fn limits(&self) -> Limits {
+        self.room.limits()
     }
 
     /// There can be no more objects in the Shell's files.
@@ -131,9 +137,9 @@ impl<'a> ArrivalPlan<'a> {
             self.made.insert(String::from_str(self.alloc, key)?)?;
             Coming::Directory
         } else if let Some(bytes) = self.fitting(here, entry) {
-            let is_script = seen.kind == Kind::PROGRAM && is_shell_script(bytes.as_slice());
+            let is_script = seen.kind == Kind::PROGRAM && is_script_file(self.alloc, &bytes)?;
             lines.add_file(place, entry, is_script)?;
-            Coming::File(Octets::from_vec(bytes))
+            Coming::File(bytes)
         } else {
             let comment = mirror.stand_ins.next_comment(stamp.size)?;
             lines.add_stand_in(place, entry, &comment)?;
@@ -145,7 +151,7 @@ impl<'a> ArrivalPlan<'a> {
     }
 
     // The bytes of a file for which there is room in place of an entry.
-    fn fitting(&self, here: Here, entry: Option<&Entry>) -> Option<Vec<u8>> {
+    fn fitting(&self, here: Here, entry: Option<&Entry>) -> Option<FileBytes> {
         if self.room.fits(here.size()?, entry) {
             here.into_bytes()
         } else {
@@ -216,6 +222,11 @@ impl<'a> ArrivalPlan<'a> {
             Err(fault) => Err(fault),
         }
     }
+}
+
+// The bytes of an executable file are those of a script of the Shell.
+fn is_script_file(alloc: Global, bytes: &FileBytes) -> Result<bool, NoMemory> {
+    Ok(is_shell_script(&bytes.to_vec(alloc)?))
 }
 
 // A key is that of an object directly in a directory.

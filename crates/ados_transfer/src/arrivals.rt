@@ -17,8 +17,8 @@ use crate::share_lines::ShareLines;
 use crate::stamps::Stamp;
 use crate::stand_ins::is_stand_in_of;
 use crate::watches::Watch;
-use ados_ram::{Body, Entry, Ram};
-use ados_text::{NoMemory, Octets, Text};
+use ados_ram::{Body, Entry, FileBytes, Ram};
+use ados_text::{NoMemory, Text};
 use std::alloc::Global;
 use std::collections::BTreeMap;
 use std::rt::Files;
@@ -30,7 +30,7 @@ pub struct Arrival {
     /// The lines for it, run in order.
     pub lines: Vec<Text>,
     /// What `amishell-bring` prints in those lines; it is not called if there is nothing.
-    pub bytes: Option<Octets>,
+    pub bytes: Option<FileBytes>,
     pub(crate) key: String,
     pub(crate) path: String,
     pub(crate) coming: Coming,
@@ -46,7 +46,7 @@ pub enum Coming {
     /// A directory.
     Directory,
     /// A file of these bytes.
-    File(Octets),
+    File(FileBytes),
     /// The stand-in, with this comment, of a file that is too large for the Shell.
     StandIn(Text),
 }
@@ -55,16 +55,16 @@ impl Coming {
     /// How many bytes it takes in the Shell's files.
     pub fn size(&self) -> usize {
         match self {
-            Coming::File(bytes) => bytes.as_bytes().len(),
+            Coming::File(bytes) => bytes.len(),
             Coming::Nothing | Coming::Directory | Coming::StandIn(_) => 0,
         }
     }
 
     // What `amishell-bring` prints for it.
-    fn output(&self, alloc: Global) -> Result<Option<Octets>, NoMemory> {
+    fn output(&self, alloc: Global) -> Result<Option<FileBytes>, NoMemory> {
         match self {
             Coming::File(bytes) => Ok(Some(bytes.copy()?)),
-            Coming::StandIn(_) => Ok(Some(Octets::from_vec(Vec::new(alloc)))),
+            Coming::StandIn(_) => Ok(Some(FileBytes::empty(alloc)?)),
             Coming::Nothing | Coming::Directory => Ok(None),
         }
     }
@@ -127,7 +127,7 @@ impl Mirror {
         if changes.is_empty() {
             return Ok(Vec::new(self.alloc));
         }
-        let mut plan = ArrivalPlan::new(self.alloc, files, self.now(rt))?;
+        let mut plan = ArrivalPlan::new(self.alloc, self.options.limits, files, self.now(rt))?;
         for (key, seen) in changes.iter().rev() {
             self.plan_gone(rt, &mut plan, key.as_str(), *seen)?;
         }
@@ -254,7 +254,7 @@ fn last_of(arrival: &Arrival, entry: Option<&Entry>) -> Result<Option<Last>, Tra
         (Coming::StandIn(comment), _) if is_stand_in_of(entry, comment) => {
             Ok(Some(Last::StandIn(comment.copy()?)))
         }
-        (Coming::File(planned), Body::File(bytes)) if bytes.as_bytes() == planned.as_bytes() => {
+        (Coming::File(planned), Body::File(bytes)) if bytes == planned => {
             Ok(Some(Last::File(bytes.clone()?)))
         }
         _ => Ok(None),

@@ -1,9 +1,9 @@
 //! Copies of files of the folder of a share that are written over while only the Shell has their bytes beside.
-ghost use Rattle.std.specs.Prelude.{◌≡◌, ◌⊎◌, true, false};
+ghost use Rattle.std.specs.Prelude.{◌≡◌, ◌⊎◌, true, false, IfOk};
 ghost use Rattle.ados_ram.specs.Entry.{bytes_of};
 ghost use Rattle.ados_transfer.specs.Backups.{needs_backup, retention_of};
 
-use crate::account::{Moment, is_substring};
+use crate::account::{Moment, is_part_of};
 use crate::departure::own_path;
 use crate::faults::TransferFault;
 use crate::here::Here;
@@ -13,6 +13,7 @@ use crate::placing::{Draft, holds, place_new};
 use crate::records::Last;
 use crate::writing::{Manner, write_beside};
 use ados_ram::{FileBytes, Ram};
+use ados_text::NoMemory;
 use std::alloc::Global;
 use std::collections::BTreeMap;
 use std::io::{Error, ErrorKind};
@@ -74,10 +75,10 @@ impl Backups {
     }
 
     /// The mode of a file with these bytes that was written over.
-    pub fn mode_of(&self, bytes: &[u8]) -> Option<u32> {
+    pub fn mode_of(&self, bytes: &FileBytes) -> Option<u32> {
         self.by_path
             .values()
-            .find(|backup| backup.bytes.as_bytes() == bytes)
+            .find(|backup| backup.bytes == *bytes)
             .map(|backup| backup.mode)
     }
 
@@ -126,7 +127,7 @@ impl Mirror {
             bytes: bytes.clone()?,
             mode: *mode,
         };
-        let beside = write_beside(rt, "", bytes.as_bytes(), Manner::Mode(*mode))?;
+        let beside = write_beside(rt, "", bytes, Manner::Mode(*mode))?;
         match self.backups.add(beside.as_str(), backup) {
             Ok(()) => Ok(()),
             Err(_) => {
@@ -177,7 +178,7 @@ impl Mirror {
         rt: &R,
         backup: &Backup,
     ) -> Result<bool, TransferFault> {
-        if holds(rt, backup.original.as_str(), backup.bytes.as_bytes()) {
+        if holds(rt, backup.original.as_str(), &backup.bytes) {
             return Ok(true);
         }
         self.is_in_another(rt, "", &backup.bytes)
@@ -263,14 +264,14 @@ fn try_place<R: AllocGlobal + Files>(rt: &R, path: &str, name: &str) -> io::Resu
 }
 
 /// A file that was seen needs a backup before another one takes its place: only the Shell has its bytes beside.
-pub fn needs_backup(draft: &Draft<'_>) -> bool
-    ensures { result ≡ needs_backup draft.now.here.now (bytes_of draft.now.entry.now) draft.now.is_last_copy }
+pub fn needs_backup(alloc: Global, draft: &Draft<'_>) -> Result<bool, NoMemory>
+    ensures { IfOk result (λ needs. needs ≡ needs_backup draft.now.here.now (bytes_of draft.now.entry.now) draft.now.is_last_copy) }
 {
     match draft.here {
-        Here::File { bytes, .. } => {
-            draft.is_last_copy && !is_substring(bytes.as_slice(), draft.entry.bytes())
+        Here::File { bytes, .. } if draft.is_last_copy => {
+            Ok(!is_part_of(alloc, bytes, draft.entry)?)
         }
-        _ => false,
+        _ => Ok(false),
     }
 }
 

@@ -1,18 +1,18 @@
 //! The files and folders of this machine that are brought in.
 
-use crate::faults::{TransferFault, named};
+use crate::faults::{Excess, TransferFault, exceeded, named};
 use crate::paths::{base_name, name_of, place_in, step_into};
 use crate::plan::{Plan, file_of};
 use crate::script::shell_script;
-use ados_ram::{FILE_LIMIT, Place, Ram};
+use ados_ram::{Limits, Place, Ram};
 use std::alloc::Global;
 use std::io::Read;
 use std::os::unix::fs::PermissionsExt;
 use std::rt::Files;
 use std::{fs, io};
 
-// A walk looks at this many files and folders at most: the Shell holds 1,024 at most.
-const WALK: usize = 4096;
+// A walk looks at so many times as many files and folders as the Shell holds, and no more.
+const WALK: usize = 4;
 
 // A name of the Shell's files has at most this many bytes.
 const NAME_BYTES: usize = 30;
@@ -34,9 +34,13 @@ pub fn bring<R: AllocGlobal + Files + Clone + Drop>(
     walk(rt, files, path, place, plan)
 }
 
-/// The bytes of a script of this machine as the Shell reads it.
-pub fn read_script<R: AllocGlobal + Files>(rt: &R, path: &str) -> Result<Vec<u8>, TransferFault> {
-    let bytes = read_file(rt, path)?;
+/// The bytes of a script of this machine as the Shell reads it, within the limits of its files.
+pub fn read_script<R: AllocGlobal + Files>(
+    rt: &R,
+    limits: Limits,
+    path: &str,
+) -> Result<Vec<u8>, TransferFault> {
+    let bytes = read_file(rt, limits, path)?;
     Ok(shell_script(rt.alloc(), bytes.as_slice())?)
 }
 
@@ -46,14 +50,15 @@ pub fn bring_script<R: AllocGlobal + Files>(
     rt: &R,
     files: &Ram,
     path: &str,
-    script: Vec<u8>,
+    script: &[u8],
     plan: &mut Plan,
 ) -> Result<Place, TransferFault> {
     let alloc = rt.alloc();
     let own = base_name(rt, path)?;
     let name = similar_name(alloc, own.as_str())?;
     let place = place_in(alloc, "S:")?.with(name_of(alloc, name.as_str(), path)?)?;
-    plan.add_file(files, place.copy()?, file_of(script, false), path)?;
+    let content = file_of(alloc, script, false)?;
+    plan.add_file(files, place.copy()?, content, path)?;
     Ok(place)
 }
 
@@ -115,13 +120,14 @@ fn walk<R: AllocGlobal + Files + Clone + Drop>(
 ) -> Result<(), TransferFault> {
     let mut left = Vec::new(rt.alloc());
     left.push((String::from_str(rt.alloc(), path)?, place))?;
-    for _ in 0..WALK {
+    let limits = plan.limits();
+    for _ in 0..limits.objects().saturating_mul(WALK) {
         let Some(below) = left.pop() else {
             return Ok(());
         };
         add_one(rt, files, below, plan, &mut left)?;
     }
-    Err(named(rt.alloc(), path, TransferFault::ManyObjects))
+    Err(exceeded(rt.alloc(), path, Excess::Objects, limits))
 }
 
 // Adds a file, or a folder; the content of a folder is still to be walked.
@@ -144,8 +150,9 @@ fn add_one<R: AllocGlobal + Files + Clone + Drop>(
         return plan.leave(path.as_str());
     }
     let is_script = found.permissions().mode() & 0o111 != 0;
-    let bytes = read_file(rt, path.as_str())?;
-    plan.add_file(files, place, file_of(bytes, is_script), path.as_str())
+    let bytes = read_file(rt, plan.limits(), path.as_str())?;
+    let content = file_of(rt.alloc(), &bytes, is_script)?;
+    plan.add_file(files, place, content, path.as_str())
 }
 
 // Adds what is in a folder to what is left of a walk, in reverse order of the names.
@@ -181,10 +188,14 @@ fn names_in<R: AllocGlobal + Files + Clone + Drop>(rt: &R, path: &str) -> io::Re
 }
 
 // The bytes of a file that the Shell can hold.
-fn read_file<R: AllocGlobal + Files>(rt: &R, path: &str) -> Result<Vec<u8>, TransferFault> {
-    match bytes_of(rt, path, FILE_LIMIT) {
-        Ok(bytes) if bytes.len() <= FILE_LIMIT => Ok(bytes),
-        Ok(_) => Err(named(rt.alloc(), path, TransferFault::LargeFile)),
+fn read_file<R: AllocGlobal + Files>(
+    rt: &R,
+    limits: Limits,
+    path: &str,
+) -> Result<Vec<u8>, TransferFault> {
+    match bytes_of(rt, path, limits.file()) {
+        Ok(bytes) if bytes.len() <= limits.file() => Ok(bytes),
+        Ok(_) => Err(exceeded(rt.alloc(), path, Excess::File, limits)),
         Err(error) => Err(not_read(rt.alloc(), path, &error)),
     }
 }

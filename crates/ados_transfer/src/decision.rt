@@ -3,6 +3,7 @@ ghost use Rattle.std.specs.Prelude.{◌≡◌, ◌⊎◌, true, false, if◌then
 ghost use Rattle.ados_transfer.specs.Mirror.{decision, is_absent, is_same_state, is_large, may_write, removal};
 
 use crate::stamps::Stamp;
+use ados_ram::FileBytes;
 
 /// What is at a place on one side of a share.
 #[derive(Clone, Copy)]
@@ -12,7 +13,7 @@ pub enum State<'a> {
     /// A directory.
     Directory,
     /// A file of these bytes.
-    File(&'a [u8]),
+    File(&'a FileBytes),
     /// A file of this machine that is too large for the Shell, by its stamp; on the Shell's side its stand-in.
     Large(Stamp),
     /// What is none of these: a link, a device, a file that can't be read.

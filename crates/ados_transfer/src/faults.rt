@@ -1,4 +1,5 @@
 use crate::fit::Need;
+use ados_ram::Limits;
 use ados_text::NoMemory;
 use std::alloc::{AllocError, AllocFailed, Global};
 use thiserror::Error;
@@ -21,15 +22,15 @@ pub enum TransferFault {
     /// A file or folder would have the name of another one, if case is ignored.
     #[error("name is taken twice: {0}")]
     Twice(String),
-    /// The file has more bytes than one may have.
-    #[error("more than 65536 bytes: {0}")]
-    LargeFile(String),
-    /// With this file there are more bytes than all may have.
-    #[error("more than 1048576 bytes in all, with {0}")]
-    ManyBytes(String),
-    /// With this object there are more files and folders than there may be.
-    #[error("more than 1024 files and folders, with {0}")]
-    ManyObjects(String),
+    /// The file has more bytes than this, the most that one may have.
+    #[error("more than {0} bytes: {1}")]
+    LargeFile(usize, String),
+    /// With this file there are more bytes than this, the most that all may have.
+    #[error("more than {0} bytes in all, with {1}")]
+    ManyBytes(usize, String),
+    /// With this object there are more files and folders than this, the most that there may be.
+    #[error("more than {0} files and folders, with {1}")]
+    ManyObjects(usize, String),
     /// The line that is typed for this would have more bytes than one may have.
     #[error("more than 512 bytes in the line for {0}")]
     LongLine(String),
@@ -75,5 +76,28 @@ pub fn named<F: Fn(String) -> TransferFault>(alloc: Global, name: &str, fault: F
     match String::from_str(alloc, name) {
         Ok(name) => fault(name),
         Err(_) => TransferFault::NoMemory,
+    }
+}
+
+/// Which of the limits of the Shell's files is exceeded.
+#[derive(Clone, Copy)]
+pub enum Excess {
+    /// The bytes of one file.
+    File,
+    /// The bytes of all files.
+    Bytes,
+    /// The number of files and folders.
+    Objects,
+}
+
+/// The fault of an object with which one of the limits is exceeded.
+pub fn exceeded(alloc: Global, name: &str, excess: Excess, limits: Limits) -> TransferFault {
+    let Ok(name) = String::from_str(alloc, name) else {
+        return TransferFault::NoMemory;
+    };
+    match excess {
+        Excess::File => TransferFault::LargeFile(limits.file(), name),
+        Excess::Bytes => TransferFault::ManyBytes(limits.bytes(), name),
+        Excess::Objects => TransferFault::ManyObjects(limits.objects(), name),
     }
 }

@@ -5,12 +5,9 @@ use crate::faults::TransferFault;
 use crate::folders::{Kind, Look};
 use crate::mirror::Mirror;
 use crate::room::Room;
-use ados_ram::{BYTES_LIMIT, FILE_LIMIT, OBJECTS_LIMIT, Ram};
+use ados_ram::Ram;
 use std::alloc::Global;
 use std::fmt;
-
-// The most objects of the Shell's files beside their root.
-const OBJECTS: usize = OBJECTS_LIMIT - 1;
 
 /// What a folder needs of the Shell's files, and what is in them already.
 #[derive(Debug, Drop)]
@@ -23,17 +20,22 @@ pub struct Need {
 
 impl Need {
     // What a folder needs, by a look at it: a file that is too large by itself is a stand-in, which needs no bytes.
-    fn of(alloc: Global, folder: &str, look: &Look, files: &Ram) -> Result<Need, TransferFault> {
+    fn of(
+        alloc: Global,
+        folder: &str,
+        look: &Look,
+        others: Room,
+    ) -> Result<Need, TransferFault> {
         let mut need = Need {
             folder: String::from_str(alloc, folder)?,
             objects: 0,
             bytes: 0,
-            others: Room::new(alloc, files)?,
+            others,
         };
         for seen in look.seen.values() {
             match seen.kind {
                 Kind::Foreign => continue,
-                Kind::File { .. } if seen.stamp.size <= FILE_LIMIT as u64 => {
+                Kind::File { .. } if seen.stamp.size <= others.limits().file() as u64 => {
                     need.bytes = need.bytes.saturating_add(seen.stamp.size);
                 }
                 Kind::File { .. } | Kind::Directory => {}
@@ -46,22 +48,24 @@ impl Need {
     // There is room for each name: a name that is not there would be taken for a file that does not exist. A file without room for
     // its bytes has a stand-in.
     fn fits(&self) -> bool {
-        self.objects.saturating_add(self.others.objects()) <= OBJECTS
+        self.objects.saturating_add(self.others.objects()) <= self.others.limits().objects()
     }
 }
 
 impl fmt::Display for Need {
     fn fmt<W: fmt::Write>(&self, f: &mut fmt::Formatter<W>) -> Result<(), fmt::Error> {
         let (objects, bytes) = (self.others.objects(), self.others.bytes());
+        let limits = self.others.limits();
         write!(
             f,
-            "{} does not fit: {} files and folders of at most {OBJECTS}, beside {objects} others; ",
-            self.folder, self.objects,
+            "{} does not fit: {} files and folders of at most {}, beside {objects} others; ",
+            self.folder, self.objects, limits.objects(),
         )?;
         write!(
             f,
-            "{} bytes of at most {BYTES_LIMIT}, beside {bytes} others (--part)",
-            self.bytes
+            "{} bytes of at most {}, beside {bytes} others (--part)",
+            self.bytes,
+            limits.bytes()
         )
     }
 }
@@ -74,7 +78,8 @@ impl Mirror {
         }
         self.has_begun = true;
         if !self.options.part {
-            let need = Need::of(self.alloc, self.folder.as_str(), look, files)?;
+            let others = Room::new(self.alloc, self.options.limits, files)?;
+            let need = Need::of(self.alloc, self.folder.as_str(), look, others)?;
             if !need.fits() {
                 return Err(TransferFault::DoesNotFit(need));
             }

@@ -7,7 +7,7 @@ use crate::decision::{Decision, State, decide};
 use crate::faults::TransferFault;
 use crate::records::{Record, state_there};
 use crate::stamps::Stamp;
-use ados_ram::{Entry, FILE_LIMIT};
+use ados_ram::{Entry, FileBytes, Limits};
 use std::fs;
 use std::io::ErrorKind;
 use std::os::unix::fs::PermissionsExt;
@@ -23,7 +23,7 @@ pub enum Here {
     /// A file, with its mode.
     File {
         /// What it holds.
-        bytes: Vec<u8>,
+        bytes: FileBytes,
         /// Its stamp, from before it was read.
         stamp: Stamp,
         /// Its mode.
@@ -38,8 +38,12 @@ pub enum Here {
 }
 
 impl Here {
-    /// Looks at what is at a path below the folder; a link is not followed.
-    pub fn look<R: AllocGlobal + Files>(rt: &R, path: &str) -> Result<Here, TransferFault> {
+    /// Looks at what is at a path below the folder; a link is not followed. `limits` are those of the Shell's files.
+    pub fn look<R: AllocGlobal + Files>(
+        rt: &R,
+        limits: Limits,
+        path: &str,
+    ) -> Result<Here, TransferFault> {
         let found = match fs::symlink_metadata(rt, path) {
             Ok(found) => found,
             Err(error) if is_nothing(error.kind()) => return Ok(Here::Absent),
@@ -52,12 +56,12 @@ impl Here {
         if !found.is_file() {
             return Ok(Here::Foreign);
         }
-        if found.len() > FILE_LIMIT as u64 {
+        if found.len() > limits.file() as u64 {
             return Ok(Here::Large(stamp));
         }
-        match bytes_of(rt, path, FILE_LIMIT) {
-            Ok(bytes) if bytes.len() <= FILE_LIMIT => Ok(Here::File {
-                bytes,
+        match bytes_of(rt, path, limits.file()) {
+            Ok(bytes) if bytes.len() <= limits.file() => Ok(Here::File {
+                bytes: FileBytes::from_slice(rt.alloc(), &bytes)?,
                 stamp,
                 mode: found.permissions().mode(),
             }),
@@ -77,7 +81,7 @@ impl Here {
             (Here::Large(stamp), _) => State::Large(*stamp),
             (Here::File { stamp, .. }, Some(record))
                 if record.is_stand_in() && record.stamp.is_same(stamp) => { State::Large(*stamp) }
-            (Here::File { bytes, .. }, _) => State::File(bytes.as_slice()),
+            (Here::File { bytes, .. }, _) => State::File(bytes),
         }
     }
 
@@ -96,7 +100,7 @@ impl Here {
     }
 
     /// The bytes of a file that the Shell can hold.
-    pub fn into_bytes(self) -> Option<Vec<u8>> {
+    pub fn into_bytes(self) -> Option<FileBytes> {
         match self {
             Here::File { bytes, .. } => Some(bytes),
             Here::Absent | Here::Directory(_) | Here::Large(_) | Here::Foreign | Here::Unread =>

@@ -133,10 +133,10 @@ impl Mirror {
             outside: Vec::new(self.alloc),
         };
         for place in files.contents(&Place::root(self.alloc))? {
-            let Some(bytes) = files.look(&place).and_then(|entry| entry.file()) else {
+            let Some(bytes) = files.look(&place).and_then(|entry| entry.bytes()) else {
                 continue;
             };
-            if bytes.as_bytes().is_empty() {
+            if bytes.len() == 0 {
                 continue;
             }
             if place.names().starts_with(self.place.names()) {
@@ -186,13 +186,13 @@ impl Mirror {
         bytes: &FileBytes,
     ) -> Result<bool, TransferFault> {
         for (other, record) in &self.records {
-            if other.as_str() == key || !record.is_file_of(bytes.as_bytes()) {
+            if other.as_str() == key || !record.is_file_of(bytes) {
                 continue;
             }
-            let here = Here::look(rt, record.path.as_str())?;
+            let here = Here::look(rt, self.options.limits, record.path.as_str())?;
             if here
                 .into_bytes()
-                .is_some_and(|found| found.as_slice() == bytes.as_bytes())
+                .is_some_and(|found| found == *bytes)
             {
                 return Ok(true);
             }
@@ -237,5 +237,5 @@ fn bytes_of<'a>(records: &'a Records, key: &str) -> Option<&'a FileBytes> {
 fn first_with<'a, 'b>(holders: &'a [Holder<'b>], bytes: &FileBytes) -> Option<&'a Holder<'b>> {
     holders
         .iter()
-        .find(|holder| holder.bytes.as_bytes() == bytes.as_bytes())
+        .find(|holder| holder.bytes == bytes)
 }

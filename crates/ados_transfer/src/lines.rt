@@ -47,7 +47,7 @@ fn bringing_lines(alloc: Global, planned: &[Planned]) -> Result<Lines, TransferF
                 let mut line = start(alloc, b"\"amishell-bring\" >")?;
                 push_word(&mut line, &path, true)?;
                 lines.add(alloc, line, &path)?;
-                lines.events = lines.events.saturating_add(pieces(bytes.as_bytes()));
+                lines.events = lines.events.saturating_add(pieces(bytes.len()));
                 if *is_script {
                     lines.add(alloc, protection(alloc, &one.place)?, &path)?;
                 }
@@ -62,8 +62,8 @@ fn bringing_lines(alloc: Global, planned: &[Planned]) -> Result<Lines, TransferF
 }
 
 // How many answers of the launcher a file with these bytes takes.
-fn pieces(bytes: &[u8]) -> u64 {
-    (bytes.len().div_ceil(PIECE_BYTES) as u64).saturating_add(3)
+fn pieces(bytes: usize) -> u64 {
+    (bytes.div_ceil(PIECE_BYTES) as u64).saturating_add(3)
 }
 
 impl Lines {

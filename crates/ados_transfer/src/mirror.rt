@@ -14,7 +14,7 @@ use crate::reports::Reports;
 use crate::stamps::Stamp;
 use crate::stand_ins::StandIns;
 use crate::watches::Watch;
-use ados_ram::{Place, Ram};
+use ados_ram::{Limits, Place, Ram};
 use std::alloc::Global;
 use std::collections::BTreeMap;
 use std::fs;
@@ -33,6 +33,8 @@ pub struct MirrorOptions {
     pub part: bool,
     /// Nothing of this machine is changed; changes are only reported.
     pub dry: bool,
+    /// The limits of the Shell's files.
+    pub limits: Limits,
 }
 
 /// A folder of this machine and a directory of the Shell's files that are kept alike, and what they were at the last comparison.

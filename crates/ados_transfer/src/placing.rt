@@ -6,7 +6,7 @@
 use crate::bringing::bytes_of;
 use crate::here::Here;
 use crate::writing::{Manner, link_beside, open_beside, write_beside};
-use ados_ram::Entry;
+use ados_ram::{Entry, FileBytes};
 use std::fs::Metadata;
 use std::io::{Error, ErrorKind};
 use std::os::unix::fs::{MetadataExt, PermissionsExt};
@@ -55,10 +55,13 @@ pub fn place_whole<R: AllocGlobal + Files>(
     target: &str,
     draft: &Draft<'_>,
 ) -> io::Result<bool> {
-    let beside = write_beside(rt, folder, draft.entry.bytes(), manner(draft)?)?;
+    let Some(bytes) = draft.entry.bytes() else {
+        return Err(Error::from(ErrorKind::InvalidInput));
+    };
+    let beside = write_beside(rt, folder, bytes, manner(draft)?)?;
     let placed = match draft.here {
         Here::File { bytes, .. } => {
-            place_over(rt, folder, beside.as_str(), target, bytes.as_slice())
+            place_over(rt, folder, beside.as_str(), target, bytes)
         }
         _ => place_new(rt, beside.as_str(), target),
     };
@@ -105,7 +108,7 @@ fn place_over<R: AllocGlobal + Files>(
     folder: &str,
     beside: &str,
     target: &str,
-    bytes: &[u8],
+    bytes: &FileBytes,
 ) -> io::Result<bool> {
     if is_bound(rt, folder, beside, target)? {
         return Err(Error::from(ErrorKind::PermissionDenied));
@@ -165,7 +168,7 @@ fn exchange<R: AllocGlobal + Files>(
     rt: &R,
     kept: &str,
     names: (&str, &str),
-    bytes: &[u8],
+    bytes: &FileBytes,
 ) -> io::Result<bool> {
     let (beside, target) = names;
     if let Err(error) = fs::rename(rt, beside, target) {
@@ -181,12 +184,12 @@ fn exchange<R: AllocGlobal + Files>(
 }
 
 /// A file holds these bytes.
-pub fn holds<R: AllocGlobal + Files>(rt: &R, path: &str, bytes: &[u8]) -> bool {
+pub fn holds<R: AllocGlobal + Files>(rt: &R, path: &str, bytes: &FileBytes) -> bool {
     if !fs::symlink_metadata(rt, path).is_ok_and(|found| found.is_file()) {
         return false;
     }
     match bytes_of(rt, path, bytes.len()) {
-        Ok(found) => found.as_slice() == bytes,
+        Ok(found) => bytes.is(&found),
         Err(_) => false,
     }
 }

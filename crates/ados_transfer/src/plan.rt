@@ -1,11 +1,10 @@
 //! What is to be brought in: files and directories, within the limits of the Shell's files.
 
-use crate::faults::{TransferFault, named};
+use crate::faults::{Excess, TransferFault, exceeded, named};
 use crate::planned::{Content, Planned};
 use crate::room::Room;
 use ados_names::PATH_LIMIT;
-use ados_ram::{FILE_LIMIT, Place, Ram};
-use ados_text::Octets;
+use ados_ram::{FileBytes, Limits, Place, Ram};
 use std::alloc::Global;
 
 /// Files and directories to be brought in, each after the directory in which it is.
@@ -20,13 +19,18 @@ pub struct Plan {
 
 impl Plan {
     /// Nothing to be brought in yet; the files that are there count.
-    pub fn new(alloc: Global, files: &Ram) -> Result<Plan, TransferFault> {
+    pub fn new(alloc: Global, limits: Limits, files: &Ram) -> Result<Plan, TransferFault> {
         Ok(Plan {
             alloc,
             planned: Vec::new(alloc),
-            room: Room::new(alloc, files)?,
+            room: Room::new(alloc, limits, files)?,
             lines: Vec::new(alloc),
         })
+    }
+
+    /// The limits of the Shell's files.
+    pub fn limits(&self) -> Limits {
+        self.room.limits()
     }
 
     /// What is to be brought in.
@@ -99,14 +103,14 @@ impl Plan {
         if place.path(self.alloc)?.as_bytes().len() > PATH_LIMIT {
             return Err(named(self.alloc, path, TransferFault::BadName));
         }
-        if size > FILE_LIMIT {
-            return Err(named(self.alloc, path, TransferFault::LargeFile));
+        if size > self.limits().file() {
+            return Err(exceeded(self.alloc, path, Excess::File, self.limits()));
         }
         if !self.room.fits(size, None) {
-            return Err(named(self.alloc, path, TransferFault::ManyBytes));
+            return Err(exceeded(self.alloc, path, Excess::Bytes, self.limits()));
         }
         if !self.room.has_place() {
-            return Err(named(self.alloc, path, TransferFault::ManyObjects));
+            return Err(exceeded(self.alloc, path, Excess::Objects, self.limits()));
         }
         self.room.put(size, None);
         let path = String::from_str(self.alloc, path)?;
@@ -122,14 +126,14 @@ impl Plan {
 fn size_of(content: &Content) -> usize {
     match content {
         Content::Directory => 0,
-        Content::File { bytes, .. } => bytes.as_bytes().len(),
+        Content::File { bytes, .. } => bytes.len(),
     }
 }
 
 /// A file of these bytes.
-pub fn file_of(bytes: Vec<u8>, is_script: bool) -> Content {
-    Content::File {
-        bytes: Octets::from_vec(bytes),
+pub fn file_of(alloc: Global, bytes: &[u8], is_script: bool) -> Result<Content, TransferFault> {
+    Ok(Content::File {
+        bytes: FileBytes::from_slice(alloc, bytes)?,
         is_script,
-    }
+    })
 }

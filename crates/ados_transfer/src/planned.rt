@@ -4,8 +4,7 @@ ghost use Rattle.std.specs.List.{list_all};
 ghost use Rattle.std.specs.Option.{option_copied};
 ghost use Rattle.ados_transfer.specs.Planned.{is_as_planned, holds_content, holds_file};
 
-use ados_ram::{Entry, Place, Ram};
-use ados_text::Octets;
+use ados_ram::{Body, Entry, FileBytes, Place, Ram};
 
 /// What was planned for a place.
 #[derive(Drop)]
@@ -24,7 +23,7 @@ pub enum Content {
     /// A directory.
     Directory,
     /// A file with these bytes, with bit s or without.
-    File { bytes: Octets, is_script: bool },
+    File { bytes: FileBytes, is_script: bool },
 }
 
 /// The files have what was planned, for each of the places.
@@ -55,8 +54,11 @@ fn holds(entry: Option<&Entry>, content: &Content) -> bool
 }
 
 // The entry is a file with these bytes, with bit s or without.
-fn holds_file(entry: &Entry, bytes: &Octets, is_script: bool) -> bool
+fn holds_file(entry: &Entry, bytes: &FileBytes, is_script: bool) -> bool
     ensures { result ≡ holds_file entry.now bytes.now is_script }
 {
-    !entry.is_directory() && entry.bytes() == bytes.as_bytes() && entry.bits.script == is_script
+    match &entry.body {
+        Body::Directory => false,
+        Body::File(found) => found == bytes && entry.bits.script == is_script,
+    }
 }

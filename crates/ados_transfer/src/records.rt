@@ -56,7 +56,7 @@ impl Record {
     pub fn state(&self) -> State<'_> {
         match &self.last {
             Last::Directory => State::Directory,
-            Last::File(bytes) => State::File(bytes.as_bytes()),
+            Last::File(bytes) => State::File(bytes),
             Last::StandIn(_) => State::Large(self.stamp),
         }
     }
@@ -78,12 +78,11 @@ impl Record {
         let Some(entry) = entry else {
             return false;
         };
-        match &self.last {
-            Last::Directory => entry.is_directory(),
-            Last::File(bytes) => {
-                !entry.is_directory() && entry.bytes() == bytes.as_bytes() && !is_stand_in(entry)
-            }
-            Last::StandIn(comment) => is_stand_in_of(entry, comment),
+        match (&self.last, &entry.body) {
+            (Last::Directory, _) => entry.is_directory(),
+            (Last::File(bytes), Body::File(found)) => found == bytes && !is_stand_in(entry),
+            (Last::File(_), Body::Directory) => false,
+            (Last::StandIn(comment), _) => is_stand_in_of(entry, comment),
         }
     }
 
@@ -96,9 +95,9 @@ impl Record {
     }
 
     /// It was a file of these bytes.
-    pub fn is_file_of(&self, bytes: &[u8]) -> bool {
+    pub fn is_file_of(&self, bytes: &FileBytes) -> bool {
         match &self.last {
-            Last::File(last) => last.as_bytes() == bytes,
+            Last::File(last) => last == bytes,
             Last::Directory | Last::StandIn(_) => false,
         }
     }
@@ -115,8 +114,10 @@ pub fn state_there(entry: Option<&Entry>) -> State<'_>
 {
     match own_entry(entry) {
         None => State::Absent,
-        Some(entry) if entry.is_directory() => State::Directory,
-        Some(entry) => State::File(entry.bytes()),
+        Some(entry) => match entry.bytes() {
+            None => State::Directory,
+            Some(bytes) => State::File(bytes),
+        },
     }
 }
 

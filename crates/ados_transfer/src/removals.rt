@@ -29,7 +29,7 @@ impl Mirror {
         account: &mut Account,
     ) -> Result<(), TransferFault> {
         let path = departure.path.as_str();
-        let here = Here::look(rt, path)?;
+        let here = Here::look(rt, self.options.limits, path)?;
         let is_last_copy = self.is_last_copy(rt, key, departure)?
             && !self.is_backed_up(rt, (key, path), departure, &here, account)?;
         let Some(record) = self.records.get(key) else {
@@ -88,7 +88,7 @@ impl Mirror {
         let is_same = self
             .records
             .get(object.0)
-            .is_some_and(|record| record.is_file_of(bytes.as_slice()));
+            .is_some_and(|record| record.is_file_of(bytes));
         let is_needed = departure.is_within_kind_change && !self.options.dry;
         if !is_same || !is_needed || account.has_unwritten() {
             return Ok(false);

@@ -130,12 +130,14 @@ impl Reports {
     }
 
     /// Reports the first object for which the Shell's files have no place.
-    pub fn report_full(&mut self, path: &str) -> Result<(), TransferFault> {
+    pub fn report_full(&mut self, limits: Limits, path: &str) -> Result<(), TransferFault> {
         if self.is_full {
             return Ok(());
         }
         self.is_full = true;
-        self.report("more than 1024 files and folders, left alone from", path)
+        let objects = limits.objects();
+        let text = format!(in self.alloc; "more than {objects} files and folders, left alone from")?;
+        self.report(text.as_str(), path)
     }
 
     /// An object could not be written or brought in, and has not been since.

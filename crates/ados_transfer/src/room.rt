@@ -1,27 +1,34 @@
 //! What there is still room for in the Shell's files.
 
-use ados_ram::{BYTES_LIMIT, Entry, FILE_LIMIT, OBJECTS_LIMIT, Place, Ram};
+use ados_ram::{Entry, Limits, Place, Ram};
 use ados_text::NoMemory;
 use std::alloc::Global;
 
 /// How much the files would hold.
 #[derive(Clone, Copy, Debug)]
 pub struct Room {
+    limits: Limits,
     bytes: usize,
     objects: usize,
 }
 
 impl Room {
-    /// What the files hold.
-    pub fn new(alloc: Global, files: &Ram) -> Result<Room, NoMemory> {
+    /// What the files hold, within these limits.
+    pub fn new(alloc: Global, limits: Limits, files: &Ram) -> Result<Room, NoMemory> {
         let places = files.contents(&Place::root(alloc))?;
         let bytes = places.iter().fold(0usize, |sum, place| {
             sum.saturating_add(size(files.look(place)))
         });
         Ok(Room {
+            limits,
             bytes,
             objects: places.len(),
         })
+    }
+
+    /// The limits of the files.
+    pub fn limits(&self) -> Limits {
+        self.limits
     }
 
     /// How many bytes all files have.
@@ -34,15 +41,15 @@ impl Room {
         self.objects
     }
 
-    /// There is room for one more object in the files. Their limit counts the root, which is not counted here.
+    /// There is room for one more object in the files.
     pub fn has_place(&self) -> bool {
-        self.objects < OBJECTS_LIMIT - 1
+        self.objects < self.limits.objects()
     }
 
     /// There is room for a file with this many bytes in place of what is there.
     pub fn fits(&self, size_now: usize, old: Option<&Entry>) -> bool {
-        size_now <= FILE_LIMIT
-            && size_now <= BYTES_LIMIT.saturating_sub(self.bytes.saturating_sub(size(old)))
+        let others = self.bytes.saturating_sub(size(old));
+        size_now <= self.limits.file() && size_now <= self.limits.bytes().saturating_sub(others)
     }
 
     /// Something with this many bytes takes the place of what is there.
@@ -66,5 +73,5 @@ impl Room {
 }
 
 fn size(entry: Option<&Entry>) -> usize {
-    entry.map_or(0, |entry| entry.bytes().len())
+    entry.map_or(0, |entry| entry.len())
 }

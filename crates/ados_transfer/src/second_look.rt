@@ -54,7 +54,7 @@ impl Mirror {
             return Ok(());
         };
         let path = departure.path.as_str();
-        let here = Here::look(rt, path)?;
+        let here = Here::look(rt, self.options.limits, path)?;
         if here.decision(None, Some(entry)) == Decision::Keep {
             // What cannot be deleted keeps the place, and a line says where the other object is.
             let _ = remove(rt, path, &here);
@@ -70,7 +70,7 @@ fn has_changed<R: AllocGlobal + Files>(rt: &R, aside: &Aside) -> bool {
         return false;
     };
     match &aside.record.last {
-        Last::File(bytes) => !holds(rt, beside.as_str(), bytes.as_bytes()),
+        Last::File(bytes) => !holds(rt, beside.as_str(), bytes),
         Last::StandIn(_) => !fs::symlink_metadata(rt, beside.as_str()).is_ok_and(|found| aside
             .record
             .stamp

@@ -41,7 +41,7 @@ pub fn own_entry(entry: Option<&Entry>) -> Option<&Entry>
 fn is_empty_file(entry: &Entry) -> bool
     ensures { result ≡ is_empty_file entry.now }
 {
-    !entry.is_directory() && entry.bytes().is_empty()
+    !entry.is_directory() && entry.len() == 0
 }
 
 /// The stand-ins of a share.

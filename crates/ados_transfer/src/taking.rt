@@ -143,10 +143,10 @@ fn write<R: AllocGlobal + Files>(
     name: &str,
     entry: &Entry,
 ) -> io::Result<()> {
-    let Some(entry) = own_entry(Some(entry)) else {
-        return Err(io::Error::from(ErrorKind::InvalidData));
-    };
-    write_whole(rt, folder, name, entry.bytes())
+    match own_entry(Some(entry)).and_then(Entry::bytes) {
+        Some(bytes) => write_whole(rt, folder, name, bytes),
+        None => Err(io::Error::from(ErrorKind::InvalidData)),
+    }
 }
 
 fn is_folder<R: Files>(rt: &R, path: &str) -> bool {

@@ -1,9 +1,9 @@
 //! How an object of the Shell's files is written to the folder of a share.
-ghost use Rattle.std.specs.Prelude.{◌≡◌};
+ghost use Rattle.std.specs.Prelude.{◌≡◌, IfOk};
 ghost use Rattle.ados_ram.specs.Entry.{bytes_of};
 ghost use Rattle.ados_transfer.specs.Here.{is_moved_away};
 
-use crate::account::{Account, is_substring};
+use crate::account::{Account, is_part_of};
 use crate::backups::needs_backup;
 use crate::decision::Decision;
 use crate::departure::{Departure, Departures, write_entry};
@@ -14,6 +14,7 @@ use crate::placing::Draft;
 use crate::records::{Last, Record};
 use crate::stamps::Stamp;
 use ados_ram::{Entry, Ram};
+use ados_text::NoMemory;
 use std::os::unix::fs::PermissionsExt;
 use std::rt::Files;
 use std::time::Clock;
@@ -40,7 +41,7 @@ impl Mirror {
         if departure.is_within_kind_change && self.options.dry {
             return self.reports.report_once("would write", path);
         }
-        let here = Here::look(rt, path)?;
+        let here = Here::look(rt, self.options.limits, path)?;
         let record = self.records.get(key);
         let is_large = record.is_some_and(Record::is_stand_in);
         match here.decision(record, Some(entry)) {
@@ -72,7 +73,7 @@ impl Mirror {
         account: &mut Account,
     ) -> Result<(), TransferFault> {
         let (key, path) = object;
-        if is_moved_away(draft, account) {
+        if is_moved_away(draft, account)? {
             account.add_unwritten_entry(path, draft.entry)?;
             if account.is_meanwhile() {
                 return Ok(());
@@ -101,7 +102,7 @@ impl Mirror {
         object: (&str, &str),
         draft: &Draft<'_>,
     ) -> io::Result<Option<Stamp>> {
-        if needs_backup(draft) {
+        if needs_backup(rt.alloc(), draft)? {
             self.back_up(rt, object, draft.here)?;
         }
         write_entry(rt, object.1, draft)
@@ -122,8 +123,10 @@ impl Mirror {
             return false;
         };
         departures.by_key.values().any(|departure| {
-            departure.entry.is_some_and(|entry| !entry.is_directory()
-                && record.is_file_of(entry.bytes()))
+            departure
+                .entry
+                .and_then(Entry::bytes)
+                .is_some_and(|bytes| record.is_file_of(bytes))
         })
     }
 
@@ -136,25 +139,25 @@ impl Mirror {
         entry: &Entry,
         account: &Account,
     ) -> Result<Option<u32>, TransferFault> {
-        if entry.is_directory() {
+        let Some(bytes) = entry.bytes() else {
             return Ok(None);
-        }
+        };
         let mut original = None;
         for record in self.records.values() {
-            if record.is_file_of(entry.bytes()) {
+            if record.is_file_of(bytes) {
                 if !record.is_kept(files.look(&record.place)) {
                     return self.mode_here(rt, record);
                 }
                 original = Some(record);
             }
         }
-        let moved = match account.mode_of(entry.bytes()) {
+        let moved = match account.mode_of(bytes) {
             Some(mode) => Some(mode),
-            None => self.backups.mode_of(entry.bytes()),
+            None => self.backups.mode_of(bytes),
         };
         match (moved, original) {
             (Some(mode), _) => Ok(Some(mode)),
-            (None, Some(record)) if !entry.bytes().is_empty() => {
+            (None, Some(record)) if bytes.len() > 0 => {
                 let mode = self.mode_here(rt, record)?;
                 Ok(mode.map(|mode| mode & 0o755))
             }
@@ -227,14 +230,14 @@ fn is_private<R: Files>(rt: &R, path: &str) -> bool {
 }
 
 // What a file of this machine holds is in a file of the Shell that is not written, and not in the one that takes its place.
-fn is_moved_away(draft: &Draft<'_>, account: &Account) -> bool
-    ensures { result ≡ is_moved_away draft.now.here.now (bytes_of draft.now.entry.now) account.now.bytes.items }
+fn is_moved_away(draft: &Draft<'_>, account: &Account) -> Result<bool, NoMemory>
+    ensures { IfOk result (λ is. is ≡ is_moved_away draft.now.here.now (bytes_of draft.now.entry.now) account.now.bytes.items) }
 {
-    match draft.here {
-        Here::File { bytes, .. } => {
-            !is_substring(bytes.as_slice(), draft.entry.bytes())
-                && account.is_in_unwritten(bytes.as_slice())
-        }
-        _ => false,
+    let Here::File { bytes, .. } = draft.here else {
+        return Ok(false);
+    };
+    if is_part_of(account.alloc, bytes, draft.entry)? {
+        return Ok(false);
     }
+    account.is_in_unwritten(bytes)
 }

@@ -4,6 +4,7 @@ ghost use Rattle.std.specs.Prelude.{◌≡◌, true, IfOk, OnOk, string_bytes};
 ghost use Rattle.ados_transfer.specs.Paths.{is_file_name, path_in};
 
 use crate::paths::{is_file_name, step_into};
+use ados_ram::FileBytes;
 use ados_text::Name;
 use std::alloc::Global;
 use std::fs::{OpenFile, OpenOptions, Permissions};
@@ -110,7 +111,7 @@ pub fn write_whole<R: AllocGlobal + Files>(
     rt: &R,
     folder: &str,
     name: &str,
-    bytes: &[u8],
+    bytes: &FileBytes,
 ) -> io::Result<()> {
     let target = path_of(rt.alloc(), folder, name)?;
     let manner = match fs::symlink_metadata(rt, target.as_str()) {
@@ -131,7 +132,7 @@ pub fn write_whole<R: AllocGlobal + Files>(
 pub fn write_beside<R: AllocGlobal + Files>(
     rt: &R,
     folder: &str,
-    bytes: &[u8],
+    bytes: &FileBytes,
     manner: Manner,
 ) -> io::Result<String> {
     let (beside, mut file) = open_beside(rt, folder, manner.first_mode())?;
@@ -147,8 +148,12 @@ pub fn write_beside<R: AllocGlobal + Files>(
 }
 
 // Writes the bytes, and sets the permissions.
-fn fill<F: Write + OpenFile>(file: &mut F, bytes: &[u8], manner: Manner) -> io::Result<()> {
-    file.write_all(bytes)?;
+fn fill<F: Write + OpenFile>(file: &mut F, bytes: &FileBytes, manner: Manner) -> io::Result<()> {
+    for block in bytes.blocks() {
+        for piece in block.pieces() {
+            file.write_all(piece.as_bytes())?;
+        }
+    }
     let mode = match manner {
         Manner::Plain => return Ok(()),
         Manner::Mode(mode) => mode & 0o777,

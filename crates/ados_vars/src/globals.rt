@@ -1,11 +1,13 @@
 // Global variables: each is a file of ENV:.
 ghost use Rattle.std.specs.Prelude.{◌≡◌, IfOk};
 ghost use Rattle.std.specs.Option.{option_copied};
+ghost use Rattle.ados_ram.specs.Entry.{bytes_or_none};
+ghost use Rattle.ados_text.specs.Lines.{first_line};
 ghost use Rattle.ados_vars.specs.Global.{value_of, global_of};
 
 use ados_assign::Assigns;
 use ados_names::Path;
-use ados_ram::{Entry, Place, Ram};
+use ados_ram::{Entry, FileBytes, Place, Ram};
 use ados_text::{NoMemory, Stop, Text, first_line};
 use std::alloc::Global;
 
@@ -42,8 +44,18 @@ fn value(alloc: Global, entry: Option<&Entry>) -> Result<Option<Text>, NoMemory>
 {
     match entry {
         Some(entry) if !entry.is_directory() && entry.bits.read => {
-            Ok(Some(first_line(alloc, entry.bytes())?))
+            Ok(Some(line_of(alloc, entry.bytes())?))
         }
         _ => Ok(None),
+    }
+}
+
+// The first line of a file's bytes.
+fn line_of(alloc: Global, bytes: Option<&FileBytes>) -> Result<Text, NoMemory>
+    ensures { IfOk result (λ line. line ≡ first_line (bytes_or_none (option_copied bytes.entry))) }
+{
+    match bytes {
+        None => Ok(Text::new(alloc)),
+        Some(bytes) => first_line(alloc, &bytes.to_vec(alloc)?),
     }
 }

@@ -50,7 +50,7 @@ folder comes in when it ends";
 const ALL: &str = "Shares also what has a name that begins with a dot";
 
 const PART: &str =
-    "Shares what fits of a folder that has more than 1024 files and folders; without it nothing runs then";
+    "Shares what fits of a folder that has more files and folders than the Shell can hold; without it nothing runs then";
 
 const DRY: &str =
     "Tells what would be written to the shared folder and deleted there, and writes nothing itself; programs

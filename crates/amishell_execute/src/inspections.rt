@@ -73,7 +73,7 @@ impl Inspector<'_> {
         rt: &R,
         path: &str,
     ) -> Result<bool, Fault> {
-        let mut script = match read_script(rt, path) {
+        let mut script = match read_script(rt, self.options.mirror.limits, path) {
             Ok(script) => script,
             Err(fault) => return Err(unread_script(rt, fault)),
         };

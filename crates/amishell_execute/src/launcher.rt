@@ -2,12 +2,13 @@
 ghost use Rattle.std.specs.Prelude.{◌≡◌, [], true, false, IfOk};
 ghost use Rattle.ados_machine.specs.Children.{answers_start, answers_read, answers_wait};
 
-use crate::delivery::{Delivery, piece_of};
+use crate::delivery::Delivery;
 use crate::error_codes::{ErrorCode, least_code, raised};
 use ados_launch::Launcher;
 use ados_launcher::{Log, Programs, StartFolder};
 use ados_machine::{Answer, Job};
-use ados_text::{NoMemory, Octets, PIECE_BYTES};
+use ados_ram::FileBytes;
+use ados_text::NoMemory;
 use ados_transfer::{BRING, Content, Planned};
 use std::alloc::Global;
 use std::marker::Model;
@@ -27,10 +28,8 @@ struct Children<'a, R: Processes> {
     // What is left to be brought in.
     left: &'a [Planned],
     // What is brought in before that.
-    offered: Option<Octets>,
-    // What `amishell-bring` has left to print of a planned file, and its shell.
-    open: Option<(u8, &'a [u8])>,
-    // What it prints of a file that was offered.
+    offered: Option<FileBytes>,
+    // The file that `amishell-bring` prints.
     delivery: Option<Delivery>,
     // How the program with this number ended, for the wait that follows.
     ended: Option<(u8, Answer)>,
@@ -75,7 +74,6 @@ impl<'a, R: Processes> Bringer<'a, R> {
                 alloc,
                 left: planned,
                 offered: None,
-                open: None,
                 delivery: None,
                 ended: None,
                 programs: Programs::new(alloc, processes)?,
@@ -88,7 +86,7 @@ impl<'a, R: Processes> Bringer<'a, R> {
     }
 
     /// `amishell-bring` prints this the next time; with `None` again what is left to be brought in.
-    pub fn offer(&mut self, bytes: Option<Octets>)
+    pub fn offer(&mut self, bytes: Option<FileBytes>)
         ensures { self.new ≡ self.old }
     {
         self.children.offered = bytes;
@@ -126,8 +124,11 @@ impl<R: Processes> Children<'_, R> {
                 return Answer::Started;
             }
             if let Some((bytes, left)) = next_file(self.left) {
+                let Ok(bytes) = bytes.copy() else {
+                    return Answer::Memory;
+                };
                 self.left = left;
-                self.open = Some((job.shell, bytes));
+                self.delivery = Some(Delivery::new(job.shell, bytes));
                 return Answer::Started;
             }
         }
@@ -151,20 +152,6 @@ impl<R: Processes> Children<'_, R> {
     fn piece(&mut self, child: u8) -> Answer
         ensures { answers_read result ≡ true }
     {
-        match self.open {
-            Some((shell, bytes)) if shell == child => {
-                let length = bytes.len().min(PIECE_BYTES);
-                self.open = Some((shell, &bytes[length..]));
-                piece_of(self.alloc, &bytes[..length])
-            }
-            _ => self.other_piece(child),
-        }
-    }
-
-    // A piece of a file that was offered, or of a program.
-    fn other_piece(&mut self, child: u8) -> Answer
-        ensures { answers_read result ≡ true }
-    {
         let alloc = self.alloc;
         match &mut self.delivery {
             Some(delivery) if delivery.is_of(child) => delivery.next(alloc),
@@ -174,19 +161,6 @@ impl<R: Processes> Children<'_, R> {
 
     // How the program with this number ended.
     fn end(&mut self, child: u8) -> Answer
-        ensures { answers_wait result ≡ true }
-    {
-        match self.open {
-            Some((shell, _)) if shell == child => {
-                self.open = None;
-                Answer::Exit(0)
-            }
-            _ => self.other_end(child),
-        }
-    }
-
-    // How the command ended that printed a file that was offered, or a program.
-    fn other_end(&mut self, child: u8) -> Answer
         ensures { answers_wait result ≡ true }
     {
         if self
@@ -235,10 +209,10 @@ fn how_it_ended(answer: Answer) -> Answer
 }
 
 // The bytes of the first file, and what follows it.
-fn next_file(planned: &[Planned]) -> Option<(&[u8], &[Planned])> {
+fn next_file(planned: &[Planned]) -> Option<(&FileBytes, &[Planned])> {
     for place in 0..planned.len() {
         if let Content::File { bytes, .. } = &planned[place].content {
-            return Some((bytes.as_bytes(), &planned[place + 1..]));
+            return Some((bytes, &planned[place + 1..]));
         }
     }
     None

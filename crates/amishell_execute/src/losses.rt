@@ -1,9 +1,9 @@
 //! The files of a script that are gone when the Shell's memory is: the line that names them.
 
 use crate::faults::{Fault, report};
-use crate::host_faults::shown;
 use ados_ram::{Entry, Place, Ram};
 use ados_text::{Name, NoMemory, Text};
+use ados_trace::shown;
 use ados_transfer::{Content, Planned};
 use std::alloc::Global;
 use std::io::Eprint;
@@ -58,7 +58,7 @@ impl<'a> Kept<'a> {
     // The file had the same bytes before the script.
     fn was_there(&self, place: &Place, entry: &Entry) -> bool {
         match self.before.look(place) {
-            Some(before) => !before.is_directory() && before.bytes() == entry.bytes(),
+            Some(before) => is_same_file(before, entry),
             None => false,
         }
     }
@@ -67,10 +67,18 @@ impl<'a> Kept<'a> {
     fn was_brought(&self, place: &Place, entry: &Entry) -> bool {
         self.planned.iter().any(|one| match &one.content {
             Content::File { bytes, .. } => {
-                one.place == *place && bytes.as_bytes() == entry.bytes()
+                one.place == *place && entry.bytes().is_some_and(|found| found == bytes)
             }
             Content::Directory => false,
         })
+    }
+}
+
+// Both are files, with the same bytes.
+fn is_same_file(entry: &Entry, other: &Entry) -> bool {
+    match (entry.bytes(), other.bytes()) {
+        (Some(bytes), Some(others)) => bytes == others,
+        _ => false,
     }
 }
 

@@ -7,6 +7,7 @@ use crate::mistakes::mistake;
 use crate::reader::AtEnd;
 use crate::request::{Options, Refused};
 use ados_text::{NoMemory, Text, number};
+use ados_find::limits_of;
 use ados_transfer::MirrorOptions;
 use ados_world::Dialect;
 use clap::error::ErrorKind;
@@ -90,8 +91,9 @@ fn options<'a>(
     script: &'a str,
     args: &[&'a str],
 ) -> Result<Options<'a>, AllocError> {
+    let dialect = dialect_by(matches.get_flag("core"));
     Ok(Options {
-        dialect: dialect_by(matches.get_flag("core")),
+        dialect,
         hosts: matches.get_str("hosts"),
         host: list(alloc, matches, "host")?,
         common: matches.get_flag("common"),
@@ -103,6 +105,7 @@ fn options<'a>(
             all: matches.get_flag("all"),
             part: matches.get_flag("part"),
             dry: matches.get_flag("dry"),
+            limits: limits_of(dialect),
         },
         quote: matches.get_flag("quote"),
         strike: matches.get_flag("strike"),

@@ -19,8 +19,8 @@ use std::process::Processes;
 use std::rt::{Env, Files};
 use std::time::Clock;
 
-// The most events that a line takes which brings something in: the longest file comes in 16 pieces.
-const EVENTS: u64 = 100;
+// The most events that a line takes which brings something in: the longest file comes in 16,384 pieces.
+const EVENTS: u64 = 16_500;
 
 /// The mirror of the folder, and its state.
 #[derive(Drop)]

@@ -5,6 +5,7 @@ use Rattle.ados_ram.specs.Files.{AreFiles}
 use Rattle.ados_ram.specs.FileOperations.{has_descendants, delete_fault}
 use Rattle.ados_ram.specs.Tree.{parent_key}
 use Rattle.ados_ram.proofs.FilesLemmas.{deleted_files}
+use Rattle.ados_ram.proofs.WithinLemmas.{removed-within}
 use Rattle.ados_ram.proofs.InsideLemmas.{may_go}
 use Rattle.ados_ram.proofs.NamedLemmas.{delete-named}
 use Rattle.ados_ram.proofs.files.Ram.delete.Goals as goal
@@ -16,6 +17,7 @@ invariant_of-result c =
     let left : c.in_ok-without-in-None.field-0 ≡ map.remove m (key_of c.args.place.now) = c.in_ok-without-in-None.ensures ∙ ap (λ (k : List (List ℕ)). map.remove m (key_of k)) c.names-in-None.ensures in
     let files : AreFiles (map.remove m (key_of c.args.place.now)) = record {
       tree = deleted_files c.args.busy.now c.args.force (key_of c.args.place.now) c.self.invariant.tree free;
+      within = removed-within m (key_of c.args.place.now) c.self.invariant.within;
       named = delete-named m (key_of c.args.place.now) c.self.invariant.named;
     } in
     subst AreFiles (sym left) files

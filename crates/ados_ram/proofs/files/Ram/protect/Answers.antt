@@ -5,6 +5,7 @@ use Rattle.ados_ram.specs.Place.{key_of}
 use Rattle.ados_ram.specs.Entry.{with_bits}
 use Rattle.ados_ram.specs.Files.{AreFiles, Files}
 use Rattle.ados_ram.proofs.FilesLemmas.{changed_files}
+use Rattle.ados_ram.proofs.WithinLemmas.{changed-within}
 use Rattle.ados_ram.proofs.NamedLemmas.{change-named}
 use Rattle.ados_ram.proofs.files.Ram.protect.Goals as goal
 
@@ -14,6 +15,7 @@ with-requires-clause-files c =
     let found : map.get c.self.inside.table key ≡ Some c.in-Ok.entry.now = ap (λ (k : List (List ℕ)). map.get c.self.inside.table (key_of k)) (sym c.names.ensures) ∙ c.in-Ok.ensures.ok in
     let changed : AreFiles (map.insert c.self.inside.table key (with_bits c.args.bits c.in-Ok.entry.now)) = record {
       tree = changed_files key (with_bits c.args.bits) c.in-Ok.entry.now c.self.invariant.tree found refl;
+      within = changed-within key (with_bits c.args.bits) c.in-Ok.entry.now c.self.invariant.within found refl;
       named = change-named c.self.inside.table key (with_bits c.args.bits) c.in-Ok.entry.now (λ e. refl) found c.self.invariant.named;
     } in
     let files : AreFiles (map.insert c.self.inside.table key c.in_ok-with_bits-in-Ok.field-0) =

@@ -2,7 +2,7 @@ use Rattle.std.proofs.Common.{◌≡◌, ℕ, List, sym, ap, ◌∙◌, subst}
 use Rattle.ados_ram.specs.Place.{key_of, last_name}
 use Rattle.ados_ram.specs.Files.{AreFiles}
 use Rattle.ados_ram.specs.FileOperations.{rename_of}
-use Rattle.ados_ram.proofs.RenamedFiles.{renamed_files}
+use Rattle.ados_ram.proofs.RenamedFiles.{renamed_files, renamed-within}
 use Rattle.ados_ram.proofs.InsideLemmas.{free-rename, may_move}
 use Rattle.ados_ram.proofs.NamedLemmas.{rename-named}
 use Rattle.ados_ram.specs.Tree.{MayMove}
@@ -16,6 +16,7 @@ invariant_of-result c =
     c.in_ok-moved-in-None.ensures ∙ ap (λ (k : List (List ℕ)). rename_of m (key_of k) (key_of c.args.to.now) (last_name c.args.to.now)) c.names-in-None.ensures in
     let files : AreFiles (rename_of m (key_of c.args.from.now) (key_of c.args.to.now) (last_name c.args.to.now)) = record {
       tree = renamed_files c.args.busy.now (key_of c.args.from.now) (key_of c.args.to.now) (last_name c.args.to.now) c.self.invariant.tree free;
+      within = renamed-within c.args.busy.now (key_of c.args.from.now) (key_of c.args.to.now) (last_name c.args.to.now) c.self.invariant.tree c.self.invariant.within free;
       named = rename-named c.args.busy.now m c.args.from.now c.args.to.now c.self.invariant.tree free c.self.invariant.named;
     } in
     subst AreFiles (sym moved) files

@@ -17,7 +17,7 @@ with-requires-clause-stands c =
     subst (λ (k : Key). MayStand k (Some c.in_ok-new.new) c.self.inside.root.1) (sym (ap key_of c.names-4.ensures)) (record {
       named = (c.in_ok-new.ensures.name, c.in_ok-new.ensures.rows.whole);
       inside = subst (λ (o : Option Entry). IsSome o) (get_rows c.self.inside.root.1 (parent_key (key_of c.args.place.now)) c.self.view_is c.self.invariant.sorted)
-          (inside c.args.self.now (key_of c.args.place.now) c.args.entry c.requires.root c.requires.files);
+          (inside c.args.self.now (key_of c.args.place.now) c.args.entry c.requires.root c.requires.files.tree);
     })
 
 pub returns : goal.returns
@@ -40,7 +40,7 @@ invariant_of-result c =
     let number : map.len (map.insert c.args.self.now key entry) ≡ c.objects_with-count.result = subst (λ (k : Key). map.len (map.insert c.args.self.now k entry) ≡ c.objects_with-count.result) (ap key_of c.names-3.ensures) (c.objects_with-count.ensures entry) in
     let totals : total_of (map.entries (map.insert c.args.self.now key entry)) ≡ total_of new = ap total_of rows in
     let counts : map.len (map.insert c.args.self.now key entry) ≡ length new = len-entries (map.insert c.args.self.now key entry) ∙ ap length rows in
-    let size : length c.bytes.result.now ≡ size_of entry = ap length c.bytes.ensures in
-    let room = c.requires.files.all_bytes in
-    let few = c.requires.files.objects in
+    let size : c.len.result ≡ size_of entry = c.len.ensures in
+    let room = c.requires.files.within.all_bytes in
+    let few = c.requires.files.within.objects in
     record { sorted = made.whole.sorted; summed = omega arith; counted = omega arith; fits = omega arith; few = omega arith }
