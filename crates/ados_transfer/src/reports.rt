@@ -1,6 +1,7 @@
 //! What a share reports on standard error: each line about an object once in a run, or once until it is settled.
 
 use crate::faults::TransferFault;
+use ados_ram::Limits;
 use std::alloc::Global;
 use std::collections::BTreeSet;
 
