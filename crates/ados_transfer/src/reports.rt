@@ -137,7 +137,9 @@ impl Reports {
         }
         self.is_full = true;
         let objects = limits.objects();
-        let text = format!(in self.alloc; "more than {objects} files and folders, left alone from")?;
+        let text = format!(in self.alloc;
+            "more than {objects} files and folders, left alone from"
+        )?;
         self.report(text.as_str(), path)
     }
 
