@@ -1,4 +1,4 @@
-// The bytes of a file that is being made.
+//! The bytes of a file that is being made.
 ghost use Rattle.std.specs.Prelude.{◌≡◌, ◌<◌, ◌≤◌, ◌++◌, [], length, IfOk, OnOk};
 ghost use Rattle.std.specs.List.{concat};
 ghost use Rattle.ados_ram.specs.Cut.{AllOf, IsCut, IsDraft, piece_bytes, block_bytes};

@@ -1,4 +1,4 @@
-// The units of a file: pieces, and blocks of pieces. Both are shared.
+//! The units of a file: pieces, and blocks of pieces. Both are shared.
 ghost use Rattle.std.specs.Prelude.{◌≡◌, ◌++◌, IfOk, OnOk};
 ghost use Rattle.std.specs.List.{concat};
 ghost use Rattle.std.specs.Str.{bytes_eq};
