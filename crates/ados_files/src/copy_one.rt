@@ -192,11 +192,14 @@ fn written(copying: &Copying, now: &Shared, target: &Place, entry: &Entry) -> Re
     ensures fault { Answers result (copied_fault (limits_of now.now.dialect) copying.now.view.now.busy now.now.files target.now entry.now) }
 {
     let limits = now.limits();
-    let busy = &copying.view.busy;
+    let view = copying.view;
     let bits = new_bits(copying.manner, entry);
     match entry.bytes() {
-        None => now.ram.write_as(limits, busy, target, &[], bits),
-        Some(bytes) => now.ram.write_shared(limits, busy, target, bytes, bits),
+        None => now.ram.write_as(limits, &view.busy, target, &[], bits),
+        Some(bytes) => {
+            now.ram
+                .write_shared(limits, &view.busy, target, bytes, bits)
+        }
     }
 }
 

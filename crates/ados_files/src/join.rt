@@ -80,9 +80,7 @@ impl<'a> Act<Place> for Writing<'a> {
     fn act(&self, shared: &Shared, work: &mut Work, place: &Place) -> Result<(), NoMemory> {
         let view = self.view;
         let now = current(shared, &work.shared);
-        let change = now
-            .ram
-            .write(now.limits(), &view.busy, place, self.bytes);
+        let change = now.ram.write(now.limits(), &view.busy, place, self.bytes);
         go_on(shared, work, change)
     }
 }

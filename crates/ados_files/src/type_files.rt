@@ -164,11 +164,7 @@ impl<'a> Act<Place> for Typing<'a> {
     }
 }
 
-fn push_file(
-    output: &mut Vec<u8>,
-    printing: Printing,
-    bytes: &FileBytes,
-) -> Result<(), NoMemory>
+fn push_file(output: &mut Vec<u8>, printing: Printing, bytes: &FileBytes) -> Result<(), NoMemory>
     ensures { OnOk result (output.new.items ≡ output.old.items ++ file_text printing bytes.now) }
 {
     match printing {

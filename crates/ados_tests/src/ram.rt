@@ -15,7 +15,12 @@ fn fault(answer: Result<Ram, Stop>) -> Result<u16, NoMemory> {
 
 // The files at first and the file `S/q`, which holds `Quit`.
 fn with_script(alloc: Global) -> Result<Ram, Stop> {
-    Ram::new(alloc)?.write(Limits::Small, &Busy::none(alloc), &at(alloc, "s/q")?, b"Quit")
+    Ram::new(alloc)?.write(
+        Limits::Small,
+        &Busy::none(alloc),
+        &at(alloc, "s/q")?,
+        b"Quit",
+    )
 }
 
 // An output is open at `S/q`.

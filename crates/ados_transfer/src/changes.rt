@@ -80,9 +80,7 @@ impl Mirror {
         let place = self.place_of(seen.path.as_str())?;
         let entry = plan.look(key, &place);
         if entry.is_none() && plan.is_full() && !self.records.contains_key(key) {
-            return self
-                .reports
-                .report_full(plan.limits(), seen.path.as_str());
+            return self.reports.report_full(plan.limits(), seen.path.as_str());
         }
         let here = Here::look(rt, self.options.limits, seen.path.as_str())?;
         if here.is_unread() {

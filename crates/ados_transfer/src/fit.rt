@@ -13,59 +13,69 @@ use std::fmt;
 #[derive(Debug, Drop)]
 pub struct Need {
     folder: String,
+    own: Amount,
+    others: Amount,
+    most: Amount,
+}
+
+// Files and folders, and the bytes of the files.
+#[derive(Clone, Copy, Debug)]
+struct Amount {
     objects: usize,
     bytes: u64,
-    others: Room,
 }
 
 impl Need {
     // What a folder needs, by a look at it: a file that is too large by itself is a stand-in, which needs no bytes.
-    fn of(
-        alloc: Global,
-        folder: &str,
-        look: &Look,
-        others: Room,
-    ) -> Result<Need, TransferFault> {
-        let mut need = Need {
-            folder: String::from_str(alloc, folder)?,
+    fn of(alloc: Global, folder: &str, look: &Look, others: &Room) -> Result<Need, TransferFault> {
+        let limits = others.limits();
+        let mut own = Amount {
             objects: 0,
             bytes: 0,
-            others,
         };
         for seen in look.seen.values() {
             match seen.kind {
                 Kind::Foreign => continue,
-                Kind::File { .. } if seen.stamp.size <= others.limits().file() as u64 => {
-                    need.bytes = need.bytes.saturating_add(seen.stamp.size);
+                Kind::File { .. } if seen.stamp.size <= limits.file() as u64 => {
+                    own.bytes = own.bytes.saturating_add(seen.stamp.size);
                 }
                 Kind::File { .. } | Kind::Directory => {}
             }
-            need.objects = need.objects.saturating_add(1);
+            own.objects = own.objects.saturating_add(1);
         }
-        Ok(need)
+        Ok(Need {
+            folder: String::from_str(alloc, folder)?,
+            own,
+            others: Amount {
+                objects: others.objects(),
+                bytes: others.bytes() as u64,
+            },
+            most: Amount {
+                objects: limits.objects(),
+                bytes: limits.bytes() as u64,
+            },
+        })
     }
 
     // There is room for each name: a name that is not there would be taken for a file that does not exist. A file without room for
     // its bytes has a stand-in.
     fn fits(&self) -> bool {
-        self.objects.saturating_add(self.others.objects()) <= self.others.limits().objects()
+        self.own.objects.saturating_add(self.others.objects) <= self.most.objects
     }
 }
 
 impl fmt::Display for Need {
     fn fmt<W: fmt::Write>(&self, f: &mut fmt::Formatter<W>) -> Result<(), fmt::Error> {
-        let (objects, bytes) = (self.others.objects(), self.others.bytes());
-        let limits = self.others.limits();
+        let (own, others, most) = (self.own, self.others, self.most);
         write!(
             f,
-            "{} does not fit: {} files and folders of at most {}, beside {objects} others; ",
-            self.folder, self.objects, limits.objects(),
+            "{} does not fit: {} files and folders of at most {}, beside {} others; ",
+            self.folder, own.objects, most.objects, others.objects,
         )?;
         write!(
             f,
-            "{} bytes of at most {}, beside {bytes} others (--part)",
-            self.bytes,
-            limits.bytes()
+            "{} bytes of at most {}, beside {} others (--part)",
+            own.bytes, most.bytes, others.bytes,
         )
     }
 }
@@ -79,7 +89,7 @@ impl Mirror {
         self.has_begun = true;
         if !self.options.part {
             let others = Room::new(self.alloc, self.options.limits, files)?;
-            let need = Need::of(self.alloc, self.folder.as_str(), look, others)?;
+            let need = Need::of(self.alloc, self.folder.as_str(), look, &others)?;
             if !need.fits() {
                 return Err(TransferFault::DoesNotFit(need));
             }

@@ -190,10 +190,7 @@ impl Mirror {
                 continue;
             }
             let here = Here::look(rt, self.options.limits, record.path.as_str())?;
-            if here
-                .into_bytes()
-                .is_some_and(|found| found == *bytes)
-            {
+            if here.into_bytes().is_some_and(|found| found == *bytes) {
                 return Ok(true);
             }
         }
@@ -235,7 +232,5 @@ fn bytes_of<'a>(records: &'a Records, key: &str) -> Option<&'a FileBytes> {
 
 // The first file that has these bytes.
 fn first_with<'a, 'b>(holders: &'a [Holder<'b>], bytes: &FileBytes) -> Option<&'a Holder<'b>> {
-    holders
-        .iter()
-        .find(|holder| holder.bytes == bytes)
+    holders.iter().find(|holder| holder.bytes == bytes)
 }

@@ -60,9 +60,7 @@ pub fn place_whole<R: AllocGlobal + Files>(
     };
     let beside = write_beside(rt, folder, bytes, manner(draft)?)?;
     let placed = match draft.here {
-        Here::File { bytes, .. } => {
-            place_over(rt, folder, beside.as_str(), target, bytes)
-        }
+        Here::File { bytes, .. } => { place_over(rt, folder, beside.as_str(), target, bytes) }
         _ => place_new(rt, beside.as_str(), target),
     };
     if !matches!(placed, Ok(true)) {

@@ -1,6 +1,7 @@
 //! What a share reports on standard error: each line about an object once in a run, or once until it is settled.
 
 use crate::faults::TransferFault;
+use ados_ram::Limits;
 use std::alloc::Global;
 use std::collections::BTreeSet;
 
@@ -136,7 +137,9 @@ impl Reports {
         }
         self.is_full = true;
         let objects = limits.objects();
-        let text = format!(in self.alloc; "more than {objects} files and folders, left alone from")?;
+        let text = format!(in self.alloc;
+            "more than {objects} files and folders, left alone from"
+        )?;
         self.report(text.as_str(), path)
     }
 

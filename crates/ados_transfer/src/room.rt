@@ -5,7 +5,7 @@ use ados_text::NoMemory;
 use std::alloc::Global;
 
 /// How much the files would hold.
-#[derive(Clone, Copy, Debug)]
+#[derive(Clone, Copy)]
 pub struct Room {
     limits: Limits,
     bytes: usize,

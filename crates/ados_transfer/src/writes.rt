@@ -13,6 +13,7 @@ use crate::mirror::Mirror;
 use crate::placing::Draft;
 use crate::records::{Last, Record};
 use crate::stamps::Stamp;
+use crate::writing::no_memory;
 use ados_ram::{Entry, Ram};
 use ados_text::NoMemory;
 use std::os::unix::fs::PermissionsExt;
@@ -102,7 +103,10 @@ impl Mirror {
         object: (&str, &str),
         draft: &Draft<'_>,
     ) -> io::Result<Option<Stamp>> {
-        if needs_backup(rt.alloc(), draft)? {
+        let Ok(needs_backup) = needs_backup(rt.alloc(), draft) else {
+            return Err(no_memory());
+        };
+        if needs_backup {
             self.back_up(rt, object, draft.here)?;
         }
         write_entry(rt, object.1, draft)

@@ -72,8 +72,8 @@ impl Delivery {
     }
 }
 
-/// The answer with these bytes of an output, or its end if there are none.
-pub fn piece_of(alloc: Global, bytes: &[u8]) -> Answer
+// The answer with these bytes of an output, or its end if there are none.
+fn piece_of(alloc: Global, bytes: &[u8]) -> Answer
     requires { length bytes.now ≤ 4096 }
     ensures { answers_read result ≡ true }
 {
