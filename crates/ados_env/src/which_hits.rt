@@ -11,7 +11,7 @@ use crate::directories::path_line;
 use crate::sought::is_directory;
 use ados_find::{Refusal, Shared, ShellView, is_path, place_of};
 use ados_ram::{Entry, Place};
-use ados_resident::{Hosts, Program};
+use ados_resident::Program;
 use ados_text::{NoMemory, Text};
 use std::alloc::Global;
 
@@ -95,14 +95,14 @@ fn push_entry(
     let Some(entry) = shared.ram.look(place) else {
         return Ok(());
     };
-    if is_command(&shared.hosts, entry)? {
+    if is_command(shared, entry)? {
         lines.extend_from_slice(path_line(alloc, &shared.ram, place)?.as_slice())?;
     }
     Ok(())
 }
 
-fn is_command(hosts: &Hosts, entry: &Entry) -> Result<bool, NoMemory>
-    ensures { IfOk result (λ is. is ≡ is_command hosts.now entry.now) }
+fn is_command(shared: &Shared, entry: &Entry) -> Result<bool, NoMemory>
+    ensures { IfOk result (λ is. is ≡ is_command shared.now entry.now) }
 {
     if entry.is_directory() {
         return Ok(false);
@@ -110,5 +110,5 @@ fn is_command(hosts: &Hosts, entry: &Entry) -> Result<bool, NoMemory>
     if entry.bits.script || !entry.bits.execute {
         return Ok(entry.bits.script);
     }
-    Ok(Program::of_file(hosts, entry.bytes())?.is_some())
+    Ok(Program::of_file(shared.dialect, &shared.hosts, entry.bytes())?.is_some())
 }
