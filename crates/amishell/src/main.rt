@@ -87,7 +87,7 @@ fn run_typed<R: AllocGlobal + Files + Input + Print + Processes>(
     turns: u64,
 ) -> Result<u8, Fault> {
     let hosts = match hosts {
-        Some(file) => files::hosts_in(rt, file)?,
+        Some(file) => files::hosts_in(rt, dialect, file)?,
         None => Vec::new(rt.alloc()),
     };
     let mut world = fresh(rt.alloc(), dialect, hosts.as_slice())?;
@@ -120,7 +120,7 @@ fn replay<R: AllocGlobal + Files + Print>(rt: &R, file: &str) -> Result<u8, Faul
 
 // A world of a dialect in which nothing happened, with these programs of the host.
 fn fresh(alloc: Global, dialect: Dialect, hosts: &[HostEntry]) -> Result<World, Fault>
-    requires free { are_free hosts.now ≡ true }
+    requires free { are_free dialect hosts.now ≡ true }
     ensures world { IfOk result (λ world. world ≡ fresh_world dialect hosts.now) }
 {
     match World::with_dialect(alloc, hosts, dialect) {
