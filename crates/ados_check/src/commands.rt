@@ -24,8 +24,8 @@ pub enum Word {
 }
 
 impl Word {
-    /// What a word stands for, if no file, alias or entry of the resident list has its name.
-    pub fn of(word: &Text) -> Word {
+    /// What a word stands for in a dialect, if no file, alias or entry of the resident list has its name.
+    pub fn of(dialect: Dialect, word: &Text) -> Word {
         if let Some(command) = InternalCommand::named(word) {
             return match command.builtin() {
                 Some(builtin) => Word::Builtin(builtin),
@@ -36,7 +36,7 @@ impl Word {
             [b'C' | b'c', b':', name @ ..] => name,
             name => name,
         };
-        match DiskCommand::named(name) {
+        match DiskCommand::named(dialect, name) {
             Some(command) => Word::Builtin(command.builtin()),
             None => Word::Other,
         }

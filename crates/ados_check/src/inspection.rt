@@ -167,7 +167,7 @@ impl Look<'_> {
     ) -> Result<(), NoMemory>
         ensures { OnOk result (SaysTheSame found.old.items found.new.items) }
     {
-        match Word::of(&line.command) {
+        match Word::of(self.dialect, &line.command) {
             Word::Builtin(_) if self.may_ask(&line.args) => Ok(()),
             Word::Builtin(command) => self.look_at_arguments(number, command, line, found),
             Word::Run => Ok(()),

@@ -27,7 +27,7 @@ pub fn check(
     // In each line of the file the first byte above 127 where it matters is found, and no other is said to be there.
     ensures signs { IfOk result (λ found. (number : ℕ) → signs_told number found.items ≡ signs_at bytes.now number) }
 {
-    let mut found = signs_found(alloc, aliases, lines, bytes)?;
+    let mut found = signs_found(alloc, dialect, aliases, lines, bytes)?;
     for (place, line) in lines.iter().enumerate() {
         push_options(dialect, aliases, place.saturating_add(1), line, &mut found)?;
     }
@@ -47,6 +47,7 @@ pub fn sort(found: &mut Vec<Finding>) -> Result<(), NoMemory>
 #[tactic(auto, using(crate::proofs::SignLemmas::ascii_none, crate::proofs::SignLemmas::none_yet, crate::proofs::SignLemmas::none_more, crate::proofs::SignLemmas::one_more, crate::proofs::SignLemmas::told_all))]
 fn signs_found(
     alloc: Global,
+    dialect: Dialect,
     aliases: &Aliases,
     lines: &[Text],
     bytes: &[u8],
@@ -56,7 +57,8 @@ fn signs_found(
     if bytes.is_ascii() {
         return Ok(Vec::new(alloc));
     }
-    let is_told_only = !renames_printers(alloc, aliases, lines)? && !may_call(alloc, lines)?;
+    let is_told_only = !renames_printers(alloc, aliases, lines)?
+        && !may_call(alloc, dialect, lines)?;
     let is_dotted = is_dotted(bytes);
     let in_file = lines_in(alloc, bytes)?;
     let mut found = Vec::new(alloc);

@@ -6,7 +6,7 @@ use crate::left_out::{alias_text, name_in};
 use ados_items::{between, first_word, rest_of, trimmed};
 use ados_line::without_comment;
 use ados_machine::Builtin;
-use ados_resident::FlowCommand;
+use ados_resident::{Dialect, FlowCommand};
 use ados_text::{NoMemory, Text, same_name};
 use ados_vars::Aliases;
 use std::alloc::Global;
@@ -39,9 +39,9 @@ pub fn renames_printers(
 }
 
 /// A line of a script may have another script run: what that one makes an alias of, or takes off the resident list, is not known.
-pub fn may_call(alloc: Global, lines: &[Text]) -> Result<bool, NoMemory> {
+pub fn may_call(alloc: Global, dialect: Dialect, lines: &[Text]) -> Result<bool, NoMemory> {
     for line in lines {
-        if calls(alloc, without_comment(line.as_bytes()))? {
+        if calls(alloc, dialect, without_comment(line.as_bytes()))? {
             return Ok(true);
         }
     }
@@ -49,7 +49,7 @@ pub fn may_call(alloc: Global, lines: &[Text]) -> Result<bool, NoMemory> {
 }
 
 // The command of a line may have another script run; one between back-ticks may too. A directive has none.
-fn calls(alloc: Global, line: &[u8]) -> Result<bool, NoMemory> {
+fn calls(alloc: Global, dialect: Dialect, line: &[u8]) -> Result<bool, NoMemory> {
     if line.contains(&b'`') {
         return Ok(true);
     }
@@ -60,7 +60,7 @@ fn calls(alloc: Global, line: &[u8]) -> Result<bool, NoMemory> {
         return Ok(false);
     }
     let name = Text::from_bytes(alloc, name_in(between(line, word.from, word.to)))?;
-    Ok(match Word::of(&name) {
+    Ok(match Word::of(dialect, &name) {
         Word::Builtin(Builtin::Flow(FlowCommand::Execute)) | Word::Run | Word::Other => true,
         Word::Builtin(_) => false,
     })

@@ -1,5 +1,5 @@
 -- Which with ALL: what the search for a word meets.
-use Rattle.std.specs.Prelude.{Bool, not, ◌&&◌, ◌||◌, List, [], ◌++◌, codes, Option, Some, None, is_some, Result, Ok, Err, if◌then◌else◌}
+use Rattle.std.specs.Prelude.{Bool, not, ◌&&◌, ◌||◌, [], ◌++◌, codes, Option, Some, None, is_some, Result, Ok, Err, if◌then◌else◌}
 use Rattle.std.specs.List.{flat_map}
 use Rattle.std.specs.FinMap as map
 use Rattle.ados_text.specs.Text.{Bytes, Text}
@@ -11,18 +11,17 @@ use Rattle.ados_find.specs.Parts.{Parts}
 use Rattle.ados_find.specs.Paths.{place_of}
 use Rattle.ados_find.specs.Search.{is_path, places_of_entries}
 use Rattle.ados_find.specs.Shared.{SharedState}
-use Rattle.ados_resident.specs.declared.hosts.HostEntry.{HostEntry}
 use Rattle.ados_resident.specs.Programs.{recognized_program}
 use Rattle.ados_env.specs.Directories.{path_line}
 
 -- a script, or a program by its bytes that has bit e
-abbrev pub is_command : List HostEntry → Entry → Bool
-is_command hosts e = not (is_directory e) && (e.bits.script || (e.bits.execute && is_some (recognized_program hosts (bytes_of e))))
+abbrev pub is_command : SharedState → Entry → Bool
+is_command shared e = not (is_directory e) && (e.bits.script || (e.bits.execute && is_some (recognized_program shared.dialect shared.hosts (bytes_of e))))
 
 -- a script or a program has a line
 abbrev pub entry_line : SharedState → Place → Option Entry → Bytes
 entry_line shared place None = []
-entry_line shared place (Some e) = if is_command shared.hosts e then path_line shared.files place else []
+entry_line shared place (Some e) = if is_command shared e then path_line shared.files place else []
 
 abbrev pub place_line : SharedState → Result Place Codes → Bytes
 place_line shared (Err codes) = []

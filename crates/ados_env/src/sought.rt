@@ -128,7 +128,7 @@ fn has_file(
 
 // There is a file at a place.
 fn is_file(shared: &Shared, place: &Place) -> bool
-    ensures { result ≡ is_some (file_of_entry shared.now.hosts place.now (map.get shared.now.files (key_of place.now))) }
+    ensures { result ≡ is_some (file_of_entry shared.now place.now (map.get shared.now.files (key_of place.now))) }
 {
     match shared.ram.look(place) {
         None => false,

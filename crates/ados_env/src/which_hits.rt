@@ -11,7 +11,6 @@ use crate::directories::path_line;
 use crate::sought::is_directory;
 use ados_find::{Refusal, Shared, ShellView, entry_program, is_path, place_of};
 use ados_ram::{Entry, Place};
-use ados_resident::Hosts;
 use ados_text::{NoMemory, Text};
 use std::alloc::Global;
 
@@ -95,14 +94,14 @@ fn push_entry(
     let Some(entry) = shared.ram.look(place) else {
         return Ok(());
     };
-    if is_command(alloc, &shared.hosts, entry)? {
+    if is_command(alloc, shared, entry)? {
         lines.extend_from_slice(path_line(alloc, &shared.ram, place)?.as_slice())?;
     }
     Ok(())
 }
 
-fn is_command(alloc: Global, hosts: &Hosts, entry: &Entry) -> Result<bool, NoMemory>
-    ensures { IfOk result (λ is. is ≡ is_command hosts.now entry.now) }
+fn is_command(alloc: Global, shared: &Shared, entry: &Entry) -> Result<bool, NoMemory>
+    ensures { IfOk result (λ is. is ≡ is_command shared.now entry.now) }
 {
     if entry.is_directory() {
         return Ok(false);
@@ -110,5 +109,5 @@ fn is_command(alloc: Global, hosts: &Hosts, entry: &Entry) -> Result<bool, NoMem
     if entry.bits.script || !entry.bits.execute {
         return Ok(entry.bits.script);
     }
-    Ok(entry_program(alloc, hosts, entry)?.is_some())
+    Ok(entry_program(alloc, shared, entry)?.is_some())
 }

@@ -8,3 +8,5 @@ pub mod DeviceLemmas
 pub mod LevelLemmas
 mod ShapeLemmas
 mod DumpLemmas
+mod LineLemmas
+mod OrderLemmas

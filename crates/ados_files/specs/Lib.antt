@@ -21,5 +21,7 @@ pub mod MayChange
 pub mod Join
 pub mod Jobs
 pub mod Copy
+pub mod SortOrder
+pub mod Sort
 pub mod Rows
 pub mod Devices

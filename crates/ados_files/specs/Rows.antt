@@ -19,8 +19,9 @@ use Rattle.ados_files.specs.Dir.{dir_row}
 use Rattle.ados_files.specs.Rename.{rename_row}
 use Rattle.ados_files.specs.Join.{join_row}
 use Rattle.ados_files.specs.Copy.{copy_row}
+use Rattle.ados_files.specs.Sort.{sort_row}
 
--- the text of a command's template in Core
+-- the text of a command's template in Core, and that of Sort, which Full alone has
 abbrev pub core_template_of : FilesCommand → Text
 core_template_of files.Copy = codes "FROM/M,TO/A,ALL/S,QUIET/S"
 core_template_of files.Delete = codes "FILE/M/A,ALL/S,QUIET/S"
@@ -31,6 +32,7 @@ core_template_of files.List = codes "DIR/M,P=PAT/K,QUICK/S,FILES/S,DIRS/S"
 core_template_of files.MakeDir = codes "NAME/M"
 core_template_of files.Protect = codes "FILE/A,FLAGS,ADD/S,SUB/S"
 core_template_of files.Rename = codes "FROM/A,TO=AS/A"
+core_template_of files.Sort = codes "FROM/A,TO/A,COLSTART/K/N,CASE/S,NUMERIC/S"
 core_template_of files.«Type» = codes "FROM/A/M"
 
 -- in Full it has more options behind those
@@ -60,4 +62,5 @@ row_of files.List shared view args = list_row shared view args
 row_of files.MakeDir shared view args = make_dir_row shared view args
 row_of files.Protect shared view args = protect_row shared view args
 row_of files.Rename shared view args = rename_row shared view args
+row_of files.Sort shared view args = sort_row shared view args
 row_of files.«Type» shared view args = type_row shared view args

@@ -25,7 +25,7 @@ pub fn push_devices(
 {
     shared.push_devices_of(used, args.made_texts(alloc, 0)?.as_slice())?;
     match command {
-        FilesCommand::Copy | FilesCommand::Join | FilesCommand::Rename => {
+        FilesCommand::Copy | FilesCommand::Join | FilesCommand::Rename | FilesCommand::Sort => {
             shared.push_devices_of(used, args.made_texts(alloc, 1)?.as_slice())
         }
         FilesCommand::List => {

@@ -52,8 +52,13 @@ impl<'a> Act<Text> for Joining<'a> {
     }
 }
 
-// Writes all that was read, if nothing was refused.
-fn written_to(view: &ShellView, shared: &Shared, work: &mut Work, to: &Text) -> Result<(), NoMemory>
+/// Writes all that was read, if nothing was refused.
+pub fn written_to(
+    view: &ShellView,
+    shared: &Shared,
+    work: &mut Work,
+    to: &Text,
+) -> Result<(), NoMemory>
     ensures { OnOk result (done_of shared.now work.new ≡ write_read view.now to.now (done_of shared.now work.old)) }
 {
     let none = Vec::new(*work.output.allocator());

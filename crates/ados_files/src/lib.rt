@@ -1,5 +1,5 @@
 #![tactic(auto)]
-//! The commands on files: MakeDir, Delete, Rename, Copy, Type, Join, List, Dir, Protect and Filenote.
+//! The commands on files: MakeDir, Delete, Rename, Copy, Type, Join, List, Dir, Protect, Filenote and Sort.
 
 mod acts;
 mod bases;
@@ -25,6 +25,8 @@ mod protect;
 mod rename;
 mod rows;
 mod shapes;
+mod sort;
+mod sort_order;
 mod spellings;
 mod type_files;
 

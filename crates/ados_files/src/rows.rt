@@ -12,6 +12,7 @@ use crate::listing::list;
 use crate::make_dir::make_dir;
 use crate::protect::protect;
 use crate::rename::rename_object;
+use crate::sort::sort;
 use crate::type_files::type_files;
 use ados_find::{CommandResult, Shared, ShellView};
 use ados_readargs::Args;
@@ -19,7 +20,7 @@ use ados_resident::{Builtin, Dialect, FilesCommand};
 use std::alloc::Global;
 
 /// The commands of this crate, in the order in which they are declared.
-pub const COMMANDS: [Builtin; 10] = [
+pub const COMMANDS: [Builtin; 11] = [
     Builtin::Files(FilesCommand::Copy),
     Builtin::Files(FilesCommand::Delete),
     Builtin::Files(FilesCommand::Dir),
@@ -29,6 +30,7 @@ pub const COMMANDS: [Builtin; 10] = [
     Builtin::Files(FilesCommand::MakeDir),
     Builtin::Files(FilesCommand::Protect),
     Builtin::Files(FilesCommand::Rename),
+    Builtin::Files(FilesCommand::Sort),
     Builtin::Files(FilesCommand::Type),
 ];
 
@@ -42,7 +44,7 @@ pub fn template(dialect: Dialect, command: FilesCommand) -> &'static str
     }
 }
 
-/// The text of a command's template in Core.
+/// The text of a command's template in Core, and that of Sort, which Full alone has.
 fn core_template(command: FilesCommand) -> &'static str
     ensures { result.now ≡ core_template_of command }
 {
@@ -56,6 +58,7 @@ fn core_template(command: FilesCommand) -> &'static str
         FilesCommand::MakeDir => "NAME/M",
         FilesCommand::Protect => "FILE/A,FLAGS,ADD/S,SUB/S",
         FilesCommand::Rename => "FROM/A,TO=AS/A",
+        FilesCommand::Sort => "FROM/A,TO/A,COLSTART/K/N,CASE/S,NUMERIC/S",
         FilesCommand::Type => "FROM/A/M",
     }
 }
@@ -74,7 +77,8 @@ fn full_template(command: FilesCommand) -> &'static str
             "DIR/M,P=PAT/K,QUICK/S,FILES/S,DIRS/S,TO/K,SUB/K,LFORMAT/K,ALL/S,KEYS/S,DATES/S,NODATES/S,BLOCK/S,NOHEAD/S,SINCE/K,UPTO/K",
         FilesCommand::Protect => "FILE/A,FLAGS,ADD/S,SUB/S,ALL/S,QUIET/S",
         FilesCommand::Type => "FROM/A/M,TO/K,HEX/S,NUMBER/S,OPT/K",
-        FilesCommand::Join | FilesCommand::MakeDir | FilesCommand::Rename => core_template(command),
+        FilesCommand::Join | FilesCommand::MakeDir | FilesCommand::Rename | FilesCommand::Sort =>
+            core_template(command),
     }
 }
 
@@ -98,6 +102,7 @@ pub fn run(
         FilesCommand::MakeDir => make_dir(alloc, shared, view, args),
         FilesCommand::Protect => protect(alloc, shared, view, args),
         FilesCommand::Rename => rename_object(alloc, shared, view, args),
+        FilesCommand::Sort => sort(alloc, shared, view, args),
         FilesCommand::Type => type_files(alloc, shared, view, args),
     }
 }

@@ -15,7 +15,6 @@ use Rattle.ados_find.specs.declared.search.Found.TheVariants as found
 use Rattle.ados_find.specs.Paths.{place_of}
 use Rattle.ados_find.specs.Search.{is_path, file_kind, file_lookup, file_of_entry, first_file, file_or, found_file, found_of, found_program, directory_or_unknown, internal_or, entry_listed, places_of_entries}
 use Rattle.ados_find.specs.Shared.{SharedState}
-use Rattle.ados_resident.specs.declared.hosts.HostEntry.{HostEntry}
 use Rattle.ados_resident.specs.declared.programs.Program.{Program}
 use Rattle.ados_resident.specs.declared.residents.Internal.{Internal}
 use Rattle.ados_resident.specs.declared.residents.Resident.{Resident}
@@ -27,12 +26,12 @@ program-is : (place : Place) (program : Option Program) → found_program place 
 program-is place None = refl
 program-is place (Some program) = refl
 
-kind-is : (hosts : List HostEntry) (place : Place) (entry : Entry) → file_kind hosts place entry ≡ as_file hosts place entry
-kind-is hosts place entry = rw (program-is place (recognized_program hosts (bytes_of entry))) refl
+kind-is : (shared : SharedState) (place : Place) (entry : Entry) → file_kind shared place entry ≡ as_file shared place entry
+kind-is shared place entry = rw (program-is place (recognized_program shared.dialect shared.hosts (bytes_of entry))) refl
 
-there-is : (shared : SharedState) (place : Place) (entry : Option Entry) → file_of_entry shared.hosts place entry ≡ file_there shared place entry
+there-is : (shared : SharedState) (place : Place) (entry : Option Entry) → file_of_entry shared place entry ≡ file_there shared place entry
 there-is shared place None = refl
-there-is shared place (Some entry) = rw (kind-is shared.hosts place entry) refl
+there-is shared place (Some entry) = rw (kind-is shared place entry) refl
 
 file-is : (shared : SharedState) (at : Result Place Codes) → file_lookup shared at ≡ file_at shared at
 file-is shared (Err codes) = refl

@@ -19,7 +19,6 @@ use Rattle.ados_find.specs.Paths.{place_of}
 use Rattle.ados_find.specs.Search.{is_path}
 use Rattle.ados_find.specs.Shared.{SharedState}
 use Rattle.ados_resident.specs.declared.dialects.Dialect.{Dialect}
-use Rattle.ados_resident.specs.declared.hosts.HostEntry.{HostEntry}
 use Rattle.ados_resident.specs.declared.programs.Program.{Program}
 use Rattle.ados_resident.specs.declared.residents.Internal.{Internal}
 use Rattle.ados_resident.specs.declared.residents.Resident.{Resident}
@@ -74,15 +73,15 @@ abbrev pub as_program : Place → Option Program → Found
 as_program place (Some program) = found.File (record { place = place; program = program })
 as_program place None = cannot_run 121
 
-abbrev pub as_file : List HostEntry → Place → Entry → Found
-as_file hosts place entry =
+abbrev pub as_file : SharedState → Place → Entry → Found
+as_file shared place entry =
     if entry.bits.script then found.Script place else
-    (if entry.bits.execute then as_program place (recognized_program hosts (bytes_of entry)) else cannot_run 305)
+    (if entry.bits.execute then as_program place (recognized_program shared.dialect shared.hosts (bytes_of entry)) else cannot_run 305)
 
 -- the file at a place, and the directory there, if there is one
 abbrev pub file_there : SharedState → Place → Option Entry → Option Found
 file_there shared place None = None
-file_there shared place (Some entry) = if is_directory entry then None else Some (as_file shared.hosts place entry)
+file_there shared place (Some entry) = if is_directory entry then None else Some (as_file shared place entry)
 
 abbrev pub directory_there : Place → Option Entry → Option Found
 directory_there place None = None

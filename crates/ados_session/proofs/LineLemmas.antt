@@ -6,6 +6,7 @@ use Rattle.std.proofs.lemmas.List.Elements.{filter_map-append}
 use Rattle.std.proofs.lemmas.List.Concat.{flat_map-append}
 use Rattle.std.proofs.lemmas.List.Folds.{list_all-append}
 use Rattle.ados_text.specs.Text.{Text}
+use Rattle.ados_resident.specs.declared.dialects.Dialect.{Dialect}
 use Rattle.ados_resident.specs.declared.hosts.HostEntry.{HostEntry}
 use Rattle.ados_session.specs.Hosts.{are_free, are_hosts, host_in, host_line, parsed_hosts, is_host_line}
 use Rattle.ados_session.specs.declared.recordings.Form.{Form}
@@ -42,17 +43,17 @@ records_more form done line = rw (
 ) refl
 
 -- a line of a file of hosts is taken
-pub host_taken : (lines : List Text) (place : ℕ) (line : Text) (old new : List HostEntry) (good : Bool) → place < length lines → line ≡ get_or lines place line
-    → are_hosts (take place lines) ≡ true → old ≡ parsed_hosts (take place lines)
+pub host_taken : (dialect : Dialect) (lines : List Text) (place : ℕ) (line : Text) (old new : List HostEntry) (good : Bool) → place < length lines → line ≡ get_or lines place line
+    → are_hosts dialect (take place lines) ≡ true → old ≡ parsed_hosts (take place lines)
     → new ≡ old ++ parsed_hosts (line ∷ [])
-    → good ≡ (is_host_line (host_line line) && are_free new)
-    → (are_hosts (take (place + 1) lines) ≡ good) × (new ≡ parsed_hosts (take (place + 1) lines))
-host_taken lines place line old new good within is_line before is_old is_new is_good =
+    → good ≡ (is_host_line (host_line line) && are_free dialect new)
+    → (are_hosts dialect (take (place + 1) lines) ≡ good) × (new ≡ parsed_hosts (take (place + 1) lines))
+host_taken dialect lines place line old new good within is_line before is_old is_new is_good =
     let done = take place lines in
     let all : new ≡ parsed_hosts (done ++ line ∷ []) = is_new ∙ ap (λ hosts. hosts ++ parsed_hosts (line ∷ [])) is_old ∙ sym (hosts_more done line) in
-    let checked : are_hosts (done ++ line ∷ []) ≡ good =
-    all_more (λ line. is_host_line (host_line line)) done line (are_free (parsed_hosts (done ++ line ∷ []))) (and_left _ _ before)
-    ∙ ap (λ hosts. is_host_line (host_line line) && are_free hosts) (sym all) ∙ sym is_good in
+    let checked : are_hosts dialect (done ++ line ∷ []) ≡ good =
+    all_more (λ line. is_host_line (host_line line)) done line (are_free dialect (parsed_hosts (done ++ line ∷ []))) (and_left _ _ before)
+    ∙ ap (λ hosts. is_host_line (host_line line) && are_free dialect hosts) (sym all) ∙ sym is_good in
     rw (take_more lines place line within, ← is_line) (checked, all)
 
 -- a line of a recording is taken
@@ -70,15 +71,15 @@ record_taken form lines place line old new good within is_line before is_old is_
     rw (take_more lines place line within, ← is_line) (checked, all)
 
 -- with the commands of lines that are good a world can be made
-pub hosts_free : (lines : List Text) (hosts : List HostEntry) → are_hosts lines ≡ true → hosts ≡ parsed_hosts lines → are_free hosts ≡ true
-hosts_free lines hosts good is = rw is (and_right _ _ good)
+pub hosts_free : (dialect : Dialect) (lines : List Text) (hosts : List HostEntry) → are_hosts dialect lines ≡ true → hosts ≡ parsed_hosts lines → are_free dialect hosts ≡ true
+hosts_free dialect lines hosts good is = rw is (and_right _ _ good)
 
-pub records_free : (form : Form) (lines : List Text) (session : RecordedSession) → are_records form lines ≡ true → session ≡ session_of_lines form lines → are_free session.hosts ≡ true
+pub records_free : (form : Form) (lines : List Text) (session : RecordedSession) → are_records form lines ≡ true → session ≡ session_of_lines form lines → are_free session.dialect session.hosts ≡ true
 records_free form lines session good is = rw is (and_left _ _ (and_right _ _ good))
 
 -- and the event numbers of their breaks do not decrease
 pub records_rise : (form : Form) (lines : List Text) (session : RecordedSession) → are_records form lines ≡ true → session ≡ session_of_lines form lines → are_rising session.breaks ≡ true
-records_rise form lines session good is = rw is (and_right (are_free (session_of_lines form lines).hosts) _ (and_right _ _ good))
+records_rise form lines session good is = rw is (and_right (are_free (session_of_lines form lines).dialect (session_of_lines form lines).hosts) _ (and_right _ _ good))
 
 and_assoc : (a b c : Bool) → (a && (b && c)) ≡ ((a && b) && c)
 and_assoc true b c = refl

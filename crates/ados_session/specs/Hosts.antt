@@ -3,6 +3,7 @@ use Rattle.std.specs.Prelude.{Bool, true, false, ◌&&◌, ◌||◌, ◌==◌, L
 use Rattle.std.specs.List.{filter_map, list_all}
 use Rattle.ados_text.specs.Text.{Text}
 use Rattle.ados_items.specs.Parts.{first_word, rest_of, trimmed_text}
+use Rattle.ados_resident.specs.declared.dialects.Dialect.{Dialect}
 use Rattle.ados_resident.specs.declared.hosts.HostEntry.{HostEntry}
 use Rattle.ados_world.specs.Hosts.{hosts_fault}
 use Rattle.ados_session.specs.declared.hosts.HostLine.{HostLine}
@@ -34,10 +35,10 @@ host_in _ = None
 abbrev pub parsed_hosts : List Text → List HostEntry
 parsed_hosts lines = filter_map (λ line. host_in (host_line line)) lines
 
--- a world can be made with these commands
-abbrev pub are_free : List HostEntry → Bool
-are_free hosts = is_none (hosts_fault hosts)
+-- a world of a dialect can be made with these commands
+abbrev pub are_free : Dialect → List HostEntry → Bool
+are_free dialect hosts = is_none (hosts_fault dialect hosts)
 
--- each line says nothing or a command, and a world can be made with all of them
-abbrev pub are_hosts : List Text → Bool
-are_hosts lines = list_all (λ line. is_host_line (host_line line)) lines && are_free (parsed_hosts lines)
+-- each line says nothing or a command, and a world of a dialect can be made with all of them
+abbrev pub are_hosts : Dialect → List Text → Bool
+are_hosts dialect lines = list_all (λ line. is_host_line (host_line line)) lines && are_free dialect (parsed_hosts lines)

@@ -106,7 +106,7 @@ session_of_lines form lines = record {
 
 -- a world can be made with its commands, and its breaks name no earlier event than those before them
 abbrev pub is_session : RecordedSession → Bool
-is_session session = are_free session.hosts && are_rising session.breaks
+is_session session = are_free session.dialect session.hosts && are_rising session.breaks
 
 -- each line says one of these, and together they are a session
 abbrev pub are_records : Form → List Text → Bool

@@ -80,7 +80,7 @@ impl Model for Recording {
 pub fn read_recording(alloc: Global, bytes: &[u8]) -> Result<Recording, FileFault>
     ensures good { IfOk result (λ recording. is_recording (lines_of bytes.now) ≡ true) }
     ensures recording { IfOk result (λ recording. session_in (lines_of bytes.now) ≡ Some recording) }
-    ensures free { IfOk result (λ recording. are_free recording.hosts ≡ true) }
+    ensures free { IfOk result (λ recording. are_free recording.dialect recording.hosts ≡ true) }
     ensures rising { IfOk result (λ recording. are_rising recording.breaks ≡ true) }
     ensures fault { IfErr result (IsRecordingFault (lines_of bytes.now)) }
 {
@@ -123,7 +123,7 @@ fn dialect_of(form: Form) -> Dialect
 fn read_records(alloc: Global, form: Form, lines: &[Text]) -> Result<Recording, FileFault>
     ensures good { IfOk result (λ recording. are_records form lines.now ≡ true) }
     ensures recording { IfOk result (λ recording. recording ≡ session_of_lines form lines.now) }
-    ensures free { IfOk result (λ recording. are_free recording.hosts ≡ true) }
+    ensures free { IfOk result (λ recording. are_free recording.dialect recording.hosts ≡ true) }
     ensures rising { IfOk result (λ recording. are_rising recording.breaks ≡ true) }
     ensures fault { IfErr result (IsFault (are_records form) 1 lines.now) }
 {
@@ -152,13 +152,13 @@ impl Recording {
 
     // Adds what a line says; `false` if the line is invalid.
     fn take(&mut self, alloc: Global, form: Form, line: &Text) -> Result<bool, NoMemory>
-        requires free { are_free self.old.hosts ≡ true }
+        requires free { are_free self.old.dialect self.old.hosts ≡ true }
         requires rising { are_rising self.old.breaks ≡ true }
         ensures good { IfOk result (λ is_good. is_good ≡ (is_record (record_line form line.now) && is_session self.new)) }
         ensures recording { IfOk result (λ _. self.new ≡ joined_sessions self.old (session_of_lines form (line.now ∷ []))) }
     {
         match record_line(alloc, form, line)? {
-            RecordLine::Host(host) => add_host(&mut self.hosts, host),
+            RecordLine::Host(host) => add_host(self.dialect, &mut self.hosts, host),
             RecordLine::Typed(text) => {
                 self.typed.extend_from_slice(text.as_bytes())?;
                 self.typed.push(b'\n')?;

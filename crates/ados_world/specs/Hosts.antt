@@ -4,6 +4,7 @@ use Rattle.std.specs.Option.{option_or}
 use Rattle.std.specs.List.{list_any}
 use Rattle.ados_text.specs.Text.{Text, is_same}
 use Rattle.ados_names.specs.Names.{is_name}
+use Rattle.ados_resident.specs.declared.dialects.Dialect.{Dialect}
 use Rattle.ados_resident.specs.declared.hosts.HostEntry.{HostEntry}
 use Rattle.ados_resident.specs.Names.{disk_named, internal_named}
 use Rattle.ados_world.specs.declared.hosts.NewFault.{NewFault}
@@ -13,32 +14,32 @@ use Rattle.ados_world.specs.declared.hosts.NewFault.TheVariants.{TooMany, BadNam
 abbrev pub host_limit : ℕ
 host_limit = 64
 
--- it is the name of an internal command, or of a disk command
-abbrev pub is_command : Text → Bool
-is_command name = is_some (internal_named name) || is_some (disk_named name)
+-- it is the name of an internal command, or of a disk command of the dialect
+abbrev pub is_command : Dialect → Text → Bool
+is_command dialect name = is_some (internal_named name) || is_some (disk_named dialect name)
 
 -- one of these has the name
 abbrev pub is_host : List HostEntry → Text → Bool
 is_host hosts name = list_any (λ host. is_same name host.name) hosts
 
 -- a command has the name: an internal one, a disk command, or one of these
-abbrev pub is_reserved_name : List HostEntry → Text → Bool
-is_reserved_name hosts name = is_command name || is_host hosts name
+abbrev pub is_reserved_name : Dialect → List HostEntry → Text → Bool
+is_reserved_name dialect hosts name = is_command dialect name || is_host hosts name
 
 -- why a name is refused, given its place (counted from 1) and the entries before it: it is not a name, or it is a command's
-abbrev pub name_fault : List HostEntry → ℕ → Text → Option NewFault
-name_fault before place name =
-    if not (is_name name) then Some (BadName place) else (if is_reserved_name before name then Some (Double place) else None)
+abbrev pub name_fault : Dialect → List HostEntry → ℕ → Text → Option NewFault
+name_fault dialect before place name =
+    if not (is_name name) then Some (BadName place) else (if is_reserved_name dialect before name then Some (Double place) else None)
 
 -- the fault of the first of these that has one; the number is that of the entries before them
-abbrev pub first_host_fault : List HostEntry → ℕ → List HostEntry → Option NewFault
-first_host_fault hosts before [] = None
-first_host_fault hosts before (entry ∷ entries) =
-    option_or (name_fault (take before hosts) (suc before) entry.name) (first_host_fault hosts (suc before) entries)
+abbrev pub first_host_fault : Dialect → List HostEntry → ℕ → List HostEntry → Option NewFault
+first_host_fault dialect hosts before [] = None
+first_host_fault dialect hosts before (entry ∷ entries) =
+    option_or (name_fault dialect (take before hosts) (suc before) entry.name) (first_host_fault dialect hosts (suc before) entries)
 
--- why a world is not made with these: there are too many, or else the fault of the first that has one
-abbrev pub hosts_fault : List HostEntry → Option NewFault
-hosts_fault hosts = if nat_lt host_limit (length hosts) then Some TooMany else first_host_fault hosts 0 hosts
+-- why a world of a dialect is not made with these: there are too many, or else the fault of the first that has one
+abbrev pub hosts_fault : Dialect → List HostEntry → Option NewFault
+hosts_fault dialect hosts = if nat_lt host_limit (length hosts) then Some TooMany else first_host_fault dialect hosts 0 hosts
 
 -- a world is made if there is no fault, and otherwise the refusal is the fault; `NoMemory` is possible only if there is none
 abbrev pub Answers : {X : Type 0} → Result X NewFault → Option NewFault → Type 0

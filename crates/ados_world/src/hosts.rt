@@ -4,7 +4,7 @@ ghost use Rattle.ados_text.specs.Text.{is_same};
 ghost use Rattle.ados_world.specs.Hosts.{first_host_fault, hosts_fault, is_command, is_host, is_reserved_name, name_fault};
 
 use ados_names::is_name;
-use ados_resident::{DiskCommand, HostEntry, InternalCommand};
+use ados_resident::{Dialect, DiskCommand, HostEntry, InternalCommand};
 use ados_text::Text;
 use thiserror::Error;
 
@@ -28,23 +28,23 @@ pub enum NewFault {
     NoMemory,
 }
 
-/// Why a world is not made with these commands of the host: there are too many, or else the fault of the first that has
+/// Why a world of a dialect is not made with these commands of the host: there are too many, or else the fault of the first that has
 /// one.
-pub fn hosts_fault(hosts: &[HostEntry]) -> Option<NewFault>
-    ensures { result ≡ hosts_fault hosts.now }
+pub fn hosts_fault(dialect: Dialect, hosts: &[HostEntry]) -> Option<NewFault>
+    ensures { result ≡ hosts_fault dialect hosts.now }
 {
     if hosts.len() > HOST_LIMIT {
         return Some(NewFault::TooMany);
     }
-    first_fault(hosts)
+    first_fault(dialect, hosts)
 }
 
 /// The fault of the first that has one.
-fn first_fault(hosts: &[HostEntry]) -> Option<NewFault>
-    ensures { result ≡ first_host_fault hosts.now 0 hosts.now }
+fn first_fault(dialect: Dialect, hosts: &[HostEntry]) -> Option<NewFault>
+    ensures { result ≡ first_host_fault dialect hosts.now 0 hosts.now }
 {
     for place in 0..hosts.len() {
-        if let Some(fault) = name_fault(&hosts[..place], place + 1, &hosts[place].name) {
+        if let Some(fault) = name_fault(dialect, &hosts[..place], place + 1, &hosts[place].name) {
             return Some(fault);
         }
     }
@@ -52,12 +52,12 @@ fn first_fault(hosts: &[HostEntry]) -> Option<NewFault>
 }
 
 /// Why a name is refused, given its place (counted from 1) and the entries before it.
-fn name_fault(before: &[HostEntry], place: usize, name: &Text) -> Option<NewFault>
-    ensures { result ≡ name_fault before.now place name.now }
+fn name_fault(dialect: Dialect, before: &[HostEntry], place: usize, name: &Text) -> Option<NewFault>
+    ensures { result ≡ name_fault dialect before.now place name.now }
 {
     if !is_name(name) {
         Some(NewFault::BadName(place))
-    } else if is_reserved_name(before, name) {
+    } else if is_reserved_name(dialect, before, name) {
         Some(NewFault::Double(place))
     } else {
         None
@@ -65,17 +65,17 @@ fn name_fault(before: &[HostEntry], place: usize, name: &Text) -> Option<NewFaul
 }
 
 /// A command has the name: an internal one, a disk command, or one of these.
-fn is_reserved_name(hosts: &[HostEntry], name: &Text) -> bool
-    ensures { result ≡ is_reserved_name hosts.now name.now }
+fn is_reserved_name(dialect: Dialect, hosts: &[HostEntry], name: &Text) -> bool
+    ensures { result ≡ is_reserved_name dialect hosts.now name.now }
 {
-    is_command(name) || is_host(hosts, name)
+    is_command(dialect, name) || is_host(hosts, name)
 }
 
-/// It is the name of an internal command, or of a disk command.
-fn is_command(name: &Text) -> bool
-    ensures { result ≡ is_command name.now }
+/// It is the name of an internal command, or of a disk command of the dialect.
+fn is_command(dialect: Dialect, name: &Text) -> bool
+    ensures { result ≡ is_command dialect name.now }
 {
-    InternalCommand::named(name).is_some() || DiskCommand::named(name.as_bytes()).is_some()
+    InternalCommand::named(name).is_some() || DiskCommand::named(dialect, name.as_bytes()).is_some()
 }
 
 /// One of these has the name.

@@ -60,7 +60,7 @@ impl World {
     /// As [`with_dialect`](World::with_dialect), in Core.
     pub fn new(alloc: Global, hosts: &[HostEntry]) -> Result<World, NewFault>
         ensures world { IfOk result (λ world. world ≡ fresh_world Core hosts.now) }
-        ensures fault { Answers result (hosts_fault hosts.now) }
+        ensures fault { Answers result (hosts_fault Core hosts.now) }
     {
         World::with_dialect(alloc, hosts, Dialect::Core)
     }
@@ -77,9 +77,9 @@ impl World {
         dialect: Dialect,
     ) -> Result<World, NewFault>
         ensures world { IfOk result (λ world. world ≡ fresh_world dialect hosts.now) }
-        ensures fault { Answers result (hosts_fault hosts.now) }
+        ensures fault { Answers result (hosts_fault dialect hosts.now) }
     {
-        if let Some(fault) = hosts_fault(hosts) {
+        if let Some(fault) = hosts_fault(dialect, hosts) {
             return Err(fault);
         }
         match World::fresh(alloc, hosts, dialect) {

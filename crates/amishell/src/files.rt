@@ -4,7 +4,7 @@ ghost use Rattle.ados_session.specs.Hosts.{are_free};
 
 use crate::faults::Fault;
 use ados_session::{FileFault, HOSTS_BYTES, Recording, read_hosts, read_recording};
-use ados_world::HostEntry;
+use ados_world::{Dialect, HostEntry};
 use std::alloc::Global;
 use std::io::Read;
 use std::rt::Files;
@@ -13,12 +13,16 @@ use std::{fs, io};
 // How many bytes a recording may have.
 const RECORDING_BYTES: usize = 1_048_576;
 
-/// The programs of the host that a file names. A world can be made with them.
-pub fn hosts_in<R: AllocGlobal + Files>(rt: &R, file: &str) -> Result<Vec<HostEntry>, Fault>
-    ensures free { IfOk result (λ hosts. are_free hosts.items ≡ true) }
+/// The programs of the host that a file names. A world of the dialect can be made with them.
+pub fn hosts_in<R: AllocGlobal + Files>(
+    rt: &R,
+    dialect: Dialect,
+    file: &str,
+) -> Result<Vec<HostEntry>, Fault>
+    ensures free { IfOk result (λ hosts. are_free dialect hosts.items ≡ true) }
 {
     let bytes = bytes_of(rt, file, HOSTS_BYTES)?;
-    match read_hosts(rt.alloc(), bytes.as_slice()) {
+    match read_hosts(rt.alloc(), dialect, bytes.as_slice()) {
         Ok(hosts) => Ok(hosts),
         Err(FileFault::BadLine(line)) => Err(Fault::BadHost(line)),
         Err(FileFault::NoMemory) => Err(Fault::Memory),
@@ -27,7 +31,7 @@ pub fn hosts_in<R: AllocGlobal + Files>(rt: &R, file: &str) -> Result<Vec<HostEn
 
 /// The recording in a file. A world can be made with its hosts.
 pub fn recording_in<R: AllocGlobal + Files>(rt: &R, file: &str) -> Result<Recording, Fault>
-    ensures free { IfOk result (λ recording. are_free recording.hosts ≡ true) }
+    ensures free { IfOk result (λ recording. are_free recording.dialect recording.hosts ≡ true) }
 {
     let bytes = bytes_of(rt, file, RECORDING_BYTES)?;
     match read_recording(rt.alloc(), bytes.as_slice()) {

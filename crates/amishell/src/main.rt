@@ -100,7 +100,7 @@ fn run_typed<R: AllocGlobal + Files + Input + Print + Eprint + Processes>(
 ) -> Result<u8, Fault> {
     let rt = console.rt;
     let hosts = match hosts {
-        Some(file) => files::hosts_in(rt, file)?,
+        Some(file) => files::hosts_in(rt, dialect, file)?,
         None => Vec::new(rt.alloc()),
     };
     let mut world = fresh(rt.alloc(), dialect, hosts.as_slice())?;
@@ -137,7 +137,7 @@ fn replay<R: AllocGlobal + Files + Print + Eprint>(
 
 // A world of a dialect in which nothing happened, with these programs of the host.
 fn fresh(alloc: Global, dialect: Dialect, hosts: &[HostEntry]) -> Result<World, Fault>
-    requires free { are_free hosts.now ≡ true }
+    requires free { are_free dialect hosts.now ≡ true }
     ensures world { IfOk result (λ world. world ≡ fresh_world dialect hosts.now) }
 {
     match World::with_dialect(alloc, hosts, dialect) {

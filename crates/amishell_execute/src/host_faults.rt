@@ -4,17 +4,18 @@ use crate::faults::Fault;
 use ados_items::{first_word, rest_of, trimmed};
 use ados_text::{NoMemory, Text, lines_of, same_name};
 use ados_trace::shown;
-use ados_world::{HostEntry, NewFault, hosts_fault};
+use ados_world::{Dialect, HostEntry, NewFault, hosts_fault};
 use std::alloc::Global;
 
 /// Why a command is refused beside these: its name is given twice, or is that of a command of the Shell, or is no name.
 pub fn refusal(
     alloc: Global,
+    dialect: Dialect,
     host: &HostEntry,
     hosts: &[HostEntry],
 ) -> Result<Option<Fault>, Fault> {
     let is_given = hosts.iter().any(|other| same_name(other.name.as_bytes(), host.name.as_bytes()));
-    match reason(alloc, host, is_given)? {
+    match reason(alloc, dialect, host, is_given)? {
         Some(reason) => Ok(Some(Fault::HostWords(reason))),
         None => Ok(None),
     }
@@ -29,14 +30,20 @@ pub fn bad_words(alloc: Global, words: &str, reason: &str) -> Fault {
 }
 
 /// The fault of a line of a file of hosts, by the line's number from 1.
-pub fn bad_line(alloc: Global, file: &str, line: usize, bytes: &[u8]) -> Fault {
-    match line_fault(alloc, file, line, bytes) {
+pub fn bad_line(alloc: Global, dialect: Dialect, file: &str, line: usize, bytes: &[u8]) -> Fault {
+    match line_fault(alloc, dialect, file, line, bytes) {
         Ok(fault) => fault,
         Err(_) => Fault::Memory,
     }
 }
 
-fn line_fault(alloc: Global, file: &str, line: usize, bytes: &[u8]) -> Result<Fault, NoMemory> {
+fn line_fault(
+    alloc: Global,
+    dialect: Dialect,
+    file: &str,
+    line: usize,
+    bytes: &[u8],
+) -> Result<Fault, NoMemory> {
     let lines = lines_of(alloc, bytes)?;
     let before = lines
         .as_slice()
@@ -49,12 +56,17 @@ fn line_fault(alloc: Global, file: &str, line: usize, bytes: &[u8]) -> Result<Fa
     Ok(Fault::HostLine {
         file: String::from_str(alloc, file)?,
         line,
-        reason: line_reason(alloc, before, words)?,
+        reason: line_reason(alloc, dialect, before, words)?,
     })
 }
 
 // What is wrong with the words of a line after these lines.
-fn line_reason(alloc: Global, before: &[Text], words: &[u8]) -> Result<String, NoMemory> {
+fn line_reason(
+    alloc: Global,
+    dialect: Dialect,
+    before: &[Text],
+    words: &[u8],
+) -> Result<String, NoMemory> {
     let name = first_word(words);
     let host = HostEntry {
         name: Text::from_bytes(alloc, name)?,
@@ -65,21 +77,26 @@ fn line_reason(alloc: Global, before: &[Text], words: &[u8]) -> Result<String, N
         return Ok(format!(in alloc; "{name} has no program")?);
     }
     let is_given = before.iter().any(|line| same_name(first_word(trimmed(line.as_bytes())), name));
-    match reason(alloc, &host, is_given)? {
+    match reason(alloc, dialect, &host, is_given)? {
         Some(reason) => Ok(reason),
         None => Ok(String::from_str(alloc, "more than 64 commands")?),
     }
 }
 
 // Why a command is refused, if it is not for their number.
-fn reason(alloc: Global, host: &HostEntry, is_given: bool) -> Result<Option<String>, NoMemory> {
+fn reason(
+    alloc: Global,
+    dialect: Dialect,
+    host: &HostEntry,
+    is_given: bool,
+) -> Result<Option<String>, NoMemory> {
     let name = shown(&host.name);
     if is_given {
         return Ok(Some(format!(in alloc; "{name} is given twice")?));
     }
     let mut alone = Vec::new(alloc);
     alone.push(host.copy()?)?;
-    match hosts_fault(alone.as_slice()) {
+    match hosts_fault(dialect, alone.as_slice()) {
         None => Ok(None),
         Some(NewFault::Double(_)) => Ok(Some(format!(in alloc;
             "{name} is a command of the Shell"

@@ -30,23 +30,24 @@ pub fn hosts_for<R: AllocGlobal + Files + Env>(
     rt: &R,
     options: &Options<'_>,
 ) -> Result<Vec<HostEntry>, Fault> {
+    let dialect = options.dialect;
     let mut hosts = Vec::new(rt.alloc());
-    add_file(rt, options.hosts, &mut hosts)?;
+    add_file(rt, dialect, options.hosts, &mut hosts)?;
     for words in &options.host {
-        add_words(rt, words, &mut hosts)?;
+        add_words(rt, dialect, words, &mut hosts)?;
     }
     let bring = HostEntry {
         name: Text::from_bytes(rt.alloc(), BRING)?,
         program: Text::from_bytes(rt.alloc(), BRING)?,
     };
     hosts.push(bring)?;
-    match hosts_fault(hosts.as_slice()) {
+    match hosts_fault(dialect, hosts.as_slice()) {
         None => {}
         Some(NewFault::TooMany) => return Err(Fault::ManyHosts),
         Some(_) => return Err(Fault::OwnName),
     }
     if options.common {
-        add_common(rt, &mut hosts)?;
+        add_common(rt, dialect, &mut hosts)?;
     }
     Ok(hosts)
 }
@@ -63,9 +64,9 @@ pub fn world_with(alloc: Global, dialect: Dialect, hosts: &[HostEntry]) -> Resul
 }
 
 // Adds a command; `false` if a world can't be made with it, and then it is left out.
-fn add(hosts: &mut Vec<HostEntry>, host: HostEntry) -> Result<bool, Fault> {
+fn add(dialect: Dialect, hosts: &mut Vec<HostEntry>, host: HostEntry) -> Result<bool, Fault> {
     hosts.push(host)?;
-    if hosts_fault(hosts.as_slice()).is_some() {
+    if hosts_fault(dialect, hosts.as_slice()).is_some() {
         hosts.pop();
         return Ok(false);
     }
@@ -75,31 +76,37 @@ fn add(hosts: &mut Vec<HostEntry>, host: HostEntry) -> Result<bool, Fault> {
 // Adds the commands of the file of hosts, which the options or the environment name.
 fn add_file<R: AllocGlobal + Files + Env>(
     rt: &R,
+    dialect: Dialect,
     file: Option<&str>,
     hosts: &mut Vec<HostEntry>,
 ) -> Result<(), Fault> {
     if let Some(file) = file {
-        return add_lines(rt, file, hosts);
+        return add_lines(rt, dialect, file, hosts);
     }
     match env::var(rt, VARIABLE) {
-        Ok(file) if !file.is_empty() => add_lines(rt, file.as_str(), hosts),
+        Ok(file) if !file.is_empty() => add_lines(rt, dialect, file.as_str(), hosts),
         _ => Ok(()),
     }
 }
 
 fn add_lines<R: AllocGlobal + Files>(
     rt: &R,
+    dialect: Dialect,
     file: &str,
     hosts: &mut Vec<HostEntry>,
 ) -> Result<(), Fault> {
-    for host in read_file(rt, file)? {
-        let _ = add(hosts, host)?;
+    for host in read_file(rt, dialect, file)? {
+        let _ = add(dialect, hosts, host)?;
     }
     Ok(())
 }
 
 // The commands that a file names.
-fn read_file<R: AllocGlobal + Files>(rt: &R, file: &str) -> Result<Vec<HostEntry>, Fault> {
+fn read_file<R: AllocGlobal + Files>(
+    rt: &R,
+    dialect: Dialect,
+    file: &str,
+) -> Result<Vec<HostEntry>, Fault> {
     let bytes = match bytes_of(rt, file, HOSTS_BYTES) {
         Ok(bytes) => bytes,
         Err(error) if error.kind() == ErrorKind::OutOfMemory => return Err(Fault::Memory),
@@ -108,9 +115,15 @@ fn read_file<R: AllocGlobal + Files>(rt: &R, file: &str) -> Result<Vec<HostEntry
     if bytes.len() > HOSTS_BYTES {
         return Err(cannot_read(rt.alloc(), file));
     }
-    match read_hosts(rt.alloc(), bytes.as_slice()) {
+    match read_hosts(rt.alloc(), dialect, bytes.as_slice()) {
         Ok(hosts) => Ok(hosts),
-        Err(FileFault::BadLine(line)) => Err(bad_line(rt.alloc(), file, line, bytes.as_slice())),
+        Err(FileFault::BadLine(line)) => Err(bad_line(
+            rt.alloc(),
+            dialect,
+            file,
+            line,
+            bytes.as_slice(),
+        )),
         Err(FileFault::NoMemory) => Err(Fault::Memory),
     }
 }
@@ -118,6 +131,7 @@ fn read_file<R: AllocGlobal + Files>(rt: &R, file: &str) -> Result<Vec<HostEntry
 // Adds the command of words of `--host`, which are `NAME` or `NAME=PROGRAM`.
 fn add_words<R: AllocGlobal + Files + Env>(
     rt: &R,
+    dialect: Dialect,
     words: &str,
     hosts: &mut Vec<HostEntry>,
 ) -> Result<(), Fault> {
@@ -129,10 +143,10 @@ fn add_words<R: AllocGlobal + Files + Env>(
         name: ascii(rt.alloc(), name)?,
         program: ascii(rt.alloc(), program)?,
     };
-    if let Some(fault) = refusal(rt.alloc(), &host, hosts.as_slice())? {
+    if let Some(fault) = refusal(rt.alloc(), dialect, &host, hosts.as_slice())? {
         return Err(fault);
     }
-    if !add(hosts, host)? {
+    if !add(dialect, hosts, host)? {
         return Err(Fault::ManyHosts);
     }
     if !is_found(rt, program)? {
@@ -171,13 +185,17 @@ fn is_program<R: Files>(rt: &R, path: &str) -> bool {
 }
 
 // Adds the stand-ins. Their programs are in the folder of their file.
-fn add_common<R: AllocGlobal + Files>(rt: &R, hosts: &mut Vec<HostEntry>) -> Result<(), Fault> {
+fn add_common<R: AllocGlobal + Files>(
+    rt: &R,
+    dialect: Dialect,
+    hosts: &mut Vec<HostEntry>,
+) -> Result<(), Fault> {
     let file = common_file(rt)?;
     let folder = file
         .as_str()
         .strip_suffix(last_piece(file.as_str()))
         .unwrap_or("");
-    for host in read_file(rt, file.as_str())? {
+    for host in read_file(rt, Dialect::Core, file.as_str())? {
         let program = match std::str::from_utf8(host.program.as_bytes()) {
             Ok(program) => step_into(rt.alloc(), folder, program)?,
             Err(_) => return Err(Fault::Memory),
@@ -186,7 +204,7 @@ fn add_common<R: AllocGlobal + Files>(rt: &R, hosts: &mut Vec<HostEntry>) -> Res
             name: host.name,
             program: ascii(rt.alloc(), program.as_str())?,
         };
-        let _ = add(hosts, stand_in)?;
+        let _ = add(dialect, hosts, stand_in)?;
     }
     Ok(())
 }
