@@ -27,10 +27,10 @@ pub fn jump_problem(
     args: &Args,
 ) -> Result<Option<Problem>, NoMemory>
     ensures told { IfOk result (λ found. IfSome found (λ problem. told_sign problem ≡ None)) }
-    ensures nowhere { IfOk result (λ found. is_some found ≡ leads_nowhere dialect command at.0.now at.1 args.now) }
+    ensures nowhere { IfOk result (λ found. is_some found ≡ leads_nowhere dialect command at.entry.0.now at.entry.1 args.now) }
     // Whenever the line is taken, in whatever shell, the script ends there with 20 and 205, and nothing else is done.
     ensures ends { IfOk result (λ found. is_some found ≡ true → (shared : SharedState) (view : View) → shared.dialect ≡ dialect
-        → row_of command shared (Some (record { lines = at.0.now; line = at.1 })) view args.now ≡ Quits (fail_codes OBJECT_NOT_FOUND)) }
+        → row_of command shared (Some (record { lines = at.entry.0.now; line = at.entry.1 })) view args.now ≡ Quits (fail_codes OBJECT_NOT_FOUND)) }
 {
     let (script, line) = at;
     match command {

@@ -8,8 +8,8 @@ use Rattle.ados_find.specs.Parts.{Parts}
 use Rattle.ados_find.specs.Search.{device_named}
 use Rattle.ados_find.specs.Shared.{SharedState}
 use Rattle.ados_resident.specs.declared.commands.EnvCommand.{EnvCommand}
-use Rattle.ados_resident.specs.declared.commands.EnvCommand.TheVariants.{Assign, Cd, GetEnv, Path, Resident, SetEnv, UnsetEnv, Which}
-use Rattle.ados_env.specs.declared.options.TheConstants.{WHICH_FILE}
+use Rattle.ados_resident.specs.declared.commands.EnvCommand.TheVariants.{Assign, Cd, Eval, GetEnv, Path, Resident, SetEnv, UnsetEnv, Which}
+use Rattle.ados_env.specs.declared.options.TheConstants.{EVAL_TO, WHICH_FILE}
 use Rattle.ados_env.specs.declared.sought.Sought.{Sought}
 use Rattle.ados_env.specs.Sought.{sought_devices, sought_of}
 
@@ -18,10 +18,11 @@ abbrev pub program_paths : Bool → Option Text → List Text → List Text
 program_paths removes (Some file) name = file ∷ []
 program_paths removes None name = if removes then [] else name
 
--- the texts of its arguments that are paths: TARGET of Assign, unless it is kept as a text, and never its NAME
+-- the texts of its arguments that are paths: TARGET of Assign, unless it is kept as a text, and never its NAME; TO of Eval
 abbrev pub paths_in : EnvCommand → List Arg → List Text
 paths_in Assign args = if has_switch args 3 || has_switch args 4 then [] else option_texts args 1
 paths_in Cd args = option_texts args 0
+paths_in Eval args = option_texts args EVAL_TO
 paths_in Path args = option_texts args 0
 paths_in Resident args = program_paths (has_switch args 2) (option_text args 1) (option_texts args 0)
 paths_in command args = []

@@ -7,9 +7,11 @@ use Rattle.ados_text.specs.declared.codes.Result2.{Result2}
 use Rattle.ados_find.specs.Codes.{fail_codes}
 use Rattle.ados_find.specs.Shared.{SharedState}
 use Rattle.ados_find.specs.Effects.{Effect, codes_effect, output_effect}
+use Rattle.ados_find.specs.OutputFile.{output_to}
+use Rattle.ados_find.specs.Views.{View}
 use Rattle.ados_readargs.specs.declared.args.Arg.{Arg}
 use Rattle.ados_readargs.specs.Args.{option_text, option_texts}
-use Rattle.ados_env.specs.declared.options.TheConstants.{EVAL_VALUE1, EVAL_OP, EVAL_VALUE2, EVAL_LFORMAT}
+use Rattle.ados_env.specs.declared.options.TheConstants.{EVAL_VALUE1, EVAL_OP, EVAL_VALUE2, EVAL_TO, EVAL_LFORMAT}
 use Rattle.ados_env.specs.EvalFormat.{formatted_value}
 use Rattle.ados_env.specs.Expression.{expression_value}
 
@@ -32,5 +34,9 @@ abbrev pub print_value : SharedState → Option Text → Result ℤ Result2 → 
 print_value shared format (Err fault) = codes_effect shared (fail_codes fault)
 print_value shared format (Ok value) = output_effect shared (value_output value format)
 
-abbrev pub full_eval_row : SharedState → List Arg → Effect
-full_eval_row shared args = print_value shared (option_text args EVAL_LFORMAT) (expression_value (eval_text args))
+abbrev pub expression_row : SharedState → List Arg → Effect
+expression_row shared args = print_value shared (option_text args EVAL_LFORMAT) (expression_value (eval_text args))
+
+-- with TO it is written to a file
+abbrev pub full_eval_row : SharedState → View → List Arg → Effect
+full_eval_row shared view args = output_to view (option_text args EVAL_TO) (expression_row shared args)

@@ -1,14 +1,21 @@
 -- What the commands read of the shells that run.
 use Rattle.std.specs.Prelude.{Bool, true, false}
 use Rattle.ados_resident.specs.declared.commands.EnvCommand.{EnvCommand}
-use Rattle.ados_resident.specs.declared.commands.EnvCommand.TheVariants.{Break, Resident, SetEnv, Status, UnsetEnv}
+use Rattle.ados_resident.specs.declared.dialects.Dialect.{Dialect}
+use Rattle.ados_resident.specs.declared.dialects.Dialect.TheVariants.{Core, Full}
+use Rattle.ados_resident.specs.declared.commands.EnvCommand.TheVariants.{Break, Eval, Resident, SetEnv, Status, UnsetEnv}
 
--- whether a command reads what is in use: those that change files do, and Resident, which reads one
-abbrev pub reads_in_use : EnvCommand → Bool
-reads_in_use Resident = true
-reads_in_use SetEnv = true
-reads_in_use UnsetEnv = true
-reads_in_use command = false
+abbrev pub is_full : Dialect → Bool
+is_full Core = false
+is_full Full = true
+
+-- whether a command reads what is in use: those that change files do, as Eval does in Full by TO, and Resident, which reads one
+abbrev pub reads_in_use : Dialect → EnvCommand → Bool
+reads_in_use dialect Resident = true
+reads_in_use dialect SetEnv = true
+reads_in_use dialect UnsetEnv = true
+reads_in_use dialect Eval = is_full dialect
+reads_in_use dialect command = false
 
 -- whether a command reads the names of the shells, and what they run from: Status and Break read the names, and Resident
 -- what they run from

@@ -9,7 +9,7 @@ ghost use Rattle.ados_env.specs.declared.options.TheConstants.{WHICH_FILE};
 ghost use Rattle.ados_env.specs.Sought.{sought_of};
 ghost use Rattle.ados_env.specs.Devices.{devices_of, paths_in, program_paths, search_devices};
 
-use crate::options::WHICH_FILE;
+use crate::options::{EVAL_TO, WHICH_FILE};
 use crate::sought::Sought;
 use ados_find::{Shared, ShellView};
 use ados_readargs::Args;
@@ -37,6 +37,9 @@ pub fn push_devices(
         EnvCommand::Assign => push_targets(alloc, shared, args, used),
         EnvCommand::Cd | EnvCommand::Path => {
             shared.push_devices_of(used, args.made_texts(alloc, 0)?.as_slice())
+        }
+        EnvCommand::Eval => {
+            shared.push_devices_of(used, args.made_texts(alloc, EVAL_TO)?.as_slice())
         }
         EnvCommand::Resident => push_program(alloc, shared, args, used),
         _ => Ok(()),

@@ -2,24 +2,33 @@
 ghost use Rattle.std.specs.Prelude.{◌≡◌, ◌++◌, IfOk, OnOk};
 ghost use Rattle.std.specs.List.{flat_map};
 ghost use Rattle.std.specs.Option.{option_map};
-ghost use Rattle.ados_find.specs.Effects.{DoesTo};
+ghost use Rattle.ados_find.specs.Effects.{DoesTo, effect_of};
 ghost use Rattle.ados_readargs.specs.Args.{option_texts};
-ghost use Rattle.ados_env.specs.EvalFull.{after_blank, eval_text, full_eval_row, value_output};
+ghost use Rattle.ados_env.specs.EvalFull.{after_blank, eval_text, expression_row, full_eval_row, value_output};
 
 use crate::eval_format::formatted_value;
 use crate::expressions::expression_value;
-use crate::options::{EVAL_LFORMAT, EVAL_OP, EVAL_VALUE1, EVAL_VALUE2};
-use ados_find::{Codes, CommandResult, Outcome};
+use crate::options::{EVAL_LFORMAT, EVAL_OP, EVAL_TO, EVAL_VALUE1, EVAL_VALUE2};
+use ados_find::{Codes, CommandResult, Outcome, Shared, ShellView, output_to};
 use ados_readargs::Args;
 use ados_text::{NoMemory, Stop, push_number};
 use std::alloc::Global;
 
-/// Eval prints the value of an expression.
+/// Eval prints the value of an expression, or writes it to the file of TO, with the refusals of `output_to`.
 ///
 /// 116 where a value is wanted and the text ends; 115 for any other fault of form, and for a value that is no number: all
 /// with 20.
-pub fn eval_in_full(alloc: Global, args: &Args) -> CommandResult
-    ensures { IfOk result (λ outcome. DoesTo outcome (λ shared. full_eval_row shared args.now)) }
+pub fn eval_in_full(alloc: Global, shared: &Shared, view: &ShellView, args: &Args) -> CommandResult
+    ensures { IfOk result (λ outcome. effect_of shared.now outcome ≡ full_eval_row shared.now view.now args.now) }
+{
+    let to = args.made_text(alloc, EVAL_TO)?;
+    let outcome = print_expression(alloc, args)?;
+    output_to(alloc, shared, view, to.as_ref(), outcome)
+}
+
+// Eval without TO.
+fn print_expression(alloc: Global, args: &Args) -> CommandResult
+    ensures { IfOk result (λ outcome. DoesTo outcome (λ shared. expression_row shared args.now)) }
 {
     let text = eval_text(alloc, args)?;
     match expression_value(alloc, text.as_slice()) {

@@ -6,18 +6,19 @@ ghost use Rattle.ados_find.specs.Views.{IgnoresInUse, IgnoresShells};
 ghost use Rattle.ados_env.specs.Reads.{reads_in_use, reads_shells};
 ghost use Rattle.ados_env.specs.Rows.{row_of};
 
-use ados_resident::EnvCommand;
+use ados_resident::{Dialect, EnvCommand};
 
-/// Whether a command reads what is in use.
+/// Whether a command reads what is in use, in a dialect.
 #[tactic(auto, using(crate::proofs::InUseLemmas::ignores))]
-pub fn reads_in_use(command: EnvCommand) -> bool
-    ensures value { result ≡ reads_in_use command }
-    ensures ignores { result ≡ false → (shared : SharedState) (args : List Arg) → IgnoresInUse (λ view. row_of command shared view args) }
+pub fn reads_in_use(dialect: Dialect, command: EnvCommand) -> bool
+    ensures value { result ≡ reads_in_use dialect command }
+    ensures ignores { result ≡ false → (shared : SharedState) (args : List Arg) → shared.dialect ≡ dialect → IgnoresInUse (λ view. row_of command shared view args) }
 {
-    matches!(
-        command,
-        EnvCommand::Resident | EnvCommand::SetEnv | EnvCommand::UnsetEnv
-    )
+    match command {
+        EnvCommand::Resident | EnvCommand::SetEnv | EnvCommand::UnsetEnv => true,
+        EnvCommand::Eval => matches!(dialect, Dialect::Full),
+        _ => false,
+    }
 }
 
 /// Whether a command reads the names of the shells, and what they run from.

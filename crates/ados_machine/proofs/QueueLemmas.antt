@@ -16,7 +16,7 @@ use Rattle.ados_machine.specs.Completions.{Completion}
 use Rattle.ados_machine.specs.Runs.{resulting_world, IsResponse}
 use Rattle.ados_machine.specs.Shells.{ShellState}
 use Rattle.ados_machine.specs.Sinks.{newest_sink}
-use Rattle.ados_machine.specs.Step.{Response, Refused, Accepted, start, course_without_flag, turning_response, turn_response, answer_response, step_of, typing_response}
+use Rattle.ados_machine.specs.Step.{Response, Refused, Accepted, start, course_without_flag, turning_response, turn_response, answer_response, step_of}
 use Rattle.ados_machine.specs.Turning.{Input, Turning, Refuses, Ends, Turned, console_turning, input_turning, turning_in_phase, turning_at_break, flagged_turning, turning_of_completion, ready_turning}
 use Rattle.ados_machine.specs.World.{WorldState, numbered_shell, input_of, takes_input, wants_input}
 use Rattle.ados_machine.specs.Laws.{is_breakable}

@@ -9,10 +9,10 @@ use Rattle.ados_resident.specs.declared.commands.Builtin.{Builtin}
 use Rattle.ados_machine.specs.Commands.{action_of}
 use Rattle.ados_find.specs.Parts.{Parts}
 
--- to a command it makes no difference which of these two is what is in use
-abbrev pub ServesInUse : Builtin → InUse → InUse → Type 0
-ServesInUse builtin busy other =
-    (shared : SharedState) (script_line : Option ScriptLine) (args : Text) (view : View) →
+-- to a command, in this shared state, it makes no difference which of these two is what is in use
+abbrev pub ServesInUse : SharedState → Builtin → InUse → InUse → Type 0
+ServesInUse shared builtin busy other =
+    (script_line : Option ScriptLine) (args : Text) (view : View) →
     action_of builtin shared script_line (record view { busy = busy }) args ≡ action_of builtin shared script_line (record view { busy = other }) args
 
 -- and which of these are the names of the shells that run
@@ -32,8 +32,8 @@ ServesUses builtin uses other =
 abbrev pub shell_view : Parts → InUse → List (Option Text) → List Text → View
 shell_view parts busy names uses = record { parts = parts; busy = busy; names = names; uses = uses }
 
--- to a command one view is as good as the other
-abbrev pub Serves : Builtin → View → View → Type 0
-Serves builtin view other =
-    (shared : SharedState) (script_line : Option ScriptLine) (args : Text) →
+-- to a command, in this shared state, one view is as good as the other
+abbrev pub Serves : SharedState → Builtin → View → View → Type 0
+Serves shared builtin view other =
+    (script_line : Option ScriptLine) (args : Text) →
     action_of builtin shared script_line view args ≡ action_of builtin shared script_line other args

@@ -50,7 +50,7 @@ impl Draft {
     }
 
     /// The dialect of the world.
-    fn dialect(&self, scene: &Scene) -> Dialect
+    pub(crate) fn dialect(&self, scene: &Scene) -> Dialect
         ensures { result ≡ (course_of scene.now self.now).shared.dialect }
     {
         self.current(scene).dialect

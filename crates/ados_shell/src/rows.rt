@@ -114,7 +114,7 @@ impl Draft {
         word: &Text,
         target: Option<&Target>,
     ) -> Result<Others, NoMemory>
-        ensures { IfOk result (λ others. Serves builtin (shell_view (parts_of scene.now self.now) others.busy others.names others.uses)
+        ensures { IfOk result (λ others. Serves (course_of scene.now self.now).shared builtin (shell_view (parts_of scene.now self.now) others.busy others.names others.uses)
             (view_of word.now (option_copied target.entry) (course_of scene.now self.now))) }
     {
         let busy = self.busy_for(scene, builtin, target)?;
@@ -130,9 +130,9 @@ impl Draft {
         builtin: Builtin,
         target: Option<&Target>,
     ) -> Result<Busy, NoMemory>
-        ensures { IfOk result (λ busy. ServesInUse builtin busy (busy_files (option_copied target.entry) (course_of scene.now self.now))) }
+        ensures { IfOk result (λ busy. ServesInUse (course_of scene.now self.now).shared builtin busy (busy_files (option_copied target.entry) (course_of scene.now self.now))) }
     {
-        if reads_in_use(builtin) {
+        if reads_in_use(self.dialect(scene), builtin) {
             self.in_use(scene, target)
         } else {
             Ok(Busy::none(scene.alloc))
