@@ -8,8 +8,8 @@ _amishell() {
     esac
     if [[ $word == -* ]]; then
         case ${COMP_WORDS[1]} in
-            run) mapfile -t COMPREPLY < <(compgen -W '--hosts --turns --full --help' -- "$word") ;;
-            replay) mapfile -t COMPREPLY < <(compgen -W '--help' -- "$word") ;;
+            run) mapfile -t COMPREPLY < <(compgen -W '--hosts --turns --full --trace --help' -- "$word") ;;
+            replay) mapfile -t COMPREPLY < <(compgen -W '--trace --help' -- "$word") ;;
             *) mapfile -t COMPREPLY < <(compgen -W '--help --version' -- "$word") ;;
         esac
     elif ((COMP_CWORD == 1)); then

@@ -16,7 +16,6 @@ use Rattle.ados_launch.proofs.Deeding.{written-some}
 use Rattle.ados_launch.proofs.Outcomes.{drives-end, drives-fault}
 use Rattle.ados_launch.proofs.Sessions.{Driven, driven-none}
 use Rattle.ados_launch.proofs.Stepping.{driven-step, one-counted}
-use Rattle.ados_launcher.specs.Views.{HostView}
 use Rattle.amishell_execute.specs.declared.faults.Fault.{Fault}
 use Rattle.amishell_execute.specs.declared.faults.Fault.TheVariants.{Drive}
 use Rattle.amishell_execute.specs.Playing.{IfDriven, PlaysAlone, drive_fault_of, may_be_cut}

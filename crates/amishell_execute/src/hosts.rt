@@ -136,6 +136,9 @@ fn add_words<R: AllocGlobal + Files + Env>(
     hosts: &mut Vec<HostEntry>,
 ) -> Result<(), Fault> {
     let (name, program) = words.split_once('=').unwrap_or((words, words));
+    if name.is_empty() {
+        return Err(bad_words(rt.alloc(), words, "no name"));
+    }
     if program.is_empty() {
         return Err(bad_words(rt.alloc(), words, "no program"));
     }
