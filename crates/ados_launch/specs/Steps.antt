@@ -1,6 +1,7 @@
 -- Steps of a session that is driven event by event: what one leaves, by its result.
 use Rattle.std.specs.Prelude.{◌≡◌, ◌⊎◌, ◌+◌, ◌<◌, ℕ, List, Bool, true, false, Option, Some, None, Result, Ok, Err, length, take}
 use Rattle.std.specs.Io.KnownBytes.{Appends}
+use Rattle.ados_find.specs.declared.outcomes.Renamed.{Renamed}
 use Rattle.ados_machine.specs.declared.outs.EndReport.{EndReport}
 use Rattle.ados_machine.specs.declared.outs.Out.{Out}
 use Rattle.ados_machine.specs.declared.requests.Request.{Request}
@@ -15,13 +16,14 @@ use Rattle.ados_launch.specs.Lines.{bytes_ahead}
 use Rattle.ados_launch.specs.Schedule.{Next, AtBreak, AtLine, AtTurn, AtStart, AtFurther, ScheduleState, scheduled_next, following_schedule_state}
 use Rattle.ados_launch.specs.Session.{Moment}
 
--- the state of a session: its schedule, the bytes that were read ahead, which children are open, by number, and the scripts that
--- ended at the last event
+-- the state of a session: its schedule, the bytes that were read ahead, which children are open, by number, the scripts that
+-- ended at the last event, and what the last turn renamed, until it is taken
 pub record SessionState : Type 0 where
   pub schedule : ScheduleState
   pub held : List ℕ
   pub children : List Bool
   pub reports : List EndReport
+  pub renamed : Option Renamed
 
 -- what the next event asks of the launcher
 abbrev pub next_request : WorldState → Option Next → Option Request

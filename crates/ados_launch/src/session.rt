@@ -1,5 +1,5 @@
 // A world that is driven event by event.
-ghost use Rattle.std.specs.Prelude.{◌≡◌, ◌<◌, ◌^◌, ◌-◌, ◌+◌, ◌≤◌, ℕ, List, [], true, false, get_or, is_none, option_map, IfOk, OnOk, OnErr, IsErrOf, length};
+ghost use Rattle.std.specs.Prelude.{◌≡◌, ◌<◌, ◌^◌, ◌-◌, ◌+◌, ◌≤◌, ℕ, List, [], true, false, None, get_or, is_none, option_map, IfOk, OnOk, OnErr, IsErrOf, length};
 ghost use Rattle.std.specs.Option.{option_copied};
 ghost use Rattle.ados_machine.specs.Limits.{IsSane};
 ghost use Rattle.ados_machine.specs.World.{codes_at, pending_of};
@@ -22,6 +22,7 @@ use crate::next::Next;
 use crate::schedule::{self, Schedule};
 use crate::written::write_whole;
 use crate::{Sink, Source};
+use ados_find::Renamed;
 use ados_launcher::Launcher;
 use ados_machine::{BreakAt, EndReport, Request};
 use ados_world::World;
@@ -39,12 +40,12 @@ pub struct Session<'a> {
 }
 
 impl<'a> Model for Session<'a> {
-    ghost use Rattle.std.specs.Prelude.{◌<◌, ◌≤◌, length};
+    ghost use Rattle.std.specs.Prelude.{◌<◌, ◌≤◌, length, option_map};
     ghost use Rattle.ados_launch.specs.Steps.{SessionState};
 
     ghost Value = { SessionState };
 
-    ghost view = { λ s. record { schedule = s.schedule; held = s.intake.held; children = s.intake.children; reports = s.intake.draft.reports.items } };
+    ghost view = { λ s. record { schedule = s.schedule; held = s.intake.held; children = s.intake.children; reports = s.intake.draft.reports.items; renamed = option_map (λ r. r.value) s.intake.draft.renamed } };
 
     ghost invariant = { λ s. (s.schedule.round.place ≤ 61) × (length s.intake.held < 4096) };
 }
@@ -77,6 +78,14 @@ impl<'a> Session<'a> {
         ensures { result.now ≡ self.now.reports }
     {
         self.intake.draft.reports.as_slice()
+    }
+
+    /// What the last turn renamed, if that was not taken before: where it was, and where it is.
+    pub fn take_renamed(&mut self) -> Option<Box<Renamed>>
+        ensures result { option_map (λ r. r.value) result ≡ self.old.renamed }
+        ensures stays { self.new ≡ record self.old { renamed = None } }
+    {
+        self.intake.draft.renamed.take()
     }
 
     /// What the next event asks of the launcher; `None` if it asks nothing, or nothing comes.

@@ -7,12 +7,14 @@ use crate::account::{Moment, is_part_of};
 use crate::departure::own_path;
 use crate::faults::TransferFault;
 use crate::here::Here;
+use crate::last_copies::Holders;
 use crate::mirror::Mirror;
+use crate::moves::Elsewhere;
 use crate::paths::last_piece;
 use crate::placing::{Draft, holds, place_new};
 use crate::records::Last;
 use crate::writing::{Manner, write_beside};
-use ados_ram::{FileBytes, Ram};
+use ados_ram::{FileBytes, Place, Ram};
 use ados_text::NoMemory;
 use std::alloc::Global;
 use std::collections::BTreeMap;
@@ -33,19 +35,22 @@ pub struct Backups {
     pub have_stayed: bool,
 }
 
-// What it is a copy of: the path of the file, what that held, and its mode.
+// What it is a copy of: the path of the file, what that held, its mode, and where the script moved it, if it did. `is_replaced`: since
+// it was made something of the Shell gave way to what came in, which may have been the other copy: that is no deletion by the script.
 #[derive(Drop)]
 struct Backup {
     original: String,
     bytes: FileBytes,
     mode: u32,
+    moved: Option<Place>,
+    is_replaced: bool,
 }
 
-// A backup that stays at the end: its path, and that of the Shell's file of the same bytes.
+// A backup that stays at the end: its path, and where the Shell has the file.
 #[derive(Drop)]
 struct Remainder {
     path: String,
-    copy: String,
+    elsewhere: Elsewhere,
 }
 
 /// What becomes of a backup after an update.
@@ -82,6 +87,23 @@ impl Backups {
             .map(|backup| backup.mode)
     }
 
+    /// Something of the Shell's files gives way to what comes in.
+    pub fn note_replaced(&mut self) {
+        for backup in self.by_path.values_mut() {
+            backup.is_replaced = true;
+        }
+    }
+
+    /// An object of the Shell's files was renamed: what was moved before moves along.
+    pub fn carry(&mut self, from: &Place, to: &Place) -> Result<(), NoMemory> {
+        for backup in self.by_path.values_mut() {
+            if let Some(place) = &backup.moved {
+                backup.moved = Some(place.carried(from, to)?);
+            }
+        }
+        Ok(())
+    }
+
     // Keeps the path of a backup.
     fn add(&mut self, path: &str, backup: Backup) -> Result<(), TransferFault> {
         self.by_path
@@ -91,19 +113,15 @@ impl Backups {
 
     // The line that reports what stays, given the name that the first one has now.
     fn line(&self, name: &str, first: &Remainder, more: usize) -> Result<String, TransferFault> {
-        let copy = &first.copy;
+        let elsewhere = &first.elsewhere;
         let original = match self.by_path.get(first.path.as_str()) {
             Some(backup) => backup.original.as_str(),
             None => "",
         };
         if more == 0 {
-            return Ok(format!(in self.alloc;
-                "kept as {name}, since its only other copy is {copy}: {original}"
-            )?);
+            return Ok(format!(in self.alloc; "kept as {name}, since {elsewhere}: {original}")?);
         }
-        Ok(format!(in self.alloc;
-            "kept as {name}, since its only other copy is {copy}: {original} and {more} more"
-        )?)
+        Ok(format!(in self.alloc; "kept as {name}, since {elsewhere}: {original} and {more} more")?)
     }
 }
 
@@ -126,6 +144,8 @@ impl Mirror {
             original: String::from_str(self.alloc, path)?,
             bytes: bytes.clone()?,
             mode: *mode,
+            moved: self.moves.take(key),
+            is_replaced: false,
         };
         let beside = write_beside(rt, "", bytes, Manner::Mode(*mode))?;
         match self.backups.add(beside.as_str(), backup) {
@@ -152,15 +172,15 @@ impl Mirror {
         let mut over = Vec::new(self.alloc);
         let mut remainders = Vec::new(self.alloc);
         for (path, backup) in &self.backups.by_path {
-            let holder = holders.first_with(&backup.bytes);
+            let elsewhere = self.elsewhere(files, &holders, backup)?;
             let in_folder = self.is_in_folder(rt, backup)?;
             match (
-                retention_of(holder.is_some(), in_folder, moment == Moment::End),
-                holder,
+                retention_of(elsewhere.is_some(), in_folder, moment == Moment::End),
+                elsewhere,
             ) {
-                (Retention::Stays, Some(holder)) => remainders.push(Remainder {
+                (Retention::Stays, Some(elsewhere)) => remainders.push(Remainder {
                     path: path.clone()?,
-                    copy: self.copy_path(files, holder)?,
+                    elsewhere,
                 })?,
                 (Retention::Goes, _) => over.push(path.clone()?)?,
                 _ => {}
@@ -170,6 +190,24 @@ impl Mirror {
             self.let_go(rt, path.as_str())?;
         }
         self.keep_remainders(rt, remainders.as_slice())
+    }
+
+    // Where the Shell has the file of a backup: one of the same bytes, or where it was moved.
+    fn elsewhere(
+        &self,
+        files: &Ram,
+        holders: &Holders<'_>,
+        backup: &Backup,
+    ) -> Result<Option<Elsewhere>, TransferFault> {
+        if let Some(holder) = holders.first_with(&backup.bytes) {
+            return Ok(Some(Elsewhere::Copy(self.copy_path(files, holder.place())?)));
+        }
+        match &backup.moved {
+            Some(place) if self.is_out(files, place) => {
+                Ok(Some(Elsewhere::Moved(self.copy_path(files, place)?)))
+            }
+            _ => Ok(backup.is_replaced.then_some(Elsewhere::Replaced)),
+        }
     }
 
     // A file of the folder has the bytes of a backup.

@@ -10,6 +10,7 @@ use crate::below::Below;
 use crate::faults::TransferFault;
 use crate::folders::{is_descendant, is_unshared};
 use crate::here::Here;
+use crate::moves::Elsewhere;
 use crate::placing::{Draft, place_whole};
 use crate::records::{Last, Record};
 use crate::stamps::Stamp;
@@ -34,9 +35,9 @@ pub struct Departure<'a> {
     pub changes_kind: bool,
     /// It changes its kind so, or is below an object that does.
     pub is_within_kind_change: bool,
-    /// If it is a file that is to be deleted, the path of one with its bytes that the Shell has outside of the directory; if it is one
-    /// that is to be written over, of one that the Shell has anywhere.
-    pub copy: Option<String>,
+    /// If it is a file that is to be deleted, where the Shell has one with its bytes outside of the directory; if it is one that is to be
+    /// written over, where it has one anywhere; or where the script moved it, if that is outside of the directory.
+    pub elsewhere: Option<Elsewhere>,
 }
 
 impl<'a> Departure<'a> {
@@ -50,7 +51,7 @@ impl<'a> Departure<'a> {
             is_new: false,
             changes_kind,
             is_within_kind_change: changes_kind,
-            copy: None,
+            elsewhere: None,
         })
     }
 
@@ -62,7 +63,7 @@ impl<'a> Departure<'a> {
             is_new: true,
             changes_kind: false,
             is_within_kind_change: false,
-            copy: None,
+            elsewhere: None,
         }
     }
 

@@ -55,6 +55,7 @@ impl Mirror {
             self.forgive_deleted(files)?;
         }
         self.watch(files)?;
+        self.settle_moves(files)?;
         let asides = self.begin_moves(rt, files, account)?;
         let mut departures = self.departures(files, account)?;
         self.find_copies(files, &mut departures)?;

@@ -5,6 +5,7 @@ use crate::faults::TransferFault;
 use crate::folders::is_descendant;
 use crate::here::Here;
 use crate::mirror::Mirror;
+use crate::moves::Elsewhere;
 use crate::records::{Last, Records};
 use ados_ram::{FileBytes, Place, Ram};
 use ados_text::NoMemory;
@@ -16,8 +17,8 @@ use std::rt::Files;
 #[derive(Drop)]
 pub struct Waiting {
     alloc: Global,
-    // The path in the folder and the one of the Shell, by key.
-    by_key: BTreeMap<String, (String, String)>,
+    // The path in the folder, and where the Shell has it, by key.
+    by_key: BTreeMap<String, (String, Elsewhere)>,
 }
 
 impl Waiting {
@@ -43,18 +44,14 @@ impl Waiting {
 
     // The line that reports what waits.
     fn line(&self) -> Result<Option<String>, NoMemory> {
-        let Some((path, copy)) = self.by_key.values().next() else {
+        let Some((path, elsewhere)) = self.by_key.values().next() else {
             return Ok(None);
         };
         let more = self.by_key.len().saturating_sub(1);
         if more == 0 {
-            return Ok(Some(format!(in self.alloc;
-                "not deleted, since its only other copy is {copy}: {path}"
-            )?));
+            return Ok(Some(format!(in self.alloc; "not deleted, since {elsewhere}: {path}")?));
         }
-        Ok(Some(format!(in self.alloc;
-            "not deleted, since its only other copy is {copy}: {path} and {more} more"
-        )?))
+        Ok(Some(format!(in self.alloc; "not deleted, since {elsewhere}: {path} and {more} more")?))
     }
 }
 
@@ -63,6 +60,13 @@ impl Waiting {
 pub struct Holder<'a> {
     place: Place,
     bytes: &'a FileBytes,
+}
+
+impl Holder<'_> {
+    /// Where it is.
+    pub fn place(&self) -> &Place {
+        &self.place
+    }
 }
 
 /// The files of the Shell that have bytes: those in the directory, and those outside of it.
@@ -117,10 +121,11 @@ impl Mirror {
         let holders = self.holders(files)?;
         for (key, departure) in &mut departures.by_key {
             let is_moved = departure.is_within_kind_change || is_dry;
-            if let Some(bytes) = bytes_of(&self.records, key.as_str())
-                && let Some(found) = holders.copy_of(departure, bytes, is_moved)
-            {
-                departure.copy = Some(self.copy_path(files, found)?);
+            if let Some(bytes) = bytes_of(&self.records, key.as_str()) {
+                departure.elsewhere = match holders.copy_of(departure, bytes, is_moved) {
+                    Some(found) => Some(Elsewhere::Copy(self.copy_path(files, &found.place)?)),
+                    None => self.moved_elsewhere(files, key.as_str())?,
+                };
             }
         }
         Ok(())
@@ -149,13 +154,17 @@ impl Mirror {
     }
 
     // The path of a file of the Shell, for lines.
-    pub(crate) fn copy_path(
-        &self,
-        files: &Ram,
-        holder: &Holder<'_>,
-    ) -> Result<String, TransferFault> {
-        let path = self.spelled(files.written(&holder.place)?.names())?;
+    pub(crate) fn copy_path(&self, files: &Ram, place: &Place) -> Result<String, TransferFault> {
+        let path = self.spelled(files.written(place)?.names())?;
         Ok(format!(in self.alloc; "RAM:{path}")?)
+    }
+
+    // Where the script moved the file of a key, if that is outside of the directory.
+    fn moved_elsewhere(&self, files: &Ram, key: &str) -> Result<Option<Elsewhere>, TransferFault> {
+        match self.moved_out(files, key) {
+            Some(place) => Ok(Some(Elsewhere::Moved(self.copy_path(files, place)?))),
+            None => Ok(None),
+        }
     }
 
     // The bytes of an object that is to be deleted or written over are in a file of the Shell, and in no other file of the folder; or it is
@@ -171,7 +180,7 @@ impl Mirror {
         };
         match &record.last {
             Last::Directory => Ok(self.waiting.is_in(key) || self.has_moved_in(key)?),
-            Last::File(bytes) if departure.copy.is_some() => {
+            Last::File(bytes) if departure.elsewhere.is_some() => {
                 Ok(!self.is_in_another(rt, key, bytes)?)
             }
             Last::File(_) | Last::StandIn(_) => Ok(false),
@@ -203,11 +212,12 @@ impl Mirror {
         key: &str,
         departure: &Departure<'_>,
     ) -> Result<(), TransferFault> {
-        if let Some(copy) = &departure.copy {
+        if let Some(elsewhere) = &departure.elsewhere {
             let path = departure.path.clone()?;
-            self.waiting
-                .by_key
-                .insert(String::from_str(self.alloc, key)?, (path, copy.clone()?))?;
+            self.waiting.by_key.insert(
+                String::from_str(self.alloc, key)?,
+                (path, elsewhere.copy()?),
+            )?;
         }
         Ok(())
     }

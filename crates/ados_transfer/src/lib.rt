@@ -22,6 +22,7 @@ mod large_moves;
 mod last_copies;
 mod lines;
 mod mirror;
+mod moves;
 mod paths;
 mod places;
 mod placing;

@@ -8,6 +8,7 @@ use crate::backups::Backups;
 use crate::bringing::parted;
 use crate::faults::{TransferFault, named};
 use crate::last_copies::Waiting;
+use crate::moves::Moves;
 use crate::paths::{is_free, place_in};
 use crate::records::{Last, Record, Records};
 use crate::reports::Reports;
@@ -47,6 +48,8 @@ pub struct Mirror {
     pub(crate) options: MirrorOptions,
     pub(crate) records: Records,
     pub(crate) stand_ins: StandIns,
+    // Where the script moved files of the folder.
+    pub(crate) moves: Moves,
     // What is not deleted, since only the Shell has its bytes beside.
     pub(crate) waiting: Waiting,
     // Copies of what was written over, while only the Shell has the bytes beside.
@@ -96,6 +99,7 @@ impl Mirror {
             options,
             records: BTreeMap::new(alloc),
             stand_ins: StandIns::new(alloc),
+            moves: Moves::new(alloc),
             waiting: Waiting::new(alloc),
             backups: Backups::new(alloc),
             reports: Reports::new(alloc),
@@ -140,6 +144,7 @@ impl Mirror {
     {
         let noted = self.stand_ins.note(key.as_str(), record.is_stand_in());
         self.reports.settle(key.as_str());
+        self.moves.take(key.as_str());
         self.records.insert(key, record)?;
         Ok(noted?)
     }
@@ -171,6 +176,7 @@ impl Mirror {
     {
         self.reports.settle(key);
         self.stand_ins.leave_out(key);
+        self.moves.take(key);
         self.records.remove(key);
     }
 
@@ -183,6 +189,7 @@ impl Mirror {
     ) -> Result<(), TransferFault> {
         if is_there {
             self.reports.add_lost(key)?;
+            self.backups.note_replaced();
         }
         if is_there && self.overruled.is_none() {
             self.overruled = Some(String::from_str(self.alloc, path)?);

@@ -103,6 +103,7 @@ impl Share {
         ensures held { session.new.held ≡ session.old.held }
         ensures ran { RunsLines world.old world.new }
     {
+        self.follow(session)?;
         self.mirror.watch(world.files())?;
         if !self.is_filled {
             if is_ready && world.wants_line() {
@@ -125,6 +126,18 @@ impl Share {
                 self.bring_in(rt, world, launcher, session)?;
             }
             Due::Read | Due::Input | Due::Turn => {}
+        }
+        Ok(())
+    }
+
+    // What the event before renamed is followed.
+    fn follow(&mut self, session: &mut Session<'_>) -> Result<(), Fault>
+        ensures children { session.new.children ≡ session.old.children }
+        ensures schedule { session.new.schedule ≡ session.old.schedule }
+        ensures held { session.new.held ≡ session.old.held }
+    {
+        if let Some(renamed) = session.take_renamed() {
+            self.mirror.follow(&renamed.from, &renamed.to)?;
         }
         Ok(())
     }
