@@ -186,7 +186,8 @@ impl<R: AllocGlobal + Files + Eprint + Processes + Clone + Drop + Clock, I: Read
         ensures reader { self.new.reader ≡ self.old.reader }
         ensures fault { IfErr result (λ why. drive_fault_of why ≡ None) }
     {
-        self.teller.tell_ends(self.rt, world, trail, session.reports())?;
+        self.teller
+            .tell_ends(self.rt, world, trail, session.reports())?;
         match trail.follow(world)? {
             Change::Begun(number) => Ok(self.checks.add_begun(number)?),
             Change::Ended(1) => Ok(self.teller.tell_waiting(self.rt, world, trail)?),

@@ -75,7 +75,11 @@ impl Trail {
         let (Some(shell), Some(kept)) = (world.shell(number), kept) else {
             return Ok(());
         };
-        if shell.frames().first().is_some_and(|frame| frame.position() == 0) {
+        if shell
+            .frames()
+            .first()
+            .is_some_and(|frame| frame.position() == 0)
+        {
             kept.frames.clear();
             kept.look(shell.frames())?;
         }
