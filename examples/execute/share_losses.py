@@ -198,7 +198,7 @@ def run(program, room, random_, count):
     looks = Looks(folder)
     killed_at = random_.randrange(STEPS) if random_.random() < 0.25 else None
     with open(os.path.join(room, 'told'), 'w') as told:
-        child = subprocess.Popen([program, '--host', f'act={act}', '--share', folder, os.path.join(room, 'script')], bufsize=0,
+        child = subprocess.Popen([program, '--core', '--host', f'act={act}', '--share', folder, os.path.join(room, 'script')], bufsize=0,
                                  stdin=subprocess.PIPE, stdout=subprocess.PIPE, stderr=told, preexec_fn=limit)
     for number, lines in enumerate(users):
         await_step(child, number)

@@ -5,7 +5,8 @@ from typing import Callable
 from rooms import FOLDER, filled
 
 LINE = "a line of another program"
-SHARED = ["--share", "f"]
+# with --core a file of more than 65,536 bytes is a stand-in
+SHARED = ["--core", "--share", "f"]
 
 
 @dataclass
@@ -19,7 +20,7 @@ class Race:
     judge: Callable
     most: int = 0
     named: str = ""
-    options: list = field(default_factory=lambda: ["--share", "f"])
+    options: list = field(default_factory=lambda: SHARED)
     prepare: str = "true"
     is_after_start: bool = True
 
@@ -155,7 +156,7 @@ EXCHANGED = [
     Race("the folder becomes a link and then itself again", TREE, UPDATE, "mv f f.was && ln -s out f && rm f && mv f.was f", nothing_outside,
          prepare=COPIED),
     Race("the folder above becomes a link", {f"up/{path}": what for path, what in TREE.items()}, UPDATE.replace("../go", "../../go"), "mv up up.was && ln -s out up",
-         lambda trial: above_outside(trial), options=["--share", "up/f"], prepare="cp -a up out"),
+         lambda trial: above_outside(trial), options=["--core", "--share", "up/f"], prepare="cp -a up out"),
     Race("a folder in it becomes a link", TREE, UPDATE, "[ -d f/d ] && mv f/d d.was && ln -s ../out/d f/d", nothing_outside, prepare=COPIED),
     Race("a folder in it becomes a link to an empty one", TREE, UPDATE, "[ -d f/d ] && mv f/d d.was && ln -s ../out f/d", nothing_outside,
          prepare="mkdir out"),
