@@ -172,6 +172,22 @@ def above_outside(trial):
     return None if came == wanted else f"outside: {sorted(path for path in came.keys() | wanted.keys() if came.get(path) != wanted.get(path))}"
 
 
+# What was moved stands somewhere, though another program takes its new name, or moves it back.
+
+def moved_stands(trial):
+    return None if any(what == b"a\n" for path, what in trial.stands.items() if path.startswith("f/")) else "the bytes of a are lost"
+
+
+MOVED = [
+    Race("a file that was moved out comes in where another program makes one", A,
+         started("Rename a T:a", "Echo >a new", "sh -c true", "Rename T:a b", "sh -c true"), "[ -e f/b ] || echo theirs >f/b", moved_stands),
+    Race("a file that is renamed is moved back", A, started("Rename a b", "Rename n0 m0", "Rename n1 m1"), "[ -f f/b ] && mv f/b f/a", moved_stands, most=1,
+         named=MOMENT),
+    Race("a directory that is renamed is moved back", {"f/d/a": b"a\n", "f/d/b": b"b\n"}, started("Rename d e"), "[ -f f/e/a ] && mv f/e/a f/d/a", moved_stands,
+         most=1, named=MOMENT),
+]
+
+
 # A file becomes a pipe. Only between the look at it and its opening nobody can see that.
 
 def ends(trial):
@@ -187,4 +203,4 @@ PIPES = [
          most=1, named="open .*a$", options=["--bring", "d"], is_after_start=False),
 ]
 
-RACES = EXCHANGED + BOTH + CHANGED + PIPES
+RACES = EXCHANGED + BOTH + CHANGED + MOVED + PIPES
