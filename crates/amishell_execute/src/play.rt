@@ -176,7 +176,6 @@ impl<R: AllocGlobal + Files + Eprint + Processes + Clone + Drop + Clock, I: Read
 
     // Follows the shell that had the last event: the scripts that ended are told, what began is to be checked, and once shell 1 has
     // ended it is told which others run.
-    #[inline(always)]
     fn follow(
         &mut self,
         world: &World,
@@ -187,10 +186,7 @@ impl<R: AllocGlobal + Files + Eprint + Processes + Clone + Drop + Clock, I: Read
         ensures reader { self.new.reader ≡ self.old.reader }
         ensures fault { IfErr result (λ why. drive_fault_of why ≡ None) }
     {
-        let ends = session.reports();
-        if !ends.is_empty() {
-            self.teller.tell_ends(self.rt, world, trail, ends)?;
-        }
+        self.teller.tell_ends(self.rt, world, trail, session.reports())?;
         match trail.follow(world)? {
             Change::Begun(number) => Ok(self.checks.add_begun(number)?),
             Change::Ended(1) => Ok(self.teller.tell_waiting(self.rt, world, trail)?),
@@ -199,7 +195,6 @@ impl<R: AllocGlobal + Files + Eprint + Processes + Clone + Drop + Clock, I: Read
     }
 
     // Attends to the time, to a script that begins, and to the shared folder, if there is one.
-    #[inline(always)]
     #[tactic(auto, using(crate::proofs::Pairs::lines_stay))]
     fn attend(
         &mut self,

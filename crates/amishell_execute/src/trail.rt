@@ -61,7 +61,6 @@ impl Trail {
     }
 
     /// Before an event: which shell has it.
-    #[inline(always)]
     pub fn expect(&mut self, world: &World, next: Next) {
         self.latest = shell_of(next);
         // Shell 1 begins with no frame, another one with the commands of a Run.
@@ -84,7 +83,6 @@ impl Trail {
     }
 
     /// After an event: what it did to the shell that had it.
-    #[inline(always)]
     pub fn follow(&mut self, world: &World) -> Result<Change, NoMemory> {
         if self.is_short {
             return Err(NoMemory);
@@ -124,25 +122,16 @@ impl Trail {
 }
 
 impl Kept {
-    // After an event: what ended is given up, and what began is kept. Mostly neither is so. Gives whether a frame began.
-    #[inline(always)]
+    // After an event: what ended is given up, and what began is kept; it is shared, not copied. Mostly neither is so. Gives
+    // whether a frame began.
     #[tactic(auto, using(crate::proofs::TrailLemmas::same_kept))]
     fn look(&mut self, frames: &[Frame]) -> Result<bool, NoMemory>
         ensures kept { OnOk result (self.new.frames.items ≡ kept_after self.old.frames.items frames.now) }
         ensures begun { IfOk result (λ begun. begun ≡ nat_lt (length self.old.frames.items) (length frames.now)) }
     {
         if self.frames.len() == frames.len() {
-            Ok(false)
-        } else {
-            self.renew(frames)
+            return Ok(false);
         }
-    }
-
-    // The same for other frames than before; what began is shared, not copied.
-    fn renew(&mut self, frames: &[Frame]) -> Result<bool, NoMemory>
-        ensures kept { OnOk result (self.new.frames.items ≡ kept_after self.old.frames.items frames.now) }
-        ensures begun { IfOk result (λ begun. begun ≡ nat_lt (length self.old.frames.items) (length frames.now)) }
-    {
         let begins = self.frames.len() < frames.len();
         self.frames.truncate(frames.len());
         let begun = frames.get(self.frames.len()..).unwrap_or(&[]);
