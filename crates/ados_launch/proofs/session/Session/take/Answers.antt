@@ -54,8 +54,8 @@ returns-in_err-write_whole-clause-takes g c =
       takes = c.in_ok-take.ensures.took;
       agrees = c.in_ok-take.ensures.agrees;
       length_written = front.0;
-      cut = rw c.as_slice.ensures.value at front.1;
-      written = rw (c.as_slice.ensures.value, c.heed_ends.ensures.contents, c.show.ensures.contents) at front.2;
+      cut = rw c.as_slice-2.ensures.value at front.1;
+      written = rw (c.as_slice-2.ensures.value, c.heed_ends.ensures.contents, c.show.ensures.contents) at front.2;
       reports_are = refl;
       cause = rw (c.heed_ends.ensures.faults, c.show.ensures.faults, c.heed_ends.ensures.stalls, c.show.ensures.stalls) at c.in_err-write_whole.ensures.cause;
       reads_well = c.in_ok-take.ensures.honest;
@@ -69,7 +69,7 @@ returns-clause-takes g c = rw (← c.self.view_is) (record {
   out = out_of c.take.new.self.draft;
   takes = c.in_ok-take.ensures.took;
   schedule_is = c.pass.ensures ∙ c.in-Some.ensures.passed;
-  written = rw (c.as_slice.ensures.value, c.heed_ends.ensures.contents, c.show.ensures.contents) at c.in_ok-write_whole.ensures.whole;
+  written = rw (c.as_slice-2.ensures.value, c.heed_ends.ensures.contents, c.show.ensures.contents) at c.in_ok-write_whole.ensures.whole;
   reports_are = refl;
   reads_well = c.in_ok-take.ensures.honest;
   writes_well = (rw (c.heed_ends.ensures.faults, c.show.ensures.faults) at c.in_ok-write_whole.ensures.honest.0, rw (c.heed_ends.ensures.stalls, c.show.ensures.stalls) at c.in_ok-write_whole.ensures.honest.1);
@@ -87,4 +87,4 @@ returns-in_err-write_whole-clause-does g c = does-by _ _ _ _ c.from_residual-in_
 pub returns-clause-does : goal.returns-clause-does
 returns-clause-does g c =
     taken-does false c.args.world.now c.take.new.world _ _ _ _ _ _ _ _ (out_of c.take.new.self.draft) c.in_ok-take.ensures.took
-    (rw (c.as_slice.ensures.value, c.heed_ends.ensures.contents, c.show.ensures.contents) at c.in_ok-write_whole.ensures.whole)
+    (rw (c.as_slice-2.ensures.value, c.heed_ends.ensures.contents, c.show.ensures.contents) at c.in_ok-write_whole.ensures.whole)
