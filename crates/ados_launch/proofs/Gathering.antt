@@ -1,6 +1,6 @@
 -- A drive whose output is gathered: what was printed is what the writer got and what is gathered.
 use Rattle.std.proofs.Common.{◌≡◌, ◌∙◌, ℕ, ◌+◌, ◌<◌, ◌≤◌, List, [], ◌∷◌, ◌++◌, Bool, true, false, length, take, Option, Some, None, Result, Ok, Err, arith, refl, sym, ap, subst, ◌⊎◌, inl, inr, append_assoc, append-nil, length-append}
-use Rattle.std.specs.Prelude.{OnErr, OnOk}
+use Rattle.std.specs.Prelude.{IsErrAnd, OnErr, OnOk}
 use Rattle.std.proofs.KnownBytes.{Appends-nil, Appends-trans}
 use Rattle.std.proofs.Math.Seq.{take-append-add}
 use Rattle.std.proofs.lemmas.List.{take_all, take-append-le}
@@ -10,9 +10,11 @@ use Rattle.ados_machine.specs.declared.outs.Out.{Out}
 use Rattle.ados_launcher.specs.declared.calls.Call.{Call}
 use Rattle.ados_launch.specs.declared.faults.DriveFault.{DriveFault}
 use Rattle.ados_launch.specs.declared.faults.DriveFault.TheVariants.{Read, Write, Turns, Memory}
+use Rattle.ados_launch.specs.declared.faults.IntakeFault.{IntakeFault}
+use Rattle.ados_launch.specs.declared.faults.IntakeFault.TheVariants.{NoMemory, Read as Unread}
 use Rattle.ados_launch.specs.Agreement.{Agrees}
 use Rattle.ados_launch.specs.Drives.{HasDriveResult, ReadsWell, StopsAtWrite, WritesWell}
-use Rattle.ados_launch.specs.Faults.{one_more}
+use Rattle.ados_launch.specs.Faults.{drive_fault}
 use Rattle.ados_launch.specs.Gathering.{FailsToWrite, Gathers, GathersNext, GetsPart, HasGatherResult, StopsAfter, StopsBefore, WritesGathered}
 use Rattle.ados_launch.specs.Intake.{TakesNextItem}
 use Rattle.ados_launch.specs.Lines.{bytes_ahead}
@@ -58,6 +60,27 @@ part-rest contents mid contents_now was now bytes g part =
     let all : was ++ bytes ≡ g.0 ++ (now ++ bytes) = ap (λ xs. xs ++ bytes) (sym (append-nil was) ∙ g.2) ∙ append_assoc g.0 now bytes in
     (length g.0 + part.0, rw (all, length-append) (let less = part.1 in omega (arith, less)), rw (all, take-append-add) (Appends-trans contents mid contents_now g.0 (take part.0 (now ++ bytes)) g.1 part.2))
 
+-- what is gathered is not nothing, if only a part of it was written
+pub part-some : (contents contents_now : Option (List ℕ)) (was : List ℕ) → was ≡ [] → GetsPart contents contents_now was → ⊥
+part-some contents contents_now was none part = let less = rw none at part.1 in omega (arith, less)
+
+-- the same of what was gathered alone
+pub part-later : (contents mid contents_now : Option (List ℕ)) (was now : List ℕ) → Gathers was now contents mid [] → GetsPart mid contents_now now → GetsPart contents contents_now was
+part-later contents mid contents_now was now g part =
+    let all : was ≡ g.0 ++ now = sym (append-nil was) ∙ g.2 in
+    (length g.0 + part.0, rw (all, length-append) (let less = part.1 in omega (arith, less)), rw (all, take-append-add) (Appends-trans contents mid contents_now g.0 (take part.0 now) g.1 part.2))
+
+-- first one, and then the other
+pub gathers-both : (contents mid contents_now : Option (List ℕ)) (was later now bytes : List ℕ) → Gathers was later contents mid [] → Gathers later now mid contents_now bytes → Gathers was now contents contents_now bytes
+gathers-both contents mid contents_now was later now bytes f g =
+    (f.0 ++ g.0, Appends-trans contents mid contents_now f.0 g.0 f.1 g.1,
+    ap (λ xs. xs ++ bytes) (sym (append-nil was) ∙ f.2) ∙ (append_assoc f.0 later bytes ∙ (ap (λ xs. f.0 ++ xs) g.2 ∙ sym (append_assoc f.0 g.0 now))))
+
+-- it was not due, since something is left
+pub undue : (contents contents_now : Option (List ℕ)) (was : List ℕ) (is_due : Bool) → (is_due ≡ true → was ≡ []) → GetsPart contents contents_now was → is_due ≡ false
+undue contents contents_now was true none part = absurd (part-some contents contents_now was (none refl) part)
+undue contents contents_now was false none part = refl
+
 -- a part of these is a part of more
 pub part-front : (contents contents_now : Option (List ℕ)) (was bytes : List ℕ) → GetsPart contents contents_now was → GetsPart contents contents_now (was ++ bytes)
 part-front contents contents_now was bytes part =
@@ -67,10 +90,6 @@ part-front contents contents_now was bytes part =
 pub part-then : (contents mid contents_now : Option (List ℕ)) (was bytes : List ℕ) → Appends contents mid was → GetsPart mid contents_now bytes → GetsPart contents contents_now (was ++ bytes)
 part-then contents mid contents_now was bytes first part =
     (length was + part.0, rw length-append (let less = part.1 in omega (arith, less)), rw take-append-add (Appends-trans contents mid contents_now was (take part.0 bytes) first part.2))
-
--- what is gathered is not nothing, if only a part of it was written
-pub part-some : (contents contents_now : Option (List ℕ)) (was : List ℕ) → was ≡ [] → GetsPart contents contents_now was → ⊥
-part-some contents contents_now was none part = let less = rw none at part.1 in omega (arith, less)
 
 -- a moment with another state of the writer
 abbrev pub with_writer : Option (List ℕ) → ℕ → ℕ → Moment → Moment
@@ -174,6 +193,21 @@ gathers-by was now before after false e took = cc
 pub writes-by : (was now : SessionState) (before after : Moment) (is_taken : Bool) → is_taken ≡ false → HasGatherResult was now before after (Ok is_taken) → WritesGathered was now before after (Ok false)
 writes-by was now before after true e took = cc
 writes-by was now before after false e took = took
+
+-- a step whose fault is one of these
+pub stops-when : (was now : SessionState) (before after : Moment) (result : Result Bool DriveFault) (P : DriveFault → Type 0) → IsErrAnd result P → (P Read → ⊥) → (P Memory → ⊥)
+    → (P Write → StopsBefore was before after ⊎ StopsAfter was now before after) → (P Turns → ⊥) → HasGatherResult was now before after result
+stops-when was now before after (Ok is_taken) P is read memory write turns = absurd is
+stops-when was now before after (Err Read) P is read memory write turns = absurd (read is)
+stops-when was now before after (Err Memory) P is read memory write turns = absurd (memory is)
+stops-when was now before after (Err Write) P is read memory write turns = write is
+stops-when was now before after (Err Turns) P is read memory write turns = absurd (turns is)
+
+-- a step that took nothing, by its fault
+pub refused-by : (was now : SessionState) (before after : Moment) (fault : IntakeFault) (why : DriveFault) → why ≡ drive_fault fault → (fault ≡ Unread → WritesGathered was now before after (Err Read))
+    → (fault ≡ NoMemory → WritesGathered was now before after (Err Memory)) → HasGatherResult was now before after (Err why)
+refused-by was now before after Unread why is read memory = rw is (read refl)
+refused-by was now before after NoMemory why is read memory = rw is (memory refl)
 
 -- a step counts what it took
 pub gathered-counted : (was now : SessionState) (before after : Moment) → GathersNext was now before after → now.schedule.taken ≡ was.schedule.taken + 1

@@ -3,6 +3,8 @@ ghost use Rattle.std.specs.Io.{ReadsAtMost, WritesAtMost};
 ghost use Rattle.std.specs.Io.KnownBytes.{ReadConsumes, WriteAppends};
 ghost use Rattle.ados_launch.specs.Faults.{CountsFault, CountsStall};
 
+use crate::next::Next;
+use ados_machine::EndReport;
 use ados_world::World;
 use std::io;
 use std::io::{Read, Write};
@@ -44,6 +46,27 @@ pub trait Sink {
 
     /// How many writes wrote nothing of a buffer that was not empty; the count stops at 2^64 - 1.
     ghost stalls: { Self → ℕ };
+
+    /// Shows the writer the world in which this comes next.
+    ///
+    /// A program's own writer may tell elsewhere, as on standard error, what is taken; other writers do nothing.
+    fn heed(&mut self, _world: &World, _next: Next)
+        ensures contents { contents self.new ≡ contents self.old }
+        ensures faults { faults self.new ≡ faults self.old }
+        ensures stalls { stalls self.new ≡ stalls self.old }
+    {}
+
+    /// What is shown to the writer it tells elsewhere, where it has to come after what was printed before it.
+    fn tells(&self) -> bool {
+        false
+    }
+
+    /// Shows the writer the scripts that ended at the event that was taken, before what it printed is written.
+    fn heed_ends(&mut self, _ends: &[EndReport])
+        ensures contents { contents self.new ≡ contents self.old }
+        ensures faults { faults self.new ≡ faults self.old }
+        ensures stalls { stalls self.new ≡ stalls self.old }
+    {}
 
     /// Writes a prefix of the buffer, and gives its length.
     ///

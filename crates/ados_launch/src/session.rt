@@ -10,7 +10,7 @@ ghost use Rattle.ados_launch.specs.Alone.{AgreesAfterLine};
 ghost use Rattle.ados_launch.specs.Deeds.{Does};
 ghost use Rattle.ados_launch.specs.Gathering.{FailsToWrite, GetsPart, HasGatherResult};
 ghost use Rattle.ados_launch.specs.Rounds.{asks_read_or_wait, due_place};
-ghost use Rattle.ados_launch.specs.Schedule.{first_schedule_state, next_named, scheduled_next, unless_break};
+ghost use Rattle.ados_launch.specs.Schedule.{IsInRound, first_schedule_state, next_named, scheduled_next, unless_break};
 ghost use Rattle.ados_launch.specs.Session.{moment_of};
 ghost use Rattle.ados_launch.specs.Steps.{HasTakeResult, is_write_fault, next_request};
 
@@ -21,8 +21,8 @@ use crate::events::shell_answered;
 use crate::faults::DriveFault;
 use crate::intake::Intake;
 use crate::next::Next;
-use crate::schedule::Schedule;
 use crate::gathered::Gathered;
+use crate::schedule::{self, Schedule};
 use crate::written::{WriteFault, write_whole};
 use crate::{Sink, Source};
 use ados_launcher::Launcher;
@@ -138,14 +138,17 @@ impl<'a> Session<'a> {
         let Some(next) = self.schedule.next(world) else {
             return Ok(false);
         };
+        show(writer, world, next);
         self.intake.take(world, launcher, reader, next)?;
+        writer.heed_ends(self.intake.draft.reports.as_slice());
         write_whole(writer, self.intake.draft.printed.as_slice())?;
         self.schedule.pass(next);
         Ok(true)
     }
 
     // Takes the event that comes next, or a long line, and gathers what it prints; `false` if nothing comes. What was gathered is
-    // written before anything that may wait, before a fault is returned, and if nothing comes.
+    // written before anything that may wait, before each event if the writer tells of them, before a fault is returned, and if nothing
+    // comes.
     pub fn advance<L: Launcher, S: Source, K: Sink>(
         &mut self,
         world: &mut World,
@@ -177,12 +180,14 @@ impl<'a> Session<'a> {
             self.gathered.release(writer)?;
             return Ok(false);
         };
-        self.gathered
-            .release_if(writer, self.intake.may_wait(next))?;
+        let is_due = self.intake.may_wait(next) || writer.tells();
+        self.gathered.release_if(writer, is_due)?;
+        show(writer, world, next);
         if let Err(fault) = self.intake.take(world, launcher, reader, next) {
             self.gathered.release(writer)?;
             return Err(fault.into());
         }
+        writer.heed_ends(self.intake.draft.reports.as_slice());
         self.gathered
             .add(writer, self.intake.draft.printed.as_slice())?;
         self.schedule.pass(next);
@@ -245,5 +250,17 @@ impl<'a> Session<'a> {
         ensures room { L.is_full launcher.new ≡ L.is_full launcher.old }
     {
         wait_for_open(launcher, &self.intake.children);
+    }
+}
+
+// Shows the writer what comes next, if it is no break.
+fn show<K: Sink>(writer: &mut K, world: &World, next: schedule::Next)
+    requires { IsInRound next }
+    ensures contents { K.contents writer.new ≡ K.contents writer.old }
+    ensures faults { K.faults writer.new ≡ K.faults writer.old }
+    ensures stalls { K.stalls writer.new ≡ K.stalls writer.old }
+{
+    if let schedule::Next::Due(found) = next {
+        writer.heed(world, Next::at(found.place));
     }
 }

@@ -1,4 +1,4 @@
-use Rattle.std.proofs.Common.{◌≡◌, ◌⊎◌, List, [], ◌∷◌, Option, Some, None, inl, inr, refl, sym, subst, ◌∙◌}
+use Rattle.std.proofs.Common.{◌≡◌, ◌⊎◌, List, [], ◌∷◌, Option, Some, None, false, inl, inr, refl, sym, subst, ◌∙◌}
 use Rattle.clap.specs.Walk.{Row, Text}
 use Rattle.clap.specs.Simple.{subcommand_of}
 use Rattle.clap.specs.Kinds.{IsAmong, Kinds}
@@ -45,13 +45,13 @@ not_a_request (x ∷ xs) e h = cc
 
 -- without a command there is a run
 asks_for_a_run : (entered : Option (Text × List Row)) → entered ≡ None → AsksNothing entered → ⊥
-asks_for_a_run None e nothing = nothing (Run Core None 1_000_000) (refl, refl, refl)
+asks_for_a_run None e nothing = nothing (Run Core None 1_000_000 false) (refl, refl, refl, refl)
 asks_for_a_run (Some p) e nothing = cc
 
 -- and nothing else
-only_a_run : (entered : Option (Text × List Row)) (a : Asked) → entered ≡ None → AsksFor entered a → a ≡ Run Core None 1_000_000
-only_a_run None (Run dialect hosts turns) e h = rw (h.0, h.1, h.2) refl
-only_a_run None (Replay file) e h = absurd h
+only_a_run : (entered : Option (Text × List Row)) (a : Asked) → entered ≡ None → AsksFor entered a → a ≡ Run Core None 1_000_000 false
+only_a_run None (Run dialect hosts turns traces) e h = rw (h.0, h.1, h.2, h.3) refl
+only_a_run None (Replay file traces) e h = absurd h
 only_a_run (Some p) a e h = cc
 
 -- an empty list of words is refused only if an allocation fails
@@ -64,6 +64,6 @@ none_refused NoMemory h = refl
 pub no_words_refused : (words : List Text) (r : Refused) → words ≡ [] → IsRefusal words r → r ≡ NoMemory
 no_words_refused words r e h = none_refused r (subst (λ w. IsRefusal w r) e h)
 
--- an empty list of words asks for a run in Core, without hosts and with a million turns
-pub no_words_asked : (words : List Text) (a : Asked) → words ≡ [] → IsAsked words a → a ≡ Run Core None 1_000_000
+-- an empty list of words asks for a run in Core, without hosts and a trace, and with a million turns
+pub no_words_asked : (words : List Text) (a : Asked) → words ≡ [] → IsAsked words a → a ≡ Run Core None 1_000_000 false
 no_words_asked words a e h = only_a_run _ a no_command (subst (λ w. AsksFor (subcommand_of amishell w) a) e h.1)

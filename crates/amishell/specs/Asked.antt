@@ -1,5 +1,5 @@
 -- What the words after the program's name ask for.
-use Rattle.std.specs.Prelude.{ℕ, pos, ◌≡◌, ◌≢◌, ◌≤◌, ◌⊎◌, List, [], Option, Some, None, option_map, codes, if◌then◌else◌}
+use Rattle.std.specs.Prelude.{ℕ, Bool, false, pos, ◌≡◌, ◌≢◌, ◌≤◌, ◌⊎◌, List, [], Option, Some, None, option_map, codes, if◌then◌else◌}
 use Rattle.std.specs.Str.{bytes_eq}
 use Rattle.clap.specs.Walk.{Row, Text, first_of}
 use Rattle.clap.specs.Simple.{subcommand_of}
@@ -30,17 +30,24 @@ abbrev pub dialect_by : Option Text → Dialect
 dialect_by (Some value) = if bytes_eq value (codes "true") then Full else Core
 dialect_by None = Core
 
--- The matches of the words ask for this: the command is theirs, with its dialect, its file and its turns. Without a command it
--- is `run`, in Core, without hosts and with a million turns.
+-- the value of a flag says that it is given
+abbrev pub is_given : Option Text → Bool
+is_given (Some value) = bytes_eq value (codes "true")
+is_given None = false
+
+-- The matches of the words ask for this: the command is theirs, with its dialect, its file, its turns and its trace. Without a
+-- command it is `run`, in Core, without hosts and a trace, and with a million turns.
 abbrev pub AsksFor : Option (Text × List Row) → Asked → Type 0
-AsksFor None (Run dialect hosts turns) = (dialect ≡ Core) × (hosts ≡ None) × (turns ≡ 1_000_000)
-AsksFor None (Replay file) = ⊥
-AsksFor (Some p) (Run dialect hosts turns) = (p.0 ≡ codes "run")
+AsksFor None (Run dialect hosts turns traces) = (dialect ≡ Core) × (hosts ≡ None) × (turns ≡ 1_000_000) × (traces ≡ false)
+AsksFor None (Replay file traces) = ⊥
+AsksFor (Some p) (Run dialect hosts turns traces) = (p.0 ≡ codes "run")
     × (dialect ≡ dialect_by (first_of (codes "full") p.1))
     × (option_map (λ s. s.now) hosts ≡ first_of (codes "hosts") p.1)
     × AreTurns (first_of (codes "turns") p.1) turns
     × IsInRange turns
-AsksFor (Some p) (Replay file) = (p.0 ≡ codes "replay") × (Some file.now ≡ first_of (codes "file") p.1)
+    × (traces ≡ is_given (first_of (codes "trace") p.1))
+AsksFor (Some p) (Replay file traces) = (p.0 ≡ codes "replay") × (Some file.now ≡ first_of (codes "file") p.1)
+    × (traces ≡ is_given (first_of (codes "trace") p.1))
 
 -- the matches ask for nothing
 abbrev pub AsksNothing : Option (Text × List Row) → Type 0

@@ -16,6 +16,10 @@ turns_rule = record (new_rule (codes "turns")) { long = Some (codes "turns"); va
 abbrev pub full_rule : Rule
 full_rule = record (new_rule (codes "full")) { long = Some (codes "full"); action = Some SetTrue }
 
+-- `--trace`
+abbrev pub trace_rule : Rule
+trace_rule = record (new_rule (codes "trace")) { long = Some (codes "trace"); action = Some SetTrue }
+
 -- `FILE`
 abbrev pub file_rule : Rule
 file_rule = record (new_rule (codes "file")) { value_names = 1; action = Some Set; required = true }
@@ -29,12 +33,20 @@ abbrev pub turns_app : App
 turns_app = with_rule hosts_app turns_rule
 
 -- `run [--hosts FILE] [--turns N] [--full]`
+abbrev pub full_app : App
+full_app = with_rule turns_app full_rule
+
+-- `run [--hosts FILE] [--turns N] [--full] [--trace]`
 abbrev pub run_app : App
-run_app = with_rule turns_app full_rule
+run_app = with_rule full_app trace_rule
 
 -- `replay FILE`
+abbrev pub file_app : App
+file_app = with_rule (new_app (codes "replay")) file_rule
+
+-- `replay FILE [--trace]`
 abbrev pub replay_app : App
-replay_app = with_rule (new_app (codes "replay")) file_rule
+replay_app = with_rule file_app trace_rule
 
 -- `amishell` alone, with a version to print
 abbrev pub bare_app : App

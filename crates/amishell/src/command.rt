@@ -4,7 +4,7 @@ ghost use Rattle.clap.specs.Simple.{app_of, subcommand_of, subcommand_rows_of};
 ghost use Rattle.clap.specs.Kinds.{FailsBy};
 ghost use Rattle.clap.specs.Faults.{fault_of};
 ghost use Rattle.clap.specs.declared.builder.command.Command.TheViews.{out-Command as fields_of};
-ghost use Rattle.amishell.specs.Command.{hosts_app, turns_app, run_app, replay_app, bare_app, amishell};
+ghost use Rattle.amishell.specs.Command.{hosts_app, turns_app, full_app, run_app, file_app, replay_app, bare_app, amishell};
 
 use ados_session::VERSION;
 use clap::{Arg, ArgAction, ArgMatches, Command, Error};
@@ -30,6 +30,10 @@ of the input, turns of shells and answers of programs [default: 1000000]";
 
 const FULL: &str =
     "Commands have the further options of Release 2, and a ? at the end of a line asks for its last word";
+
+const TRACE: &str =
+    "Each command that a script, a Run or a command substitution takes is written on standard error before it runs,
+as + RAM:S/build:12: Copy a b: a + for each that runs, and in brackets the shell of a Run";
 
 const FILE: &str =
     "The recording: its first line is 'amishell 1', or 'amishell 3' for commands as by --full of run, and each
@@ -70,9 +74,21 @@ fn bare_command<'a>(alloc: Global) -> Result<Command<'a>, AllocError>
         .bin_name("amishell")
 }
 
-// `run [--hosts FILE] [--turns N] [--full]`.
+// `run [--hosts FILE] [--turns N] [--full] [--trace]`.
 fn run_command<'a>(alloc: Global) -> Result<Command<'a>, AllocError>
     ensures app { IfOk result (λ c. app_of c ≡ run_app) }
+    ensures local { IfOk result (λ c. (fields_of c).has_globals ≡ false) }
+{
+    let trace = Arg::new(alloc, "trace")
+        .long("trace")
+        .help(TRACE)
+        .action(ArgAction::SetTrue);
+    full_command(alloc)?.arg(trace)
+}
+
+// `run [--hosts FILE] [--turns N] [--full]`.
+fn full_command<'a>(alloc: Global) -> Result<Command<'a>, AllocError>
+    ensures app { IfOk result (λ c. app_of c ≡ full_app) }
     ensures local { IfOk result (λ c. (fields_of c).has_globals ≡ false) }
 {
     let full = Arg::new(alloc, "full")
@@ -110,9 +126,21 @@ fn hosts_command<'a>(alloc: Global) -> Result<Command<'a>, AllocError>
         .arg(hosts)
 }
 
-// `replay FILE`.
+// `replay FILE [--trace]`.
 fn replay_command<'a>(alloc: Global) -> Result<Command<'a>, AllocError>
     ensures app { IfOk result (λ c. app_of c ≡ replay_app) }
+    ensures local { IfOk result (λ c. (fields_of c).has_globals ≡ false) }
+{
+    let trace = Arg::new(alloc, "trace")
+        .long("trace")
+        .help(TRACE)
+        .action(ArgAction::SetTrue);
+    file_command(alloc)?.arg(trace)
+}
+
+// `replay FILE`.
+fn file_command<'a>(alloc: Global) -> Result<Command<'a>, AllocError>
+    ensures app { IfOk result (λ c. app_of c ≡ file_app) }
     ensures local { IfOk result (λ c. (fields_of c).has_globals ≡ false) }
 {
     let file = Arg::new(alloc, "file")

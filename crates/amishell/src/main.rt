@@ -15,17 +15,26 @@ mod request;
 
 use ados_launch::{Counted, Drive, Host, Launcher, Listed, Source};
 use ados_text::{Code, Text};
+use ados_trace::{FullPaths, Traced};
 use ados_world::{Dialect, HostEntry, NewFault, World};
 use faults::Fault;
 use request::{Asked, Refused};
 use std::alloc::Global;
 use std::io;
-use std::io::Write;
+use std::io::{Eprint, Write};
 use std::process::{ExitCode, Processes};
 use std::rt::{Env, Files};
 
 // The exit status after a fault, and after a code that is not an exit status.
 const FAILED: u8 = 20;
+
+// Where the output of a run goes.
+#[derive(Clone, Copy)]
+struct Console<'a, R> {
+    rt: &'a R,
+    // Each command is told on standard error.
+    traces: bool,
+}
 
 fn main(rt: HostRuntime) -> ExitCode {
     match run(&rt) {
@@ -39,7 +48,9 @@ fn main(rt: HostRuntime) -> ExitCode {
 }
 
 // Does what the words ask for, and gives the exit status.
-fn run<R: Env + AllocGlobal + Files + Input + Print + Processes>(rt: &R) -> Result<u8, Fault> {
+fn run<R: Env + AllocGlobal + Files + Input + Print + Eprint + Processes>(
+    rt: &R,
+) -> Result<u8, Fault> {
     let words = words(rt)?;
     match reading::asked(rt.alloc(), &words) {
         Ok(
@@ -47,9 +58,10 @@ fn run<R: Env + AllocGlobal + Files + Input + Print + Processes>(rt: &R) -> Resu
                 dialect,
                 hosts,
                 turns,
+                traces,
             },
-        ) => run_typed(rt, dialect, hosts, turns),
-        Ok(Asked::Replay { file }) => replay(rt, file),
+        ) => run_typed(Console { rt, traces }, dialect, hosts, turns),
+        Ok(Asked::Replay { file, traces }) => replay(Console { rt, traces }, file),
         Err(Refused::Help(text)) => show(rt, &text),
         Err(Refused::BadLine) => Err(Fault::BadLine),
         Err(Refused::NoMemory) => Err(Fault::Memory),
@@ -80,12 +92,13 @@ fn words<R: Env + AllocGlobal>(rt: &R) -> Result<Vec<String>, Fault> {
 // Runs the lines of standard input in a world of a dialect, with the programs of the host that a file names, and gives the
 // exit status.
 #[tactic(auto, using(ados_launch::proofs::NewPair::new_pair))]
-fn run_typed<R: AllocGlobal + Files + Input + Print + Processes>(
-    rt: &R,
+fn run_typed<R: AllocGlobal + Files + Input + Print + Eprint + Processes>(
+    console: Console<'_, R>,
     dialect: Dialect,
     hosts: Option<&str>,
     turns: u64,
 ) -> Result<u8, Fault> {
+    let rt = console.rt;
     let hosts = match hosts {
         Some(file) => files::hosts_in(rt, file)?,
         None => Vec::new(rt.alloc()),
@@ -100,12 +113,16 @@ fn run_typed<R: AllocGlobal + Files + Input + Print + Processes>(
         turns,
         breaks: &[],
     };
-    play(rt, &mut world, &mut launcher, &mut reader, drive)
+    play(console, &mut world, &mut launcher, &mut reader, drive)
 }
 
 // Runs the recording in a file, and gives the exit status.
 #[tactic(auto, using(ados_launch::proofs::NewPair::new_pair))]
-fn replay<R: AllocGlobal + Files + Print>(rt: &R, file: &str) -> Result<u8, Fault> {
+fn replay<R: AllocGlobal + Files + Print + Eprint>(
+    console: Console<'_, R>,
+    file: &str,
+) -> Result<u8, Fault> {
+    let rt = console.rt;
     let recording = files::recording_in(rt, file)?;
     let mut world = fresh(rt.alloc(), recording.dialect, recording.hosts.as_slice())?;
     let mut launcher = Listed::new(recording.answers);
@@ -115,7 +132,7 @@ fn replay<R: AllocGlobal + Files + Print>(rt: &R, file: &str) -> Result<u8, Faul
         turns: reading::TURNS,
         breaks: recording.breaks.as_slice(),
     };
-    play(rt, &mut world, &mut launcher, &mut reader, drive)
+    play(console, &mut world, &mut launcher, &mut reader, drive)
 }
 
 // A world of a dialect in which nothing happened, with these programs of the host.
@@ -132,8 +149,8 @@ fn fresh(alloc: Global, dialect: Dialect, hosts: &[HostEntry]) -> Result<World, 
 }
 
 // Runs a reader's lines in a world, by a launcher that starts its programs, and gives the exit status that they leave.
-fn play<R: AllocGlobal + Print, L: Launcher, S: Source>(
-    rt: &R,
+fn play<R: AllocGlobal + Print + Eprint, L: Launcher, S: Source>(
+    console: Console<'_, R>,
     world: &mut World,
     launcher: &mut L,
     reader: &mut S,
@@ -142,8 +159,16 @@ fn play<R: AllocGlobal + Print, L: Launcher, S: Source>(
     requires reader { S.faults reader.old < 2 ^ 64 - 1 }
     requires agrees { Agrees world.old (L.calls launcher.old) }
 {
-    let mut writer = Counted::new(io::writer(rt));
-    let end = drive.run(world, launcher, reader, &mut writer)?;
+    let mut writer = Counted::new(io::writer(console.rt));
+    let end = if console.traces {
+        let names = FullPaths { alloc: drive.alloc };
+        let Ok(mut traced) = Traced::new(console.rt, &names, writer) else {
+            return Err(Fault::Memory);
+        };
+        drive.run(world, launcher, reader, &mut traced)?
+    } else {
+        drive.run(world, launcher, reader, &mut writer)?
+    };
     Ok(status(end.code))
 }
 

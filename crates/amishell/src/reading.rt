@@ -1,12 +1,12 @@
 //! What the words after the program's name ask for.
-ghost use Rattle.std.specs.Prelude.{◌≡◌, [], map, IfOk, IfErr, IfSome, IfNone, MatchResult, option_map, Some, None, ℕ, codes};
+ghost use Rattle.std.specs.Prelude.{◌≡◌, [], map, IfOk, IfErr, IfSome, IfNone, MatchResult, option_map, Some, None, ℕ, codes, false};
 ghost use Rattle.clap.specs.Walk.{first_of, rows_of};
 ghost use Rattle.clap.specs.Matches.{found_of};
 ghost use Rattle.clap.specs.Simple.{subcommand_rows_of};
 ghost use Rattle.clap.specs.Values.{kind_of};
 ghost use Rattle.ados_resident.specs.declared.dialects.Dialect.TheVariants.{Core};
 ghost use Rattle.clap.specs.declared.error.kind.ErrorKind.{ErrorKind};
-ghost use Rattle.amishell.specs.Asked.{AreTurns, AsksFor, AsksNothing, IsAsked, IsInRange, IsRefusal, IsRefusalOf, IsRequest, dialect_by};
+ghost use Rattle.amishell.specs.Asked.{AreTurns, AsksFor, AsksNothing, IsAsked, IsInRange, IsRefusal, IsRefusalOf, IsRequest, dialect_by, is_given};
 
 use crate::command::matches_of_words;
 use crate::request::{Asked, Refused};
@@ -28,7 +28,7 @@ pub fn asked<'a, S: AsStr>(alloc: Global, words: &'a [S]) -> Result<Asked<'a>, R
     ensures asked { IfOk result (IsAsked (map S.text words.entry.now)) }
     ensures refused { IfErr result (IsRefusal (map S.text words.entry.now)) }
     ensures no_words { words.entry.now ≡ [] →
-        MatchResult result (λ a. a ≡ Asked.Run Core None 1_000_000) (λ e. e ≡ Refused.NoMemory) }
+        MatchResult result (λ a. a ≡ Asked.Run Core None 1_000_000 false) (λ e. e ≡ Refused.NoMemory) }
 {
     let matches = match matches_of_words(alloc, words) {
         Ok(matches) => matches,
@@ -50,6 +50,7 @@ fn asked_of<'a>(matches: &ArgMatches<'a>) -> Option<Asked<'a>>
             dialect: Dialect::Core,
             hosts: None,
             turns: TURNS,
+            traces: false,
         }),
         Some((name, inner)) => command_of(name, inner),
     }
@@ -76,11 +77,13 @@ fn run_of<'a>(inner: &ArgMatches<'a>) -> Option<Asked<'a>>
 {
     let dialect = dialect_by(written(inner, "full"));
     let hosts = written(inner, "hosts");
+    let traces = is_given(written(inner, "trace"));
     match turns_written(written(inner, "turns")) {
         Some(turns) => Some(Asked::Run {
             dialect,
             hosts,
             turns,
+            traces,
         }),
         None => None,
     }
@@ -91,8 +94,9 @@ fn replay_of<'a>(inner: &ArgMatches<'a>) -> Option<Asked<'a>>
     ensures asked { IfSome result (AsksFor (Some (codes "replay", rows_of (found_of inner.now)))) }
     ensures nothing { IfNone result (AsksNothing (Some (codes "replay", rows_of (found_of inner.now)))) }
 {
+    let traces = is_given(written(inner, "trace"));
     match written(inner, "file") {
-        Some(file) => Some(Asked::Replay { file }),
+        Some(file) => Some(Asked::Replay { file, traces }),
         None => None,
     }
 }
@@ -118,6 +122,16 @@ fn dialect_by(value: Option<&str>) -> Dialect
     match value {
         Some(value) if value == "true" => Dialect::Full,
         _ => Dialect::Core,
+    }
+}
+
+// The value of a flag says that it is given.
+fn is_given(value: Option<&str>) -> bool
+    ensures { result ≡ is_given (option_map (λ s. s.now) value.entry) }
+{
+    match value {
+        Some(value) => value == "true",
+        None => false,
     }
 }
 

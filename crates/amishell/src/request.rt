@@ -14,11 +14,15 @@ pub enum Asked<'a> {
         hosts: Option<&'a str>,
         /// The most events and long lines that are taken: 1 to 1,000,000,000.
         turns: u64,
+        /// Each command is told on standard error.
+        traces: bool,
     },
     /// To run a recording.
     Replay {
         /// The file that holds it.
         file: &'a str,
+        /// Each command is told on standard error.
+        traces: bool,
     },
 }
 

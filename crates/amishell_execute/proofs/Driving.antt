@@ -19,9 +19,7 @@ use Rattle.ados_launch.proofs.Stepping.{driven-step, one-counted}
 use Rattle.ados_launcher.specs.Views.{HostView}
 use Rattle.amishell_execute.specs.declared.faults.Fault.{Fault}
 use Rattle.amishell_execute.specs.declared.faults.Fault.TheVariants.{Drive}
-use Rattle.amishell_execute.specs.declared.gate.Gate.{Gate}
-use Rattle.amishell_execute.specs.Playing.{IfDriven, PlaysAlone, contents_through, drive_fault_of, may_be_cut, playing_moment}
-use Rattle.amishell_execute.specs.Prompting.{PrompterView}
+use Rattle.amishell_execute.specs.Playing.{IfDriven, PlaysAlone, drive_fault_of, may_be_cut}
 
 -- this many were taken, and nothing else was done
 pub record DrivenAlone (before now : Moment) (n : ℕ) (session : SessionState) : Type 0 where
@@ -46,31 +44,6 @@ alone-none before session unknown begins held agrees = record {
 -- at the same moment
 pub alone-same : (before mid same : Moment) (n : ℕ) (was session : SessionState) → same ≡ mid → session ≡ was → DrivenAlone before mid n was → DrivenAlone before same n session
 alone-same before mid same n was session at is a = rw (at, is) a
-
--- two moments that are alike in what is known of them
-made : WorldState → ℕ → Option (List ℕ) → ℕ → ℕ → List Call → Bool → Moment
-made w read_faults contents write_faults stalls calls is_full = record {
-  world = w;
-  left = None;
-  read_faults = read_faults;
-  contents = contents;
-  write_faults = write_faults;
-  stalls = stalls;
-  calls = calls;
-  is_full = is_full;
-}
-
-made-same : (w : WorldState) (r r' : ℕ) (c c' : Option (List ℕ)) (f f' s s' : ℕ) (calls calls' : List Call) (is_full is_full' : Bool) → r' ≡ r → c' ≡ c → f' ≡ f → s' ≡ s → calls' ≡ calls → is_full' ≡ is_full
-    → made w r' c' f' s' calls' is_full' ≡ made w r c f s calls is_full
-made-same w r r' c c' f f' s s' calls calls' is_full is_full' er ec ef es el eb = rw (er, ec, ef, es, el, eb) refl
-
-pub told-same : {K : Type 0} (contents : K → Option (List ℕ)) (write_faults stalls : K → ℕ) (w : WorldState) (reader reader' : PrompterView) (writer writer' : Gate K) (launcher launcher' : HostView)
-    → reader' ≡ reader → launcher' ≡ launcher → contents_through contents writer' ≡ contents_through contents writer → write_faults writer'.inner ≡ write_faults writer.inner → stalls writer'.inner ≡ stalls writer.inner
-    → playing_moment contents write_faults stalls w reader' writer' launcher' ≡ playing_moment contents write_faults stalls w reader writer launcher
-unfolding made
-told-same contents write_faults stalls w reader reader' writer writer' launcher launcher' er el ec ef es =
-    made-same w reader.faults reader'.faults (contents_through contents writer) (contents_through contents writer') (write_faults writer.inner) (write_faults writer'.inner) (stalls writer.inner) (stalls writer'.inner)
-    launcher.calls launcher'.calls launcher.is_full launcher'.is_full (ap (λ r. r.faults) er) ec ef es (ap (λ l. l.calls) el) (ap (λ l. l.is_full) el)
 
 -- one more was taken
 pub alone-step : (before mid now : Moment) (n : ℕ) (was next : SessionState) → DrivenAlone before mid n was → TakesOne was next mid now → (mid.is_full ≡ true → now.is_full ≡ true)

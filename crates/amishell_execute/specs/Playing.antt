@@ -1,5 +1,5 @@
 -- The end of a run: what of it is written, and what is known of one without a shared folder.
-use Rattle.std.specs.Prelude.{◌≡◌, ℕ, List, [], Bool, true, false, Option, Some, None, IfSome, Result, Ok, Err, if◌then◌else◌}
+use Rattle.std.specs.Prelude.{◌≡◌, ℕ, List, [], Bool, true, false, Option, Some, None, IfSome, Result, Ok, Err}
 use Rattle.ados_machine.specs.World.{WorldState}
 use Rattle.ados_launcher.specs.Views.{HostView}
 use Rattle.ados_launch.specs.declared.driver.End.{End}
@@ -9,7 +9,6 @@ use Rattle.ados_launch.specs.Session.{Moment}
 use Rattle.ados_launch.specs.Steps.{is_write}
 use Rattle.amishell_execute.specs.declared.faults.Fault.{Fault}
 use Rattle.amishell_execute.specs.declared.faults.Fault.TheVariants.{Drive, NotBrought, Unanswered}
-use Rattle.amishell_execute.specs.declared.gate.Gate.{Gate}
 use Rattle.amishell_execute.specs.Prompting.{PrompterView}
 
 -- of what the last event printed some bytes may be missing: a write failed or wrote nothing, or that may have been when the files
@@ -31,19 +30,15 @@ abbrev pub IfDriven : Result End Fault → (Result End DriveFault → Type 0) �
 IfDriven (Ok end) P = P (Ok end)
 IfDriven (Err why) P = IfSome (drive_fault_of why) (λ fault. P (Err fault))
 
--- the bytes that a gate has let through, if they are known: a shut one holds some back
-abbrev pub contents_through : {K : Type 0} → (K → Option (List ℕ)) → Gate K → Option (List ℕ)
-contents_through contents gate = if gate.is_shut then None else contents gate.inner
-
 -- the moment at which a run's world, reader, writer and launcher are as given; what standard input has left is not known
-abbrev pub playing_moment : {K : Type 0} → (K → Option (List ℕ)) → (K → ℕ) → (K → ℕ) → WorldState → PrompterView → Gate K → HostView → Moment
+abbrev pub playing_moment : {K : Type 0} → (K → Option (List ℕ)) → (K → ℕ) → (K → ℕ) → WorldState → PrompterView → K → HostView → Moment
 playing_moment contents write_faults stalls world reader writer launcher = record {
   world = world;
   left = None;
   read_faults = reader.faults;
-  contents = contents_through contents writer;
-  write_faults = write_faults writer.inner;
-  stalls = stalls writer.inner;
+  contents = contents writer;
+  write_faults = write_faults writer;
+  stalls = stalls writer;
   calls = launcher.calls;
   is_full = launcher.is_full;
 }

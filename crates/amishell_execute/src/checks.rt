@@ -26,6 +26,8 @@ pub struct Checks<'a> {
     path: Text,
     // The full paths of the scripts of which a harmless problem was reported.
     reported: Vec<Text>,
+    // The shells in which a frame began, and which had no turn since.
+    begun: Vec<u8>,
 }
 
 /// The bytes of the script of the command line as it is brought in. Where Echo or Ask prints a byte above 127 it has `_`, which no
@@ -69,11 +71,25 @@ impl<'a> Checks<'a> {
             file: options.script,
             path: script.path(alloc)?,
             reported: Vec::new(alloc),
+            begun: Vec::new(alloc),
         })
     }
 
-    /// Before an event: if a shell is to take the first line of a script, all lines of that script are checked, with its arguments
-    /// in them.
+    /// A frame began in this shell.
+    pub fn add_begun(&mut self, number: u8) -> Result<(), NoMemory> {
+        if !self.is_lenient {
+            self.begun.push(number)?;
+        }
+        Ok(())
+    }
+
+    /// A frame began of which no line was taken yet.
+    pub fn are_due(&self) -> bool {
+        !self.begun.is_empty()
+    }
+
+    /// Before an event, while checks are due: if a shell is to take the first line of a script, all lines of that script are checked,
+    /// with its arguments in them.
     ///
     /// `NotRun` if one of them must not be run as it is.
     pub fn attend<R: AllocGlobal + Eprint>(
@@ -84,10 +100,11 @@ impl<'a> Checks<'a> {
     ) -> Result<(), Fault>
         ensures { IfErr result (λ why. drive_fault_of why ≡ None) }
     {
-        if self.is_lenient {
+        let Next::Turn(number) = next else {
             return Ok(());
-        }
-        match begun_script(world, next) {
+        };
+        self.begun.retain(|begun| *begun != number);
+        match begun_script(world, number) {
             Some((shell, frame)) => self.check_frame(rt, world, shell, frame),
             None => Ok(()),
         }
@@ -143,11 +160,8 @@ impl<'a> Checks<'a> {
     }
 }
 
-// The script whose first line is taken next, and its shell.
-fn begun_script(world: &World, next: Next) -> Option<(&Shell, &Frame)> {
-    let Next::Turn(number) = next else {
-        return None;
-    };
+// The script of a shell whose first line is taken next, and the shell.
+fn begun_script(world: &World, number: u8) -> Option<(&Shell, &Frame)> {
     let shell = world.shell(number)?;
     let frame = shell.frames().last()?;
     match frame.script_line() {

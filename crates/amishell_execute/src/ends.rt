@@ -1,11 +1,11 @@
 //! The line on the end of a script.
 ghost use Rattle.std.specs.Prelude.{◌≡◌, ◌||◌, is_some};
 
-use crate::host_faults::shown_bytes;
 use crate::lost_jumps::LostJump;
 use ados_items::trimmed;
 use ados_machine::EndReport;
 use ados_text::{NoMemory, Text};
+use ados_trace::shown_bytes;
 use std::alloc::Global;
 
 /// Why the end of a script is told.

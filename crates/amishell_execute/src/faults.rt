@@ -6,6 +6,7 @@ use crate::status::Status;
 use crate::unread::Unread;
 use ados_launch::DriveFault;
 use ados_text::NoMemory;
+use ados_trace::escaped;
 use ados_transfer::TransferFault;
 use std::alloc::{AllocError, AllocFailed, Global};
 use std::fmt::Display;
@@ -163,28 +164,4 @@ pub fn report<R: AllocGlobal + Eprint, T: Display>(rt: &R, line: &T) {
         Ok(shown) => rt.eprintln(format_args!("amishell-execute: {shown}")),
         Err(_) => rt.eprintln(format_args!("amishell-execute: out of memory")),
     };
-}
-
-/// Writes a line on standard error as [`report`] does, without the program's name.
-pub fn tell<R: AllocGlobal + Eprint, T: Display>(rt: &R, line: &T) {
-    let _ = match escaped(rt.alloc(), line) {
-        Ok(shown) => rt.eprintln(format_args!("{shown}")),
-        Err(_) => rt.eprintln(format_args!("amishell-execute: out of memory")),
-    };
-}
-
-// A line as text in which each control character is written by its number, as `\x1b`.
-fn escaped<T: Display>(alloc: Global, line: &T) -> Result<String, AllocError> {
-    let line = format!(in alloc; "{line}")?;
-    let mut shown = String::with_capacity(alloc, line.len())?;
-    for sign in line.as_str().chars() {
-        if sign.is_control() {
-            let number = u32::from(sign);
-            let code = format!(in alloc; "\\x{number:02x}")?;
-            shown.push_str(code.as_str())?;
-        } else {
-            shown.push(sign)?;
-        }
-    }
-    Ok(shown)
 }

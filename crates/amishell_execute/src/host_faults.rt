@@ -3,6 +3,7 @@
 use crate::faults::Fault;
 use ados_items::{first_word, rest_of, trimmed};
 use ados_text::{NoMemory, Text, lines_of, same_name};
+use ados_trace::shown;
 use ados_world::{HostEntry, NewFault, hosts_fault};
 use std::alloc::Global;
 
@@ -85,14 +86,4 @@ fn reason(alloc: Global, host: &HostEntry, is_given: bool) -> Result<Option<Stri
         )?)),
         Some(_) => Ok(Some(format!(in alloc; "{name} is not a name of the Shell")?)),
     }
-}
-
-/// A text as this machine shows it.
-pub fn shown(text: &Text) -> &str {
-    shown_bytes(text.as_bytes())
-}
-
-/// Bytes of a text as this machine shows them.
-pub fn shown_bytes(bytes: &[u8]) -> &str {
-    std::str::from_utf8(bytes).unwrap_or("?")
 }

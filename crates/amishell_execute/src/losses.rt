@@ -1,9 +1,9 @@
 //! The files of a script that are gone when the Shell's memory is: the line that names them.
 
 use crate::faults::{Fault, report};
-use crate::host_faults::shown;
 use ados_ram::{Entry, Place, Ram};
 use ados_text::{Name, NoMemory, Text};
+use ados_trace::shown;
 use ados_transfer::{Content, Planned};
 use std::alloc::Global;
 use std::io::Eprint;

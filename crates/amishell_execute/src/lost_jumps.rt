@@ -1,10 +1,10 @@
 //! A jump of a script that finds nothing, as its line shows.
 
-use crate::host_faults::shown_bytes;
 use ados_items::{first_word, rest_of, trimmed};
 use ados_machine::EndReport;
 use ados_script::{Jump, Script};
 use ados_text::{Result2, same_name};
+use ados_trace::shown_bytes;
 use ados_world::World;
 use std::fmt;
 

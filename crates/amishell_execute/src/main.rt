@@ -13,7 +13,6 @@ mod due;
 mod ends;
 mod error_codes;
 mod faults;
-mod gate;
 mod home;
 mod host_faults;
 mod hosts;
@@ -32,14 +31,15 @@ mod share;
 mod stands;
 mod status;
 mod teller;
-mod trace;
 mod trail;
 mod unanswered;
 mod unread;
+mod watched;
 
 use ados_launch::Counted;
 use ados_ram::Place;
 use ados_text::{Code, Text};
+use ados_trace::Traced;
 use ados_transfer::{Lines, Plan, TransferFault, bring, bring_script, take, taken_place};
 use ados_world::World;
 use checks::{Checks, read_checked};
@@ -47,7 +47,6 @@ use deadline::Deadline;
 use descriptors::held_descriptors;
 use error_codes::{ErrorCode, error_codes};
 use faults::{Fault, not_brought, report};
-use gate::Gate;
 use hosts::{hosts_for, world_with};
 use inspections::inspect_all;
 use losses::{Kept, tell_losses};
@@ -63,6 +62,8 @@ use std::rt::{Env, Files};
 use std::time::Clock;
 use std::{env, fs, io};
 use teller::Teller;
+use trail::Trail;
+use watched::Watched;
 
 fn main(rt: HostRuntime) -> ExitCode {
     let _held = held_descriptors(&rt);
@@ -166,23 +167,26 @@ fn run_script<
     if let Some(share) = share.as_ref() {
         share.enter(rt)?;
     }
-    let mut writer = Gate::new(rt.alloc(), Counted::new(io::writer(rt)), options.trace);
-    let ended = play(
-        rt,
-        world,
-        Script {
-            planned: plan.planned(),
-            lines: &lines,
-            turns: options.turns,
-            at_end: options.at_end,
-            deadline: Deadline::after(rt, options.seconds),
-            errors,
-            checks: Checks::new(rt.alloc(), options, &script)?,
-        },
-        Teller::new(&origins, options.quiet, options.trace)?,
-        share.as_mut(),
-        &mut writer,
-    );
+    let script = Script {
+        planned: plan.planned(),
+        lines: &lines,
+        turns: options.turns,
+        at_end: options.at_end,
+        deadline: Deadline::after(rt, options.seconds),
+        errors,
+        checks: Checks::new(rt.alloc(), options, &script)?,
+    };
+    let teller = Teller::new(&origins, options.quiet);
+    let trail = Trail::new(rt.alloc())?;
+    let inner = Counted::new(io::writer(rt));
+    let ended = if options.trace {
+        let inner = Traced::new(rt, &origins, inner)?;
+        let mut writer = Watched { inner, trail };
+        play(rt, world, script, teller, share.as_mut(), &mut writer)
+    } else {
+        let mut writer = Watched { inner, trail };
+        play(rt, world, script, teller, share.as_mut(), &mut writer)
+    };
     let is_alike = close(rt, world, share.as_mut())?;
     let is_taken = take_all(rt, options, world);
     let code = ended.as_ref().ok().map(|end| end.code);

@@ -1,8 +1,8 @@
 //! The paths of this machine from which the Shell's files come.
 
-use crate::host_faults::shown;
 use ados_ram::Place;
 use ados_text::{NoMemory, Text, same_name};
+use ados_trace::{ScriptNames, shown};
 use ados_transfer::{Planned, parted, step_into};
 use std::alloc::Global;
 use std::rt::Files;
@@ -48,9 +48,11 @@ impl<'a> Origins<'a> {
             share,
         })
     }
+}
 
-    /// The name by which a user knows the file of a full path: its path on this machine, if it has one.
-    pub fn name(&self, file: &Text) -> Result<String, NoMemory> {
+impl ScriptNames for Origins<'_> {
+    // Its path on this machine, if it has one.
+    fn name(&self, file: &Text) -> Result<String, NoMemory> {
         for one in self.planned {
             let path = one.place.path(self.alloc)?;
             if same_name(path.as_bytes(), file.as_bytes()) {

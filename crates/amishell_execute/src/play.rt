@@ -5,18 +5,19 @@ ghost use Rattle.ados_launch.specs.Agreement.{Agrees, AreOver, IsOpenTable};
 ghost use Rattle.ados_launch.specs.Deeds.{Does, DoesByRule, RunsLines};
 ghost use Rattle.ados_launch.specs.Drives.{Drives, HasDriveResult};
 ghost use Rattle.ados_launch.specs.Schedule.{first_schedule_state};
-ghost use Rattle.amishell_execute.specs.Playing.{IfDriven, PlaysAlone, contents_through, drive_fault_of, may_be_cut, playing_moment};
+ghost use Rattle.amishell_execute.specs.Playing.{IfDriven, PlaysAlone, drive_fault_of, may_be_cut, playing_moment};
 
 use crate::checks::Checks;
 use crate::deadline::Deadline;
 use crate::error_codes::ErrorCode;
 use crate::faults::Fault;
-use crate::gate::Gate;
 use crate::launcher::Bringer;
 use crate::reader::{AtEnd, Prompter};
 use crate::share::Share;
 use crate::teller::Teller;
+use crate::trail::{Change, Trail};
 use crate::unanswered::question_asked;
+use crate::watched::Watched;
 use ados_launch::{End, Session, Sink};
 use ados_transfer::{Lines, Planned};
 use ados_world::World;
@@ -58,15 +59,15 @@ pub fn play<R: AllocGlobal + Files + Input + Eprint + Processes + Clone + Drop +
     script: Script<'_>,
     teller: Teller<'_>,
     share: Option<&mut Share>,
-    writer: &mut Gate<K>,
+    writer: &mut Watched<K>,
 ) -> Result<End, Fault>
     requires agrees { Agrees world.old [] }
     requires writer { K.faults writer.old.inner < 2 ^ 64 - 1 }
     // By these deeds one world leads to the other; their bytes were written, and the rule holds of them.
-    ensures does { DoesByRule world.old world.new (may_be_cut result) (contents_through K.contents writer.old) (contents_through K.contents writer.new) }
+    ensures does { DoesByRule world.old world.new (may_be_cut result) (K.contents writer.old.inner) (K.contents writer.new.inner) }
     // Without a shared folder the run is one of `Drive::run`.
     ensures drives { is_none share.entry ≡ true → IfDriven result
-        (PlaysAlone world.old world.new (contents_through K.contents writer.old) (contents_through K.contents writer.new)) }
+        (PlaysAlone world.old world.new (K.contents writer.old.inner) (K.contents writer.new.inner)) }
 {
     // This shows that the world is sane: no script in it runs on after a failure.
     let _asked = world.pending(1);
@@ -119,16 +120,16 @@ impl<R: AllocGlobal + Files + Eprint + Processes + Clone + Drop + Clock, I: Read
         &mut self,
         world: &mut World,
         share: Option<&mut Share>,
-        writer: &mut Gate<K>,
+        writer: &mut Watched<K>,
     ) -> Result<End, Fault>
         requires reader { self.old.reader.faults < 2 ^ 64 - 1 }
         requires writer { K.faults writer.old.inner < 2 ^ 64 - 1 }
         requires agrees { Agrees world.old self.old.launcher.calls }
-        ensures does { DoesByRule world.old world.new (may_be_cut result) (contents_through K.contents writer.old) (contents_through K.contents writer.new) }
+        ensures does { DoesByRule world.old world.new (may_be_cut result) (K.contents writer.old.inner) (K.contents writer.new.inner) }
         ensures over { AreOver self.new.launcher.calls }
         ensures drives { is_none share.entry ≡ true → IfDriven result (Drives self.old.turns []
-            (playing_moment K.contents K.faults K.stalls world.old self.old.reader writer.old self.old.launcher)
-            (playing_moment K.contents K.faults K.stalls world.new self.new.reader writer.new self.new.launcher)) }
+            (playing_moment K.contents K.faults K.stalls world.old self.old.reader writer.old.inner self.old.launcher)
+            (playing_moment K.contents K.faults K.stalls world.new self.new.reader writer.new.inner self.new.launcher)) }
     {
         let mut session = Session::new(self.rt.alloc(), world, &[]);
         match self.drive_session(world, &mut session, share, writer) {
@@ -147,7 +148,7 @@ impl<R: AllocGlobal + Files + Eprint + Processes + Clone + Drop + Clock, I: Read
         world: &mut World,
         session: &mut Session<'_>,
         mut share: Option<&mut Share>,
-        writer: &mut Gate<K>,
+        writer: &mut Watched<K>,
     ) -> Result<End, Fault>
         requires reader { self.old.reader.faults < 2 ^ 64 - 1 }
         requires writer { K.faults writer.old.inner < 2 ^ 64 - 1 }
@@ -155,45 +156,45 @@ impl<R: AllocGlobal + Files + Eprint + Processes + Clone + Drop + Clock, I: Read
         requires children { IsOpenTable session.old.children self.old.launcher.calls }
         requires begins { session.old.schedule ≡ first_schedule_state [] }
         requires held { session.old.held ≡ [] }
-        ensures does { Does world.old world.new (may_be_cut result) (contents_through K.contents writer.old) (contents_through K.contents writer.new) }
+        ensures does { Does world.old world.new (may_be_cut result) (K.contents writer.old.inner) (K.contents writer.new.inner) }
         ensures children { IsOpenTable session.new.children self.new.launcher.calls }
         ensures agrees { OnOk result (Agrees world.new self.new.launcher.calls) }
         ensures over { OnOk result (AreOver self.new.launcher.calls) }
         ensures drives { is_none share.entry ≡ true → IfDriven result (HasDriveResult self.old.turns []
-            (playing_moment K.contents K.faults K.stalls world.old self.old.reader writer.old self.old.launcher)
-            (playing_moment K.contents K.faults K.stalls world.new self.new.reader writer.new self.new.launcher)) }
+            (playing_moment K.contents K.faults K.stalls world.old self.old.reader writer.old.inner self.old.launcher)
+            (playing_moment K.contents K.faults K.stalls world.new self.new.reader writer.new.inner self.new.launcher)) }
     {
         for _ in 0..self.turns {
             self.attend(world, session, &mut share)?;
             if !session.take(world, &mut self.launcher, &mut self.reader, writer)? {
                 return Ok(session.end(world));
             }
-            self.tell(world, session, writer)?;
+            self.follow(world, session, &mut writer.trail)?;
         }
         Ok(session.finish(world)?)
     }
 
-    // Tells what happened at the last event: the command that it took, then what it printed, then the scripts that it ended.
-    fn tell<K: Sink>(
+    // Follows the shell that had the last event: the scripts that ended are told, what began is to be checked, and once shell 1 has
+    // ended it is told which others run.
+    fn follow(
         &mut self,
         world: &World,
         session: &Session<'_>,
-        writer: &mut Gate<K>,
+        trail: &mut Trail,
     ) -> Result<(), Fault>
-        requires writer { K.faults writer.old.inner < 2 ^ 64 - 1 }
         ensures launcher { self.new.launcher ≡ self.old.launcher }
         ensures reader { self.new.reader ≡ self.old.reader }
-        ensures contents { contents_through K.contents writer.new ≡ contents_through K.contents writer.old }
-        ensures faults { OnOk result (K.faults writer.new.inner ≡ K.faults writer.old.inner) }
-        ensures stalls { OnOk result (K.stalls writer.new.inner ≡ K.stalls writer.old.inner) }
         ensures fault { IfErr result (λ why. drive_fault_of why ≡ None) }
     {
-        self.teller.tell_command(self.rt, session);
-        writer.release()?;
-        Ok(self.teller.after(self.rt, world, session)?)
+        self.teller.tell_ends(self.rt, world, trail, session.reports())?;
+        match trail.follow(world)? {
+            Change::Begun(number) => Ok(self.checks.add_begun(number)?),
+            Change::Ended(1) => Ok(self.teller.tell_waiting(self.rt, world, trail)?),
+            Change::Same | Change::Ended(_) => Ok(()),
+        }
     }
 
-    // Attends to the time, to the script that begins, to the shell whose event comes next, and to the shared folder, if there is one.
+    // Attends to the time, to a script that begins, and to the shared folder, if there is one.
     #[tactic(auto, using(crate::proofs::Pairs::lines_stay))]
     fn attend(
         &mut self,
@@ -216,9 +217,10 @@ impl<R: AllocGlobal + Files + Eprint + Processes + Clone + Drop + Clock, I: Read
         if let Some(deadline) = &self.deadline {
             deadline.check(self.rt)?;
         }
-        if let Some(next) = session.next(world) {
+        if self.checks.are_due()
+            && let Some(next) = session.next(world)
+        {
             self.checks.attend(self.rt, world, next)?;
-            self.teller.before(self.rt, world, next)?;
         }
         let Some(share) = share else {
             return Ok(());

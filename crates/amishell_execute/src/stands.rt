@@ -5,9 +5,9 @@ use crate::faults::{Fault, report};
 use crate::origins::Origins;
 use crate::request::Options;
 use crate::status::Status;
-use crate::trail::name_of;
 use ados_flow::Frame;
 use ados_launch::{DriveFault, End};
+use ados_trace::{ScriptNames, script_name};
 use ados_world::World;
 use std::fmt::Display;
 use std::io::Eprint;
@@ -62,7 +62,7 @@ fn tell_stand<R: AllocGlobal + Eprint, T: Display>(
     origins: &Origins<'_>,
     why: &T,
 ) -> Result<bool, Fault> {
-    let (Some(name), Some((script, line))) = (name_of(frame), frame.script_line()) else {
+    let (Some(name), Some((script, line))) = (script_name(frame), frame.script_line()) else {
         return Ok(false);
     };
     let name = origins.name(name)?;

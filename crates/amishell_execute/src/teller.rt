@@ -1,17 +1,15 @@
 //! What is told of the scripts while they run: those that end early or broken, and the shells that are waited for.
 
 use crate::ends::{cause_of, end_line};
-use crate::faults::{report, tell};
-use crate::host_faults::shown_bytes;
+use crate::faults::report;
 use crate::lost_jumps::lost_jump;
 use crate::origins::Origins;
-use crate::trace::trace_line;
 use crate::trail::Trail;
 use ados_items::trimmed;
-use ados_launch::{Next, Session};
 use ados_machine::EndReport;
-use ados_shell::Shell;
+use ados_script::Script;
 use ados_text::NoMemory;
+use ados_trace::{ScriptNames, shown_bytes};
 use ados_world::World;
 use std::io::Eprint;
 
@@ -19,114 +17,44 @@ use std::io::Eprint;
 #[derive(Drop)]
 pub struct Teller<'a> {
     origins: &'a Origins<'a>,
-    trail: Trail,
-    // Neither ends nor shells that are waited for are told.
+    // Nothing is told.
     is_quiet: bool,
-    // Each command that is taken is told.
-    traces: bool,
-    // The line on the command that the event takes which comes next.
-    command: Option<String>,
-    // It was told which shells are waited for.
-    has_waited: bool,
 }
 
 impl<'a> Teller<'a> {
-    /// A teller that calls scripts by these names; a quiet one does not tell their ends, and one that traces tells each command.
-    pub fn new(
-        origins: &'a Origins<'a>,
-        is_quiet: bool,
-        traces: bool,
-    ) -> Result<Teller<'a>, NoMemory> {
-        Ok(Teller {
-            origins,
-            trail: Trail::new(origins.alloc)?,
-            is_quiet,
-            traces,
-            command: None,
-            has_waited: false,
-        })
+    /// A teller that calls scripts by these names; a quiet one tells nothing.
+    pub fn new(origins: &'a Origins<'a>, is_quiet: bool) -> Teller<'a> {
+        Teller { origins, is_quiet }
     }
 
-    /// It tells each command.
-    pub fn traces(&self) -> bool {
-        self.traces
-    }
-
-    /// Looks at the shell whose event comes next. The first time that this is another one after shell 1 has ended, the shells that run
-    /// are told.
-    pub fn before<R: AllocGlobal + Eprint>(
-        &mut self,
-        rt: &R,
-        world: &World,
-        next: Next,
-    ) -> Result<(), NoMemory> {
-        if self.is_quiet && !self.traces {
-            return Ok(());
-        }
-        let number = shell_of(next);
-        let Some(shell) = world.shell(number) else {
-            return Ok(());
-        };
-        self.trail.look(shell)?;
-        if self.traces {
-            self.command = self.command_of(next, shell)?;
-        }
-        if self.is_quiet {
-            return Ok(());
-        }
-        if number != 1 && !self.has_waited && world.shell(1).is_none() {
-            self.has_waited = true;
-            self.tell_waiting(rt, world)?;
-        }
-        Ok(())
-    }
-
-    // The line on the command that a shell takes next, if it takes one.
-    fn command_of(&self, next: Next, shell: &Shell) -> Result<Option<String>, NoMemory> {
-        let is_turn = matches!(next, Next::Turn(_));
-        if !is_turn || shell.asks_for_line() || self.trail.goes_on(shell.number()) {
-            return Ok(None);
-        }
-        trace_line(self.origins, shell)
-    }
-
-    /// Tells the command that the last event took, unless it was a break.
-    pub fn tell_command<R: AllocGlobal + Eprint>(&mut self, rt: &R, session: &Session<'_>) {
-        let Some(line) = self.command.take() else {
-            return;
-        };
-        if !session.reports().iter().any(|end| end.broken) {
-            tell(rt, &line);
-        }
-    }
-
-    /// Tells the ends of scripts at the last event.
-    pub fn after<R: AllocGlobal + Eprint>(
+    /// Tells the ends of scripts at the last event, by the trail before it.
+    pub fn tell_ends<R: AllocGlobal + Eprint>(
         &self,
         rt: &R,
         world: &World,
-        session: &Session<'_>,
+        trail: &Trail,
+        ends: &[EndReport],
     ) -> Result<(), NoMemory> {
         if self.is_quiet {
             return Ok(());
         }
-        for (newer, end) in session.reports().iter().enumerate() {
-            self.tell_end(rt, world, newer, end)?;
+        for (newer, end) in ends.iter().enumerate() {
+            self.tell_end(rt, world, trail.script(end.shell, newer), newer == 0, end)?;
         }
         Ok(())
     }
 
-    // Tells an end, if it is early or broken, or a jump found nothing: of the script that had this many newer ones.
+    // Tells an end, if it is early or broken, or a jump found nothing: of this script, which may be the newest.
     fn tell_end<R: AllocGlobal + Eprint>(
         &self,
         rt: &R,
         world: &World,
-        newer: usize,
+        script: Option<&Script>,
+        is_newest: bool,
         end: &EndReport,
     ) -> Result<(), NoMemory> {
-        let script = self.trail.script(end.shell, newer);
         let jump = match script {
-            Some(script) if newer == 0 => lost_jump(world, end, script),
+            Some(script) if is_newest => lost_jump(world, end, script),
             _ => None,
         };
         let Some(cause) = cause_of(end, jump) else {
@@ -141,44 +69,42 @@ impl<'a> Teller<'a> {
         Ok(())
     }
 
-    // Tells which shells run.
-    fn tell_waiting<R: AllocGlobal + Eprint>(
-        &mut self,
+    /// Tells which shells run, once shell 1 has ended.
+    pub fn tell_waiting<R: AllocGlobal + Eprint>(
+        &self,
         rt: &R,
         world: &World,
+        trail: &mut Trail,
     ) -> Result<(), NoMemory> {
+        if self.is_quiet {
+            return Ok(());
+        }
         let mut line = String::from_str(rt.alloc(), "waiting for ")?;
         let mut sign = "";
         for number in 2..=20 {
-            let Some(shell) = world.shell(number) else {
+            if world.shell(number).is_none() {
                 continue;
-            };
-            self.trail.look(shell)?;
-            let name = self.shell_name(number)?;
+            }
+            trail.keep_new(world, number)?;
+            let name = self.shell_name(trail, number)?;
             write!(line, "{sign}shell {number}: {name}")?;
             sign = ", ";
         }
-        report(rt, &line);
+        if !sign.is_empty() {
+            report(rt, &line);
+        }
         Ok(())
     }
 
     // What a shell runs: its oldest script, or else the first line of its commands.
-    fn shell_name(&self, number: u8) -> Result<String, NoMemory> {
-        if let Some(name) = self.trail.first_script(number) {
+    fn shell_name(&self, trail: &Trail, number: u8) -> Result<String, NoMemory> {
+        if let Some(name) = trail.first_script(number) {
             return self.origins.name(name);
         }
-        let line = match self.trail.first_line(number) {
+        let line = match trail.first_line(number) {
             Some(line) => shown_bytes(trimmed(line.as_bytes())),
             None => "",
         };
         Ok(String::from_str(self.origins.alloc, line)?)
-    }
-}
-
-// The shell whose event comes next; 0 for a line.
-fn shell_of(next: Next) -> u8 {
-    match next {
-        Next::Line => 0,
-        Next::Turn(number) | Next::Start(number) | Next::Further(number) => number,
     }
 }

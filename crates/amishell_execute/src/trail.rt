@@ -1,22 +1,40 @@
 //! The scripts of each shell, whose lines are kept from their beginning until their end is reported.
-ghost use Rattle.std.specs.Prelude.{◌≡◌, ◌++◌, OnOk};
+ghost use Rattle.std.specs.Prelude.{◌≡◌, ◌++◌, IfOk, OnOk, length, nat_lt};
 ghost use Rattle.std.specs.Option.{option_map};
 ghost use Rattle.amishell_execute.specs.Ends.{kept_after, script_at, script_of};
 
-use ados_flow::{Frame, FrameKind};
+use ados_flow::Frame;
+use ados_launch::Next;
 use ados_script::Script;
 use ados_shell::Shell;
 use ados_text::{NoMemory, Text};
+use ados_trace::script_name;
+use ados_world::World;
 use std::alloc::Global;
 
 // Shells have the numbers from 1 to 20.
 const NUMBERS: usize = 21;
+
+/// What an event did to a shell.
+#[derive(Clone, Copy, PartialEq, Eq, Debug)]
+pub enum Change {
+    /// A frame began in the shell of this number.
+    Begun(u8),
+    /// Frames ended, or nothing did.
+    Same,
+    /// It is gone, or the event was that of no shell.
+    Ended(u8),
+}
 
 /// The frames of all shells, as they began.
 #[derive(Drop)]
 pub struct Trail {
     // By the shells' numbers.
     shells: Vec<Kept>,
+    // The shell that had the last event; 0 if none had.
+    latest: u8,
+    // There was no memory to keep what began.
+    is_short: bool,
 }
 
 /// The frames of a shell, as they began.
@@ -24,8 +42,6 @@ pub struct Trail {
 struct Kept {
     // The newest is the last.
     frames: Vec<Frame>,
-    // At the last look a command substitution had ended, and its line goes on.
-    goes_on: bool,
 }
 
 impl Trail {
@@ -35,18 +51,52 @@ impl Trail {
         for _ in 0..NUMBERS {
             shells.push(Kept {
                 frames: Vec::new(alloc),
-                goes_on: false,
             })?;
         }
-        Ok(Trail { shells })
+        Ok(Trail {
+            shells,
+            latest: 0,
+            is_short: false,
+        })
     }
 
-    /// Looks at a shell before each of its events: at one event a frame begins, or some end, or neither.
-    pub fn look(&mut self, shell: &Shell) -> Result<(), NoMemory> {
-        match self.shells.get_mut(usize::from(shell.number())) {
-            Some(kept) => kept.look(shell.frames()),
-            None => Ok(()),
+    /// Before an event: which shell has it.
+    pub fn expect(&mut self, world: &World, next: Next) {
+        self.latest = shell_of(next);
+        // Shell 1 begins with no frame, another one with the commands of a Run.
+        if self.latest > 1 && self.keep_new(world, self.latest).is_err() {
+            self.is_short = true;
         }
+    }
+
+    /// Keeps the commands of a shell that is new: none of them was taken yet.
+    pub fn keep_new(&mut self, world: &World, number: u8) -> Result<(), NoMemory> {
+        let kept = self.shells.get_mut(usize::from(number));
+        let (Some(shell), Some(kept)) = (world.shell(number), kept) else {
+            return Ok(());
+        };
+        if shell.frames().first().is_some_and(|frame| frame.position() == 0) {
+            kept.frames.clear();
+            kept.look(shell.frames())?;
+        }
+        Ok(())
+    }
+
+    /// After an event: what it did to the shell that had it.
+    pub fn follow(&mut self, world: &World) -> Result<Change, NoMemory> {
+        if self.is_short {
+            return Err(NoMemory);
+        }
+        let number = self.latest;
+        let kept = self.shells.get_mut(usize::from(number));
+        let (Some(shell), Some(kept)) = (world.shell(number), kept) else {
+            return Ok(Change::Ended(number));
+        };
+        Ok(if kept.look(shell.frames())? {
+            Change::Begun(number)
+        } else {
+            Change::Same
+        })
     }
 
     /// The newest script of a shell, or the one that has this many newer ones.
@@ -58,7 +108,7 @@ impl Trail {
     /// The name of the oldest script of a shell.
     pub fn first_script(&self, shell: u8) -> Option<&Text> {
         let kept = self.shells.get(usize::from(shell))?;
-        kept.frames.iter().find_map(name_of)
+        kept.frames.iter().find_map(script_name)
     }
 
     /// The first line of the oldest frame of a shell.
@@ -69,29 +119,24 @@ impl Trail {
             .first()?
             .next_line()
     }
-
-    /// A line of the shell goes on after a command substitution in it.
-    pub fn goes_on(&self, shell: u8) -> bool {
-        self.shells
-            .get(usize::from(shell))
-            .is_some_and(|kept| kept.goes_on)
-    }
 }
 
 impl Kept {
-    // What ended is given up, and what began is kept; it is shared, not copied. Mostly neither is so.
+    // After an event: what ended is given up, and what began is kept; it is shared, not copied. Mostly neither is so. Gives
+    // whether a frame began.
     #[tactic(auto, using(crate::proofs::TrailLemmas::same_kept))]
-    fn look(&mut self, frames: &[Frame]) -> Result<(), NoMemory>
-        ensures { OnOk result (self.new.frames.items ≡ kept_after self.old.frames.items frames.now) }
+    fn look(&mut self, frames: &[Frame]) -> Result<bool, NoMemory>
+        ensures kept { OnOk result (self.new.frames.items ≡ kept_after self.old.frames.items frames.now) }
+        ensures begun { IfOk result (λ begun. begun ≡ nat_lt (length self.old.frames.items) (length frames.now)) }
     {
         if self.frames.len() == frames.len() {
-            self.goes_on = false;
-            return Ok(());
+            return Ok(false);
         }
-        self.goes_on = is_tick(self.frames.get(frames.len()));
+        let begins = self.frames.len() < frames.len();
         self.frames.truncate(frames.len());
         let begun = frames.get(self.frames.len()..).unwrap_or(&[]);
-        share_into(&mut self.frames, begun)
+        share_into(&mut self.frames, begun)?;
+        Ok(begins)
     }
 }
 
@@ -103,14 +148,6 @@ fn share_into(kept: &mut Vec<Frame>, frames: &[Frame]) -> Result<(), NoMemory>
         kept.push(frame.share()?)?;
     }
     Ok(())
-}
-
-// The frame is one of a command substitution.
-fn is_tick(frame: Option<&Frame>) -> bool {
-    match frame {
-        Some(frame) => matches!(frame.kind(), FrameKind::Tick { .. }),
-        None => false,
-    }
 }
 
 // The lines of the newest script of some frames, or of the one that has this many newer ones.
@@ -141,10 +178,10 @@ fn script_of(frame: &Frame) -> Option<&Script>
     Some(script)
 }
 
-/// The name of the script that a frame is.
-pub fn name_of(frame: &Frame) -> Option<&Text> {
-    match frame.kind() {
-        FrameKind::Script { name, .. } => Some(name),
-        FrameKind::RunCommands | FrameKind::Tick { .. } => None,
+// The shell whose event comes next; 0 for a line.
+fn shell_of(next: Next) -> u8 {
+    match next {
+        Next::Line => 0,
+        Next::Turn(number) | Next::Start(number) | Next::Further(number) => number,
     }
 }

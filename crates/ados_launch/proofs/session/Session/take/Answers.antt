@@ -27,7 +27,7 @@ returns-in_err-take-clause-takes g c = rw (← c.self.view_is)
       next = found_next c.in-Some.next;
       next_is = sym c.in-Some.ensures.next;
       fails = c.take.ensures.read failed;
-      not_taken = record { world_is = c.in_err-take.ensures.err; contents_are = refl; writes_well = (refl, refl) };
+      not_taken = record { world_is = c.in_err-take.ensures.err; contents_are = c.show.ensures.contents; writes_well = (c.show.ensures.faults, c.show.ensures.stalls) };
     })
     (λ is.
     let failed : IsErrOf c.take.result NoMemory = search rules in
@@ -35,7 +35,7 @@ returns-in_err-take-clause-takes g c = rw (← c.self.view_is)
       next = found_next c.in-Some.next;
       next_is = sym c.in-Some.ensures.next;
       lacks = c.take.ensures.memory failed;
-      not_taken = record { world_is = c.in_err-take.ensures.err; contents_are = refl; writes_well = (refl, refl) };
+      not_taken = record { world_is = c.in_err-take.ensures.err; contents_are = c.show.ensures.contents; writes_well = (c.show.ensures.faults, c.show.ensures.stalls) };
     })
     (λ is. absurd (never-write _ is))
     (λ is. absurd (never-turns _ is)))
@@ -55,9 +55,9 @@ returns-in_err-write_whole-clause-takes g c =
       agrees = c.in_ok-take.ensures.agrees;
       length_written = front.0;
       cut = rw c.as_slice.ensures.value at front.1;
-      written = rw c.as_slice.ensures.value at front.2;
+      written = rw (c.as_slice.ensures.value, c.heed_ends.ensures.contents, c.show.ensures.contents) at front.2;
       reports_are = refl;
-      cause = c.in_err-write_whole.ensures.cause;
+      cause = rw (c.heed_ends.ensures.faults, c.show.ensures.faults, c.heed_ends.ensures.stalls, c.show.ensures.stalls) at c.in_err-write_whole.ensures.cause;
       reads_well = c.in_ok-take.ensures.honest;
     })
     (λ is. cc))
@@ -69,10 +69,10 @@ returns-clause-takes g c = rw (← c.self.view_is) (record {
   out = out_of c.take.new.self.draft;
   takes = c.in_ok-take.ensures.took;
   schedule_is = c.pass.ensures ∙ c.in-Some.ensures.passed;
-  written = rw c.as_slice.ensures.value at c.in_ok-write_whole.ensures.whole;
+  written = rw (c.as_slice.ensures.value, c.heed_ends.ensures.contents, c.show.ensures.contents) at c.in_ok-write_whole.ensures.whole;
   reports_are = refl;
   reads_well = c.in_ok-take.ensures.honest;
-  writes_well = c.in_ok-write_whole.ensures.honest;
+  writes_well = (rw (c.heed_ends.ensures.faults, c.show.ensures.faults) at c.in_ok-write_whole.ensures.honest.0, rw (c.heed_ends.ensures.stalls, c.show.ensures.stalls) at c.in_ok-write_whole.ensures.honest.1);
 })
 
 pub returns-in_default-clause-does : goal.returns-in_default-clause-does
@@ -87,4 +87,4 @@ returns-in_err-write_whole-clause-does g c = does-by _ _ _ _ c.from_residual-in_
 pub returns-clause-does : goal.returns-clause-does
 returns-clause-does g c =
     taken-does false c.args.world.now c.take.new.world _ _ _ _ _ _ _ _ (out_of c.take.new.self.draft) c.in_ok-take.ensures.took
-    (rw c.as_slice.ensures.value at c.in_ok-write_whole.ensures.whole)
+    (rw (c.as_slice.ensures.value, c.heed_ends.ensures.contents, c.show.ensures.contents) at c.in_ok-write_whole.ensures.whole)

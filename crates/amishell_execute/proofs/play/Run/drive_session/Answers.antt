@@ -1,7 +1,7 @@
 use Rattle.std.proofs.Common.{rules, refl, arith, ap, ◌∙◌, ◌+◌, false, [], Ok, Err}
 use Rattle.ados_launch.proofs.Deeding.{does-any, does-lines, does-none, does-then}
 use Rattle.ados_launch.proofs.Stepping.{ends-nothing, finish-by, finished-over, nothing-by, one-by, stops-by}
-use Rattle.amishell_execute.proofs.Driving.{alone-none, alone-same, alone-step, cut-by, fault-driven, told-same, undriven}
+use Rattle.amishell_execute.proofs.Driving.{alone-none, alone-same, alone-step, cut-by, fault-driven, undriven}
 use Rattle.amishell_execute.proofs.Pairs.{nothing_over}
 use Rattle.amishell_execute.proofs.play.Run.drive_session.Goals as goal
 
@@ -22,33 +22,29 @@ loop-preserved g c =
     let i = c.loop.invariant in
     let t = one-by c.attend.new.session c.take.new.self _ _ c.in_ok-take.field-0 c.if-not-branch.false c.in_ok-take.ensures.takes in
     record {
-      reader = ap (λ r. r.faults) c.tell.ensures.reader ∙ (c.in_ok-take.ensures.reads ∙ (ap (λ r. r.faults) c.attend.ensures.reader ∙ i.reader));
-      writer = c.in_ok-tell.ensures.faults ∙ (c.in_ok-take.ensures.writes ∙ i.writer);
+      reader = ap (λ r. r.faults) c.follow.ensures.reader ∙ (c.in_ok-take.ensures.reads ∙ (ap (λ r. r.faults) c.attend.ensures.reader ∙ i.reader));
+      writer = c.in_ok-take.ensures.writes ∙ i.writer;
       count = search rules;
-      agrees = rw c.tell.ensures.launcher c.in_ok-take.ensures.agrees;
-      does = does-then false _ _ _ _ _ _ (does-then false _ _ _ _ _ _ (does-then false _ _ _ _ _ _ i.does (does-lines _ _ _ c.attend.ensures.ran)) c.in_ok-take.ensures.does)
-          (does-none _ _ _ _ refl c.tell.ensures.contents);
-      children = rw c.tell.ensures.launcher c.take.ensures.children;
+      agrees = rw c.follow.ensures.launcher c.in_ok-take.ensures.agrees;
+      does = does-then false _ _ _ _ _ _ (does-then false _ _ _ _ _ _ i.does (does-lines _ _ _ c.attend.ensures.ran)) c.in_ok-take.ensures.does;
+      children = rw c.follow.ensures.launcher c.take.ensures.children;
       without_share = λ none. (c.attend.ensures.alone (i.without_share none)).0;
       alone = λ none.
           let same = c.attend.ensures.alone (i.without_share none) in
           alone-same _ _ _ (c.loop.counter + 1) c.take.new.self c.take.new.self
-          (told-same g.K.Sink.contents g.K.Sink.faults g.K.Sink.stalls c.take.new.world c.take.new.reader c.tell.new.self.reader c.take.new.writer c.tell.new.writer c.take.new.launcher c.tell.new.self.launcher
-          c.tell.ensures.reader c.tell.ensures.launcher c.tell.ensures.contents c.in_ok-tell.ensures.faults c.in_ok-tell.ensures.stalls)
-          refl
+          (rw (c.follow.ensures.launcher, c.follow.ensures.reader) refl) refl
           (alone-step _ _ _ c.loop.counter c.attend.new.session c.take.new.self
           (alone-same _ _ _ c.loop.counter c.loop.session c.attend.new.session (rw (same.1, same.3, c.attend.ensures.reader) refl) same.2 (i.alone none))
           t c.take.ensures.stays c.in_ok-take.ensures.agrees c.take.ensures.in_round c.take.ensures.few);
     }
 
-pub returns-in_err-tell-clause-does : goal.returns-in_err-tell-clause-does
-returns-in_err-tell-clause-does g c =
-    does-any _ _ _ _ _ (does-then false _ _ _ _ _ _ (does-then false _ _ _ _ _ _ (does-then false _ _ _ _ _ _ c.loop.invariant.does (does-lines _ _ _ c.attend.ensures.ran)) c.in_ok-take.ensures.does)
-    (does-none _ _ _ _ refl c.tell.ensures.contents))
+pub returns-in_err-follow-clause-does : goal.returns-in_err-follow-clause-does
+returns-in_err-follow-clause-does g c =
+    does-any _ _ _ _ _ (does-then false _ _ _ _ _ _ (does-then false _ _ _ _ _ _ c.loop.invariant.does (does-lines _ _ _ c.attend.ensures.ran)) c.in_ok-take.ensures.does)
 
-pub returns-in_err-tell-clause-drives : goal.returns-in_err-tell-clause-drives
-returns-in_err-tell-clause-drives g c none =
-    undriven c.from_residual-in_err-tell.result c.in_err-tell.field-0.0 _ c.from_residual-in_err-tell.ensures.1 c.in_err-tell.ensures.fault
+pub returns-in_err-follow-clause-drives : goal.returns-in_err-follow-clause-drives
+returns-in_err-follow-clause-drives g c none =
+    undriven c.from_residual-in_err-follow.result c.in_err-follow.field-0.0 _ c.from_residual-in_err-follow.ensures.1 c.in_err-follow.ensures.fault
 
 pub returns-in_err-attend-clause-does : goal.returns-in_err-attend-clause-does
 returns-in_err-attend-clause-does g c = does-any _ _ _ _ _ (does-then false _ _ _ _ _ _ c.loop.invariant.does (does-lines _ _ _ c.attend.ensures.ran))

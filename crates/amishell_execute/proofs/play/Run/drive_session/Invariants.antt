@@ -1,7 +1,7 @@
 use Rattle.std.proofs.Common.{◌≡◌, ◌≤◌, true, false, is_none}
 use Rattle.ados_launch.specs.Agreement.{Agrees, IsOpenTable}
 use Rattle.ados_launch.specs.Deeds.{Does}
-use Rattle.amishell_execute.specs.Playing.{contents_through, playing_moment}
+use Rattle.amishell_execute.specs.Playing.{playing_moment}
 use Rattle.amishell_execute.proofs.Driving.{DrivenAlone}
 use Rattle.amishell_execute.proofs.play.Run.drive_session.Given as goal
 
@@ -11,11 +11,11 @@ invariant-loop g l = record {
   writer : g.K.Sink.faults l.writer.inner ≡ g.K.Sink.faults l.fn.writer.inner;
   count : l.session.schedule.taken ≤ l.counter;
   agrees : Agrees l.world l.self.launcher.calls;
-  does : Does l.fn.world l.world false (contents_through g.K.Sink.contents l.fn.writer) (contents_through g.K.Sink.contents l.writer);
+  does : Does l.fn.world l.world false (g.K.Sink.contents l.fn.writer.inner) (g.K.Sink.contents l.writer.inner);
   children : IsOpenTable l.session.children l.self.launcher.calls;
   without_share : is_none l.fn.share ≡ true → is_none l.share ≡ true;
   alone : is_none l.fn.share ≡ true → DrivenAlone
-      (playing_moment g.K.Sink.contents g.K.Sink.faults g.K.Sink.stalls l.fn.world l.fn.self.reader l.fn.writer l.fn.self.launcher)
-      (playing_moment g.K.Sink.contents g.K.Sink.faults g.K.Sink.stalls l.world l.self.reader l.writer l.self.launcher)
+      (playing_moment g.K.Sink.contents g.K.Sink.faults g.K.Sink.stalls l.fn.world l.fn.self.reader l.fn.writer.inner l.fn.self.launcher)
+      (playing_moment g.K.Sink.contents g.K.Sink.faults g.K.Sink.stalls l.world l.self.reader l.writer.inner l.self.launcher)
       l.counter l.session;
 }
