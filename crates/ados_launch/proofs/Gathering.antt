@@ -1,5 +1,5 @@
 -- A drive whose output is gathered: what was printed is what the writer got and what is gathered.
-use Rattle.std.proofs.Common.{◌≡◌, ◌∙◌, ℕ, ◌+◌, ◌<◌, ◌≤◌, List, [], ◌∷◌, ◌++◌, Bool, true, false, length, take, Option, Some, None, Result, Ok, Err, arith, refl, sym, ap, subst, ◌⊎◌, inl, inr, append_assoc, append-nil, length-append}
+use Rattle.std.proofs.Common.{◌≡◌, ◌∙◌, ℕ, zero, suc, ◌+◌, ◌<◌, ◌≤◌, List, [], ◌∷◌, ◌++◌, Bool, true, false, length, take, Option, Some, None, Result, Ok, Err, arith, refl, sym, ap, subst, ◌⊎◌, inl, inr, append_assoc, append-nil, length-append}
 use Rattle.std.specs.Prelude.{IsErrAnd, OnErr, OnOk}
 use Rattle.std.proofs.KnownBytes.{Appends-nil, Appends-trans}
 use Rattle.std.proofs.Math.Seq.{take-append-add}
@@ -12,13 +12,17 @@ use Rattle.ados_launch.specs.declared.faults.DriveFault.{DriveFault}
 use Rattle.ados_launch.specs.declared.faults.DriveFault.TheVariants.{Read, Write, Turns, Memory}
 use Rattle.ados_launch.specs.declared.faults.IntakeFault.{IntakeFault}
 use Rattle.ados_launch.specs.declared.faults.IntakeFault.TheVariants.{NoMemory, Read as Unread}
+use Rattle.ados_machine.specs.World.{WorldState}
+use Rattle.ados_launch.specs.declared.schedule.Next as found
+use Rattle.ados_launch.specs.declared.schedule.Next.TheVariants.{Break as BreakFound, Due as DueFound}
 use Rattle.ados_launch.specs.Agreement.{Agrees}
+use Rattle.ados_launch.specs.Rounds.{following_place}
 use Rattle.ados_launch.specs.Drives.{HasDriveResult, ReadsWell, StopsAtWrite, WritesWell}
 use Rattle.ados_launch.specs.Faults.{drive_fault}
 use Rattle.ados_launch.specs.Gathering.{FailsToWrite, Gathers, GathersNext, GetsPart, HasGatherResult, StopsAfter, StopsBefore, WritesGathered}
 use Rattle.ados_launch.specs.Intake.{TakesNextItem}
 use Rattle.ados_launch.specs.Lines.{bytes_ahead}
-use Rattle.ados_launch.specs.Schedule.{Next, ScheduleState, scheduled_next, following_schedule_state, first_schedule_state}
+use Rattle.ados_launch.specs.Schedule.{MayCome, Next, ScheduleState, scheduled_next, following_schedule_state, first_schedule_state, passed_schedule_state}
 use Rattle.ados_launch.specs.Session.{CutSessionProgress, Moment, Session}
 use Rattle.ados_launch.specs.Steps.{SessionState, HasTakeResult}
 use Rattle.ados_launch.specs.Taken.{TakenItem, bytes_of, written_bytes}
@@ -208,6 +212,15 @@ pub refused-by : (was now : SessionState) (before after : Moment) (fault : Intak
     → (fault ≡ NoMemory → WritesGathered was now before after (Err Memory)) → HasGatherResult was now before after (Err why)
 refused-by was now before after Unread why is read memory = rw is (read refl)
 refused-by was now before after NoMemory why is read memory = rw is (memory refl)
+
+-- the place after what came
+following-low : (k : ℕ) → k < 61 → following_place k ≤ 61
+following-low zero low = omega arith
+following-low (suc k) low = omega (arith, low)
+
+pub passed-place : (s : ScheduleState) (w : WorldState) (next : found.Next) → s.round.place ≤ 61 → MayCome w next → (passed_schedule_state s next).round.place ≤ 61
+passed-place s w (BreakFound at) low may = low
+passed-place s w (DueFound due_at) low may = following-low due_at.place may.0
 
 -- a step counts what it took
 pub gathered-counted : (was now : SessionState) (before after : Moment) → GathersNext was now before after → now.schedule.taken ≡ was.schedule.taken + 1

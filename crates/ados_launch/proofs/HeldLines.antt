@@ -4,7 +4,7 @@ use Rattle.std.specs.Prelude.{if◌then◌else◌}
 use Rattle.std.specs.List.{position, position_or_len}
 use Rattle.std.proofs.lemmas.Bool.{cases_Bool}
 use Rattle.std.proofs.lemmas.Grind.{common_steps}
-use Rattle.std.proofs.lemmas.List.{take-append-le, drop-append-le, take-append-drop}
+use Rattle.std.proofs.lemmas.List.{take_all, take-append-le, drop-append-le, take-append-drop}
 use Rattle.ados_text.specs.Lines.{is_newline}
 use Rattle.ados_launch.specs.Lines.{bytes_ahead, line_of, rest_of, kind_of, kind_of_length, TakesLine}
 use Rattle.ados_launch.specs.declared.lines.LineKind.TheVariants.{Short}
@@ -41,6 +41,10 @@ held_line xs ys i e =
     let at : position_or_len is_newline xs ≡ i = grind (arith, common_steps) in
     let within : position_or_len is_newline xs < length xs = grind (arith, common_steps) in
     subst (Held xs ys) at (held_at xs ys within)
+
+-- if these are few, those at the front are all
+pub short_position : (xs : List ℕ) → length xs ≤ 512 → position is_newline xs ≡ position is_newline (take 513 xs)
+short_position xs few = ap (position is_newline) (sym (take_all 513 xs (omega (arith, few))))
 
 short_kind : (n : ℕ) → n ≤ 512 → kind_of_length n ≡ Short
 short_kind n h = grind (arith, common_steps)

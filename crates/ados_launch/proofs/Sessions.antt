@@ -31,7 +31,7 @@ pub record Driven (before now : Moment) (breaks : List BreakAt) (n : ℕ) (sched
   pub written : Appends before.contents now.contents (written_bytes taken)
   pub calls_are : now.calls ≡ before.calls ++ listed
 
-pub driven-none : (before : Moment) (breaks : List BreakAt) (schedule : ScheduleState) (rest : Option (List ℕ)) → rest ≡ before.left → schedule ≡ first_schedule_state breaks → Agrees before.world before.calls
+abbrev pub driven-none : (before : Moment) (breaks : List BreakAt) (schedule : ScheduleState) (rest : Option (List ℕ)) → rest ≡ before.left → schedule ≡ first_schedule_state breaks → Agrees before.world before.calls
     → Driven before before breaks 0 schedule rest
 driven-none before breaks schedule rest same begins agrees = record {
   taken = [];
@@ -48,7 +48,7 @@ pub calls-more : (calls mid now listed more : List Call) → mid ≡ calls ++ li
 calls-more calls mid now listed more e f = f ∙ (ap (λ xs. xs ++ more) e ∙ append_assoc calls listed more)
 
 -- one more was taken
-session-more : (before mid now : Moment) (breaks : List BreakAt) (n : ℕ) (schedule : ScheduleState) (rest later : Option (List ℕ)) (next : Next) (out : Out)
+pub session-more : (before mid now : Moment) (breaks : List BreakAt) (n : ℕ) (schedule : ScheduleState) (rest later : Option (List ℕ)) (next : Next) (out : Out)
     → (d : Driven before mid breaks n schedule rest) → scheduled_next schedule mid.world ≡ Some next → (mid.is_full ≡ true → now.is_full ≡ true)
     → (t : TakesNextItem mid.world rest now.is_full mid.calls next now.world later now.calls out) → Agrees now.world now.calls
     → Session before.world before.left breaks before.calls now.is_full (d.listed ++ t.listed) (d.taken ++ t.item ∷ []) now.world

@@ -54,7 +54,7 @@ impl Intake {
     }
 
     // What comes next may wait: it is a call of the launcher, or a line that was not read ahead whole.
-    pub fn may_wait(&self, next: Next) -> bool
+    fn may_wait(&self, next: Next) -> bool
         ensures { result ≡ not (comes_at_once self.now.held (found_next next)) }
     {
         match next {
@@ -62,6 +62,13 @@ impl Intake {
             Next::Due(found) if found.place == 0 => !has_short_line(&self.held),
             Next::Due(found) => found.place > 20,
         }
+    }
+
+    // What was gathered is to be written before this comes: it may wait, or the writer tells of it.
+    pub fn is_due_before(&self, next: Next, tells: bool) -> bool
+        ensures { result ≡ false → comes_at_once self.now.held (found_next next) ≡ true }
+    {
+        tells || self.may_wait(next)
     }
 
     // Takes what comes next: a break, the next line, the turn of a shell, or a launcher's answer. The draft holds then what is

@@ -101,12 +101,17 @@ pub fn has_short_line(held: &ReadAhead) -> bool
 }
 
 // The length of the short line with which the bytes read ahead begin, if the byte 10 after it was read too.
+#[tactic(auto, using(crate::proofs::HeldLines::short_position))]
 fn short_line_length(held: &ReadAhead) -> Option<usize>
     ensures value { result ≡ position is_newline (take 513 held.now) }
-    ensures within { IfSome result (λ place. place < length (take 513 held.now)) }
+    ensures within { IfSome result (λ place. place < length held.now) }
+    ensures short { IfSome result (λ place. place ≤ 512) }
 {
     let bytes = held.bytes();
-    newline_at(&bytes[..bytes.len().min(LINE_BYTES + 1)])
+    if bytes.len() > LINE_BYTES {
+        return newline_at(&bytes[..LINE_BYTES + 1]);
+    }
+    newline_at(bytes)
 }
 
 // The place of the first byte 10.

@@ -180,7 +180,7 @@ impl<'a> Session<'a> {
             self.gathered.release(writer)?;
             return Ok(false);
         };
-        let is_due = self.intake.may_wait(next) || writer.tells();
+        let is_due = self.intake.is_due_before(next, writer.tells());
         self.gathered.release_if(writer, is_due)?;
         show(writer, world, next);
         if let Err(fault) = self.intake.take(world, launcher, reader, next) {
