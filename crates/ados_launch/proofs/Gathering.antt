@@ -76,9 +76,11 @@ part-later contents mid contents_now was now g part =
 
 -- first one, and then the other
 pub gathers-both : (contents mid contents_now : Option (List ℕ)) (was later now bytes : List ℕ) → Gathers was later contents mid [] → Gathers later now mid contents_now bytes → Gathers was now contents contents_now bytes
-gathers-both contents mid contents_now was later now bytes f g =
-    (f.0 ++ g.0, Appends-trans contents mid contents_now f.0 g.0 f.1 g.1,
-    ap (λ xs. xs ++ bytes) (sym (append-nil was) ∙ f.2) ∙ (append_assoc f.0 later bytes ∙ (ap (λ xs. f.0 ++ xs) g.2 ∙ sym (append_assoc f.0 g.0 now))))
+gathers-both contents mid contents_now was later now bytes f g = (
+  f.0 ++ g.0,
+  Appends-trans contents mid contents_now f.0 g.0 f.1 g.1,
+  ap (λ xs. xs ++ bytes) (sym (append-nil was) ∙ f.2) ∙ (append_assoc f.0 later bytes ∙ (ap (λ xs. f.0 ++ xs) g.2 ∙ sym (append_assoc f.0 g.0 now))),
+)
 
 -- it was not due, since something is left
 pub undue : (contents contents_now : Option (List ℕ)) (was : List ℕ) (is_due : Bool) → (is_due ≡ true → was ≡ []) → GetsPart contents contents_now was → is_due ≡ false

@@ -18,10 +18,10 @@ use crate::alone::{SystemEnd, SystemFault};
 use crate::children::{children_after_line, wait_for_open};
 use crate::driver::End;
 use crate::events::shell_answered;
-use crate::faults::DriveFault;
+use crate::faults::{DriveFault, why_stopped};
+use crate::gathered::Gathered;
 use crate::intake::Intake;
 use crate::next::Next;
-use crate::gathered::Gathered;
 use crate::schedule::{self, Schedule};
 use crate::written::{WriteFault, write_whole};
 use crate::{Sink, Source};
@@ -185,7 +185,7 @@ impl<'a> Session<'a> {
         show(writer, world, next);
         if let Err(fault) = self.intake.take(world, launcher, reader, next) {
             self.gathered.release(writer)?;
-            return Err(fault.into());
+            return Err(why_stopped(fault));
         }
         writer.heed_ends(self.intake.draft.reports.as_slice());
         self.gathered

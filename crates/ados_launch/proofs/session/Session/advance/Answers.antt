@@ -1,6 +1,5 @@
-use Rattle.std.proofs.Common.{◌≡◌, ◌∙◌, IsErrOf, ap, inl, inr, refl, rules, sym}
+use Rattle.std.proofs.Common.{◌∙◌, IsErrOf, ap, inl, inr, length, refl, rules, sym}
 use Rattle.ados_shell.specs.Drafts.{out_of}
-use Rattle.ados_launch.specs.Faults.{drive_fault}
 use Rattle.ados_launch.specs.Schedule.{found_next}
 use Rattle.ados_launch.specs.declared.faults.IntakeFault.TheVariants.{NoMemory, Read as Unread}
 use Rattle.ados_launch.proofs.Gathering.{appends-rest, gathers-both, part-later, part-rest, passed-place, refused-by, stops-when, undue}
@@ -23,7 +22,7 @@ returns-in_default-clause-takes g c = rw (← c.self.view_is) (record {
 pub returns-in_err-release-2-clause-takes : goal.returns-in_err-release-2-clause-takes
 returns-in_err-release-2-clause-takes g c =
     let part = rw c.show.ensures.contents at c.in_err-release-2.ensures.part in
-    let at = c.take.ensures.at_once (c.is_due_before.ensures (undue _ _ _ _ c.release_if.ensures.due part)) in
+    let at = c.take.ensures.at_once (c.is_due_before-is_due.ensures (undue _ _ _ _ c.release_if.ensures.due part)) in
     rw (← c.self.view_is)
     (stops-when _ _ _ _ c.from_residual-in_err-release-2.result _ c.from_residual-in_err-release-2.ensures.1
     (λ is. cc)
@@ -39,12 +38,11 @@ returns-in_err-release-2-clause-takes g c =
 
 pub returns-in-Err-clause-takes : goal.returns-in-Err-clause-takes
 returns-in-Err-clause-takes g c =
-    let why : c.into.result ≡ drive_fault c.in-Err.fault = search rules in
     let written = appends-rest _ _ _ _ _ c.in_ok-release_if.ensures.gathers (rw c.show.ensures.contents at c.in_ok-release-2.ensures.written) in
     let faults = c.in_ok-release-2.ensures.honest.0 ∙ (c.show.ensures.faults ∙ c.in_ok-release_if.ensures.honest.0) in
     let stalls = c.in_ok-release-2.ensures.honest.1 ∙ (c.show.ensures.stalls ∙ c.in_ok-release_if.ensures.honest.1) in
     rw (← c.self.view_is)
-    (refused-by _ _ _ _ c.in-Err.fault _ why
+    (refused-by _ _ _ _ c.in-Err.fault _ c.why_stopped.ensures
     (λ is.
     let failed : IsErrOf c.take.result Unread = search rules in
     record {
@@ -101,8 +99,10 @@ returns-clause-takes g c = rw (← c.self.view_is) (record {
   schedule_is = c.pass.ensures ∙ c.in-Some.ensures.passed;
   gathers = gathers-both _ _ _ _ _ _ _ c.in_ok-release_if.ensures.gathers (rw (c.as_slice-2.ensures.value, c.heed_ends.ensures.contents, c.show.ensures.contents) at c.in_ok-add.ensures.gathers);
   reads_well = c.in_default-take.ensures.honest;
-  writes_well = (c.in_ok-add.ensures.honest.0 ∙ (c.heed_ends.ensures.faults ∙ (c.show.ensures.faults ∙ c.in_ok-release_if.ensures.honest.0)),
-  c.in_ok-add.ensures.honest.1 ∙ (c.heed_ends.ensures.stalls ∙ (c.show.ensures.stalls ∙ c.in_ok-release_if.ensures.honest.1)));
+  writes_well = (
+    c.in_ok-add.ensures.honest.0 ∙ (c.heed_ends.ensures.faults ∙ (c.show.ensures.faults ∙ c.in_ok-release_if.ensures.honest.0)),
+    c.in_ok-add.ensures.honest.1 ∙ (c.heed_ends.ensures.stalls ∙ (c.show.ensures.stalls ∙ c.in_ok-release_if.ensures.honest.1)),
+  );
 })
 
 pub returns-clause-in_round : goal.returns-clause-in_round
