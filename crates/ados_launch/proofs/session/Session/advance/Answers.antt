@@ -1,5 +1,6 @@
-use Rattle.std.proofs.Common.{◌∙◌, IsErrOf, ap, inl, inr, length, refl, rules, sym}
+use Rattle.std.proofs.Common.{◌∙◌, Err, IsErrOf, ap, inl, inr, length, refl, rules, subst, sym}
 use Rattle.ados_shell.specs.Drafts.{out_of}
+use Rattle.ados_launch.specs.Gathering.{HasGatherResult}
 use Rattle.ados_launch.specs.Schedule.{found_next}
 use Rattle.ados_launch.specs.declared.faults.IntakeFault.TheVariants.{NoMemory, Read as Unread}
 use Rattle.ados_launch.proofs.Gathering.{appends-rest, gathers-both, part-later, part-rest, passed-place, refused-by, stops-when, undue}
@@ -41,7 +42,7 @@ returns-in-Err-clause-takes g c =
     let written = appends-rest _ _ _ _ _ c.in_ok-release_if.ensures.gathers (rw c.show.ensures.contents at c.in_ok-release-2.ensures.written) in
     let faults = c.in_ok-release-2.ensures.honest.0 ∙ (c.show.ensures.faults ∙ c.in_ok-release_if.ensures.honest.0) in
     let stalls = c.in_ok-release-2.ensures.honest.1 ∙ (c.show.ensures.stalls ∙ c.in_ok-release_if.ensures.honest.1) in
-    rw (← c.self.view_is)
+    subst (λ was. HasGatherResult was _ _ _ (Err c.why_stopped.result)) c.self.view_is
     (refused-by _ _ _ _ c.in-Err.fault _ c.why_stopped.ensures
     (λ is.
     let failed : IsErrOf c.take.result Unread = search rules in
