@@ -2,6 +2,8 @@ use Rattle.std.proofs.Common.{◌∙◌, Err, IsErrOf, ap, inl, inr, length, ref
 use Rattle.ados_shell.specs.Drafts.{out_of}
 use Rattle.ados_launch.specs.Gathering.{HasGatherResult}
 use Rattle.ados_launch.specs.Schedule.{found_next}
+use Rattle.ados_launch.specs.Session.{Moment, moment_of}
+use Rattle.ados_launch.specs.Steps.{SessionState}
 use Rattle.ados_launch.specs.declared.faults.IntakeFault.TheVariants.{NoMemory, Read as Unread}
 use Rattle.ados_launch.proofs.Gathering.{appends-rest, gathers-both, part-later, part-rest, passed-place, refused-by, stops-when, undue}
 use Rattle.ados_launch.proofs.session.Session.advance.Goals as goal
@@ -42,8 +44,17 @@ returns-in-Err-clause-takes g c =
     let written = appends-rest _ _ _ _ _ c.in_ok-release_if.ensures.gathers (rw c.show.ensures.contents at c.in_ok-release-2.ensures.written) in
     let faults = c.in_ok-release-2.ensures.honest.0 ∙ (c.show.ensures.faults ∙ c.in_ok-release_if.ensures.honest.0) in
     let stalls = c.in_ok-release-2.ensures.honest.1 ∙ (c.show.ensures.stalls ∙ c.in_ok-release_if.ensures.honest.1) in
-    subst (λ was. HasGatherResult was _ _ _ (Err c.why_stopped.result)) c.self.view_is
-    (refused-by _ _ _ _ c.in-Err.fault _ c.why_stopped.ensures
+    let now : SessionState = record {
+      schedule = c.next.new.self;
+      held = c.take.new.self.held;
+      children = c.take.new.self.children;
+      reports = c.take.new.self.draft.reports.items;
+      gathered = c.release-in-Err.new.self;
+    } in
+    let before : Moment = moment_of g.S.Source.left g.S.Source.faults g.K.Sink.contents g.K.Sink.faults g.K.Sink.stalls g.L.Launcher.calls g.L.Launcher.is_full c.args.world.now c.args.reader.now c.args.writer.now c.args.launcher.now in
+    let after : Moment = moment_of g.S.Source.left g.S.Source.faults g.K.Sink.contents g.K.Sink.faults g.K.Sink.stalls g.L.Launcher.calls g.L.Launcher.is_full c.take.new.world c.take.new.reader c.release-in-Err.new.writer c.take.new.launcher in
+    subst (λ was. HasGatherResult was now before after (Err c.why_stopped.result)) c.self.view_is
+    (refused-by _ now before after c.in-Err.fault _ c.why_stopped.ensures
     (λ is.
     let failed : IsErrOf c.take.result Unread = search rules in
     record {
