@@ -1,10 +1,10 @@
 -- A line that was read ahead whole.
 use Rattle.std.proofs.Common.{◌≡◌, ℕ, suc, ◌+◌, ◌≤◌, ◌<◌, List, [], ◌∷◌, ◌++◌, length, take, drop, Option, Some, None, arith, ap, sym, ◌∙◌, append_assoc, length-append, length-take, inl, inr, subst, cond, not}
-use Rattle.std.specs.Prelude.{if◌then◌else◌}
+use Rattle.std.specs.Prelude.{if◌then◌else◌, IfSome}
 use Rattle.std.specs.List.{position, position_or_len}
 use Rattle.std.proofs.lemmas.Bool.{cases_Bool}
 use Rattle.std.proofs.lemmas.Grind.{common_steps}
-use Rattle.std.proofs.lemmas.List.{take-append-le, drop-append-le, take-append-drop}
+use Rattle.std.proofs.lemmas.List.{take_all, take-append-le, drop-append-le, take-append-drop}
 use Rattle.ados_text.specs.Lines.{is_newline}
 use Rattle.ados_launch.specs.Lines.{bytes_ahead, line_of, rest_of, kind_of, kind_of_length, TakesLine}
 use Rattle.ados_launch.specs.declared.lines.LineKind.TheVariants.{Short}
@@ -41,6 +41,19 @@ held_line xs ys i e =
     let at : position_or_len is_newline xs ≡ i = grind (arith, common_steps) in
     let within : position_or_len is_newline xs < length xs = grind (arith, common_steps) in
     subst (Held xs ys) at (held_at xs ys within)
+
+-- if these are few, those at the front are all
+pub short_position : (xs : List ℕ) → length xs ≤ 512 → position is_newline xs ≡ position is_newline (take 513 xs)
+short_position xs few = ap (position is_newline) (sym (take_all 513 xs (omega (arith, few))))
+
+-- what is at the front of these is in them, and among the first 513
+pub front_within : (xs held : List ℕ) (found : Option ℕ) → xs ≡ held → IfSome found (λ k. k < length (take 513 xs)) → IfSome found (λ k. k < length held)
+front_within xs held None same within = within
+front_within xs held (Some k) same within = rw (← same) (omega (arith, length-take 513 xs, within))
+
+pub front_short : (xs : List ℕ) (found : Option ℕ) → IfSome found (λ k. k < length (take 513 xs)) → IfSome found (λ k. k ≤ 512)
+front_short xs None within = within
+front_short xs (Some k) within = omega (arith, length-take 513 xs, within)
 
 short_kind : (n : ℕ) → n ≤ 512 → kind_of_length n ≡ Short
 short_kind n h = grind (arith, common_steps)

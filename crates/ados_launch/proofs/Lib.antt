@@ -26,4 +26,5 @@ pub mod Deeding
 pub mod DeedsAlone
 pub mod DeedsTaken
 pub mod Stepping
+pub mod Gathering
 pub mod LinesOver

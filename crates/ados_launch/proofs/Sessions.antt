@@ -1,5 +1,5 @@
 -- How far a session has got.
-use Rattle.std.proofs.Common.{◌≡◌, ℕ, ◌+◌, ◌<◌, ◌≤◌, List, [], ◌∷◌, ◌++◌, Bool, true, length, take, Option, Some, Result, Ok, Err, arith, refl, ap, sym, subst, ◌∙◌, ◌⊎◌, inl, inr, append_assoc, append-nil}
+use Rattle.std.proofs.Common.{◌≡◌, ℕ, ◌+◌, ◌<◌, ◌≤◌, List, [], ◌∷◌, ◌++◌, Bool, true, length, take, Option, Some, Result, Ok, Err, arith, refl, ap, sym, subst, ◌∙◌, ◌⊎◌, inl, inr, append_assoc, append-nil, length-append}
 use Rattle.std.proofs.KnownBytes.{Appends-nil, Appends-trans}
 use Rattle.std.proofs.Math.Seq.{take-append-add}
 use Rattle.std.proofs.lemmas.List.{take_all}
@@ -31,7 +31,7 @@ pub record Driven (before now : Moment) (breaks : List BreakAt) (n : ℕ) (sched
   pub written : Appends before.contents now.contents (written_bytes taken)
   pub calls_are : now.calls ≡ before.calls ++ listed
 
-pub driven-none : (before : Moment) (breaks : List BreakAt) (schedule : ScheduleState) (rest : Option (List ℕ)) → rest ≡ before.left → schedule ≡ first_schedule_state breaks → Agrees before.world before.calls
+abbrev pub driven-none : (before : Moment) (breaks : List BreakAt) (schedule : ScheduleState) (rest : Option (List ℕ)) → rest ≡ before.left → schedule ≡ first_schedule_state breaks → Agrees before.world before.calls
     → Driven before before breaks 0 schedule rest
 driven-none before breaks schedule rest same begins agrees = record {
   taken = [];
@@ -48,7 +48,7 @@ pub calls-more : (calls mid now listed more : List Call) → mid ≡ calls ++ li
 calls-more calls mid now listed more e f = f ∙ (ap (λ xs. xs ++ more) e ∙ append_assoc calls listed more)
 
 -- one more was taken
-session-more : (before mid now : Moment) (breaks : List BreakAt) (n : ℕ) (schedule : ScheduleState) (rest later : Option (List ℕ)) (next : Next) (out : Out)
+pub session-more : (before mid now : Moment) (breaks : List BreakAt) (n : ℕ) (schedule : ScheduleState) (rest later : Option (List ℕ)) (next : Next) (out : Out)
     → (d : Driven before mid breaks n schedule rest) → scheduled_next schedule mid.world ≡ Some next → (mid.is_full ≡ true → now.is_full ≡ true)
     → (t : TakesNextItem mid.world rest now.is_full mid.calls next now.world later now.calls out) → Agrees now.world now.calls
     → Session before.world before.left breaks before.calls now.is_full (d.listed ++ t.listed) (d.taken ++ t.item ∷ []) now.world
@@ -63,7 +63,7 @@ session-more before mid now breaks n schedule rest later next out d here stays t
       (subst (λ world. Agrees world now.calls) t.takes.world_is agrees);
 }
 
-pub driven-more : (before mid now : Moment) (breaks : List BreakAt) (n : ℕ) (schedule after : ScheduleState) (rest later : Option (List ℕ)) (next : Next) (out : Out)
+abbrev pub driven-more : (before mid now : Moment) (breaks : List BreakAt) (n : ℕ) (schedule after : ScheduleState) (rest later : Option (List ℕ)) (next : Next) (out : Out)
     → Driven before mid breaks n schedule rest → scheduled_next schedule mid.world ≡ Some next → (mid.is_full ≡ true → now.is_full ≡ true)
     → TakesNextItem mid.world rest now.is_full mid.calls next now.world later now.calls out → Agrees now.world now.calls → Appends mid.contents now.contents out.bytes → after ≡ following_schedule_state schedule mid.world next
     → Driven before now breaks (n + 1) after later
@@ -85,14 +85,13 @@ pub driven-cut : (before mid now : Moment) (breaks : List BreakAt) (n m : ℕ) (
     → TakesNextItem mid.world rest now.is_full mid.calls next now.world later now.calls out → Agrees now.world now.calls → m < length out.bytes → Appends mid.contents now.contents (take m out.bytes)
     → CutSessionProgress before now breaks (n + 1)
 driven-cut before mid now breaks n m schedule rest later next out d here stays t agrees some front = record {
-  taken = d.taken;
-  item = t.item;
+  taken = d.taken ++ t.item ∷ [];
   listed = d.listed ++ t.listed;
-  count_is = ap (λ i. i + 1) d.count_is;
+  count_is = count-more d.taken t.item ∙ ap (λ i. i + 1) d.count_is;
   session = session-more before mid now breaks n schedule rest later next out d here stays t agrees;
-  length_written = m;
-  cut = rw t.takes.out_is at some;
-  written = Appends-trans before.contents mid.contents now.contents (written_bytes d.taken) (take m (bytes_of t.item)) d.written (rw t.takes.out_is at front);
+  length_written = length (written_bytes d.taken) + m;
+  cut = rw (written-more, length-append) (let less = rw t.takes.out_is at some in omega (arith, less));
+  written = rw (written-more, take-append-add) (Appends-trans before.contents mid.contents now.contents (written_bytes d.taken) (take m (bytes_of t.item)) d.written (rw t.takes.out_is at front));
   calls_are = calls-more before.calls mid.calls now.calls d.listed t.listed d.calls_are t.calls_are;
 }
 
@@ -159,15 +158,15 @@ whole-session turns n before now breaks dropped within s one = record {
 
 cut-session : (turns n : ℕ) (before now : Moment) (breaks : List BreakAt) → n ≤ turns → CutSessionProgress before now breaks n → TakesSession turns breaks before now
 cut-session turns n before now breaks within s = record {
-  taken = s.taken ++ s.item ∷ [];
+  taken = s.taken;
   listed = s.listed;
   dropped = [];
-  within = omega (arith, s.count_is, count-more s.taken s.item, within);
+  within = omega (arith, s.count_is, within);
   session = s.session;
   dropped_is = tt;
   calls_are = s.calls_are ∙ ap (λ xs. before.calls ++ xs) (sym (append-nil s.listed));
-  length_written = length (written_bytes s.taken) + s.length_written;
-  written = rw (written-more, take-append-add) s.written;
+  length_written = s.length_written;
+  written = s.written;
 }
 
 pub takes-session : (turns : ℕ) (breaks : List BreakAt) (before now : Moment) (result : Result End DriveFault) → HasDriveResult turns breaks before now result → TakesSession turns breaks before now

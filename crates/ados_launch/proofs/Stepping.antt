@@ -70,7 +70,7 @@ pub finished-over : (was : SessionState) (w : WorldState) (calls : List Call) �
 finished-over was w calls agrees size none = calls-over w calls agrees (over w size (idle was.schedule.round w (due-none (due_place was.schedule.round w) true (sym none) refl)))
 
 -- a step counts what it took
-following-taken : (s : ScheduleState) (w : WorldState) (next : Next) → (following_schedule_state s w next).taken ≡ s.taken + 1
+pub following-taken : (s : ScheduleState) (w : WorldState) (next : Next) → (following_schedule_state s w next).taken ≡ s.taken + 1
 following-taken s w (AtBreak shell kind) = refl
 following-taken s w AtLine = refl
 following-taken s w (AtTurn shell) = refl

@@ -74,7 +74,7 @@ pub record StopsAtRead (turns : ℕ) (breaks : List BreakAt) (before now : Momen
       ⊎ (ReadsWell before now × IfKnown before.left (λ bytes. LeavesOverlong (rest_after_items bytes stands.taken) now.left))
   pub writes_well : WritesWell before now
 
--- All bytes were written except some of the last one's, at which a write failed or wrote nothing.
+-- A prefix of what was printed was written, and not all: a write failed or wrote nothing.
 pub record StopsAtWrite (turns : ℕ) (breaks : List BreakAt) (before now : Moment) : Type 0 where
   pub n : ℕ
   pub within : n ≤ turns

@@ -1,12 +1,12 @@
 -- What taking one event gives.
-use Rattle.std.specs.Prelude.{◌≡◌, ◌++◌, ℕ, List, Bool, true, Option, Some}
+use Rattle.std.specs.Prelude.{◌≡◌, ◌++◌, ℕ, List, Bool, true, false, Option, Some}
 use Rattle.ados_machine.specs.declared.outs.Out.{Out}
 use Rattle.ados_machine.specs.World.{WorldState}
 use Rattle.ados_launcher.specs.declared.calls.Call.{Call}
 use Rattle.ados_launch.specs.Asked.{AreNoStarts, IsAsked}
-use Rattle.ados_launch.specs.Lines.{IfKnown, IsUnreadable}
+use Rattle.ados_launch.specs.Lines.{IfKnown, IsUnreadable, has_short_line}
 use Rattle.ados_launch.specs.NoFurther.{TakesPartAt}
-use Rattle.ados_launch.specs.Schedule.{AtLine, Next, next_of}
+use Rattle.ados_launch.specs.Schedule.{AtBreak, AtFurther, AtLine, AtStart, AtTurn, Next, next_of}
 use Rattle.ados_launch.specs.Session.{AreDropped}
 use Rattle.ados_launch.specs.Taken.{TakenItem, output_of, rest_after_item, world_after_item, IsAccepted, IsNext, IsOfReader}
 
@@ -16,6 +16,14 @@ pub record Takes (w : WorldState) (left : Option (List ℕ)) (item : TakenItem) 
   pub world_is : now ≡ world_after_item w item
   pub lines : IfKnown left (λ known. IsNext known item × (rest ≡ Some (rest_after_item known item)))
   pub out_is : out ≡ output_of item
+
+-- it comes without a wait: a break, a turn, or a line that was read ahead whole
+abbrev pub comes_at_once : List ℕ → Next → Bool
+comes_at_once held (AtBreak shell kind) = true
+comes_at_once held AtLine = has_short_line held
+comes_at_once held (AtTurn shell) = true
+comes_at_once held (AtStart shell) = false
+comes_at_once held (AtFurther shell) = false
 
 -- A line was taken, or the end of the input.
 abbrev pub TakesLineOrEnd : WorldState → Option (List ℕ) → WorldState → Option (List ℕ) → Out → Type 0

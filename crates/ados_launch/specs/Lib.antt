@@ -4,6 +4,7 @@ pub mod Asked
 pub mod Deeds
 pub mod Drives
 pub mod Faults
+pub mod Gathering
 pub mod Intake
 pub mod Laws
 pub mod Leads

@@ -1,5 +1,5 @@
 -- The lines of an input.
-use Rattle.std.specs.Prelude.{◌≡◌, ◌⊎◌, ℕ, Option, Some, List, [], ◌∷◌, ◌+◌, drop, length, nat_le, if◌then◌else◌}
+use Rattle.std.specs.Prelude.{◌≡◌, ◌⊎◌, ℕ, Bool, Option, Some, is_some, List, [], ◌∷◌, ◌+◌, drop, take, length, position, nat_le, if◌then◌else◌}
 use Rattle.std.specs.Io.KnownBytes.{prepend_known}
 use Rattle.ados_text.specs.Lines.{is_newline}
 use Rattle.ados_line.specs.Cut.{line_limit}
@@ -28,6 +28,10 @@ kind_of_length n = if nat_le n line_limit then Short else if nat_le n input_limi
 abbrev pub kind_of : List ℕ → LineKind
 kind_of [] = End
 kind_of (byte ∷ bytes) = kind_of_length (length (line_of (byte ∷ bytes)))
+
+-- a line of at most 512 bytes is here whole, with the byte 10 after it
+abbrev pub has_short_line : List ℕ → Bool
+has_short_line bytes = is_some (position is_newline (take (line_limit + 1) bytes))
 
 -- what is left after the bytes that show that a line is overlong
 abbrev pub rest_after_overlong : List ℕ → List ℕ

@@ -89,16 +89,15 @@ pub record SessionProgress (before now : Moment) (breaks : List BreakAt) (n : �
   pub written : Appends before.contents now.contents (written_bytes taken)
   pub calls_are : now.calls ≡ before.calls ++ (listed ++ others)
 
--- This many were taken, and some bytes of the last one were not written.
+-- This many were taken, and of what they printed the last bytes were not written.
 pub record CutSessionProgress (before now : Moment) (breaks : List BreakAt) (n : ℕ) : Type 0 where
   pub taken : List TakenItem
-  pub item : TakenItem
   pub listed : List Call
-  pub count_is : length taken + 1 ≡ n
-  pub session : Session before.world before.left breaks before.calls now.is_full listed (taken ++ item ∷ []) now.world
+  pub count_is : length taken ≡ n
+  pub session : Session before.world before.left breaks before.calls now.is_full listed taken now.world
   pub length_written : ℕ
-  pub cut : length_written < length (bytes_of item)
-  pub written : Appends before.contents now.contents (written_bytes taken ++ take length_written (bytes_of item))
+  pub cut : length_written < length (written_bytes taken)
+  pub written : Appends before.contents now.contents (take length_written (written_bytes taken))
   pub calls_are : now.calls ≡ before.calls ++ listed
 
 -- of what is left to read, fewer than 4,096 bytes were taken from the reader

@@ -17,13 +17,14 @@ use Rattle.ados_launch.specs.Schedule.{Next, AtBreak, AtLine, AtTurn, AtStart, A
 use Rattle.ados_launch.specs.Session.{Moment}
 
 -- the state of a session: its schedule, the bytes that were read ahead, which children are open, by number, the scripts that
--- ended at the last event, and what the last turn renamed, until it is taken
+-- ended at the last event, what the last turn renamed, until it is taken, and the bytes that are gathered for the writer
 pub record SessionState : Type 0 where
   pub schedule : ScheduleState
   pub held : List ℕ
   pub children : List Bool
   pub reports : List EndReport
   pub renamed : Option Renamed
+  pub gathered : List ℕ
 
 -- what the next event asks of the launcher
 abbrev pub next_request : WorldState → Option Next → Option Request

@@ -56,6 +56,11 @@ pub trait Sink {
         ensures stalls { stalls self.new ≡ stalls self.old }
     {}
 
+    /// What is shown to the writer it tells elsewhere, where it has to come after what was printed before it.
+    fn tells(&self) -> bool {
+        false
+    }
+
     /// Shows the writer the scripts that ended at the event that was taken, before what it printed is written.
     fn heed_ends(&mut self, _ends: &[EndReport])
         ensures contents { contents self.new ≡ contents self.old }

@@ -64,8 +64,9 @@ impl Drive<'_> {
     /// in place of each byte above ASCII; at the reader's end the input ends. Then each shell from 1 to
     /// 20 takes a turn if it is ready when its place comes. Then the launcher is called for each start that a shell requests,
     /// in ascending order of the shells' numbers, and then for each read and each wait that is requested by a shell to which it
-    /// has not replied in this round; each reply is an event. What an event prints is written before the next event. Instead of a
-    /// line of 513 to 65,536 bytes, which is not an event but counts as one, `Line too long` and a newline are written. The run
+    /// has not replied in this round; each reply is an event. What events print is gathered, and written before anything that may wait (a
+    /// read, where no whole line was read ahead, or a call of the launcher), at every end, and at 4,000 bytes or 1,000 events. Instead
+    /// of a line of 513 to 65,536 bytes, which is not an event but counts as one, `Line too long` and a newline are printed. The run
     /// ends if no shell is left.
     ///
     /// Before each event or long line, and before its line is read or the launcher is called for it, breaks come: as long as
@@ -75,7 +76,7 @@ impl Drive<'_> {
     ///
     /// At most `turns` events and long lines are taken, and for another one no line is read and the
     /// launcher is not called. At a fault the world has taken the events that it accepted, and what they print is written,
-    /// except for what a `Write` fault kept back; a line that was read and not accepted is lost, and so is a reply. Then each
+    /// or at `Write` a prefix of it; a line that was read and not accepted is lost, and so is a reply. Then each
     /// child process that is open is waited for once, in ascending order of its shell's number.
     ///
     /// `Read`: the reader failed, or a line has more than
@@ -131,6 +132,7 @@ impl Drive<'_> {
         requires agrees { Agrees world.old (L.calls launcher.old) }
         requires begins { session.old.schedule ≡ first_schedule_state self.now.breaks.now }
         requires held { session.old.held ≡ [] }
+        requires gathered { session.old.gathered ≡ [] }
         requires children { IsOpenTable session.old.children (L.calls launcher.old) }
         // The open children are those of the calls, none of which is out of place.
         ensures children { IsOpenTable session.new.children (L.calls launcher.new) }
@@ -142,10 +144,11 @@ impl Drive<'_> {
         ensures untouched { self.now.turns ≡ 0 → (reader.new ≡ reader.old) × (writer.new ≡ writer.old) }
     {
         for _ in 0..self.turns {
-            if !session.take(world, launcher, reader, writer)? {
+            if !session.advance(world, launcher, reader, writer)? {
                 return Ok(session.end(world));
             }
         }
+        session.release(writer)?;
         session.finish(world)
     }
 }

@@ -37,14 +37,21 @@ pub enum IntakeFault {
     NoMemory,
 }
 
+/// Why a run stops if the next event was not taken.
+pub fn why_stopped(fault: IntakeFault) -> DriveFault
+    ensures { result ≡ drive_fault fault }
+{
+    match fault {
+        IntakeFault::Read => DriveFault::Read,
+        IntakeFault::NoMemory => DriveFault::Memory,
+    }
+}
+
 impl From<IntakeFault> for DriveFault {
     ghost from_gives = { λ fault why. why ≡ drive_fault fault };
 
     fn from(fault: IntakeFault) -> DriveFault {
-        match fault {
-            IntakeFault::Read => DriveFault::Read,
-            IntakeFault::NoMemory => DriveFault::Memory,
-        }
+        why_stopped(fault)
     }
 }
 

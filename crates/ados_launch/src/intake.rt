@@ -1,11 +1,11 @@
 // What the events of a run share, and how each is taken.
-ghost use Rattle.std.specs.Prelude.{◌≡◌, ◌<◌, ◌^◌, ◌-◌, ℕ, [], true, false, get_or, length, OnOk, OnErr, IsErrOf};
+ghost use Rattle.std.specs.Prelude.{◌≡◌, ◌<◌, ◌^◌, ◌-◌, ℕ, [], true, false, not, get_or, length, OnOk, OnErr, IsErrOf};
 ghost use Rattle.ados_machine.specs.Limits.{IsSane};
 ghost use Rattle.ados_machine.specs.World.{pending_of, wants_line};
 ghost use Rattle.ados_shell.specs.Drafts.{out_of};
 ghost use Rattle.ados_launch.specs.Agreement.{Agrees, IsOpenTable};
-ghost use Rattle.ados_launch.specs.Intake.{FailsToRead, LacksMemory, TakesLineOrEnd, TakesNextItem};
-ghost use Rattle.ados_launch.specs.Lines.{bytes_ahead, IsUnreadable, IfKnown};
+ghost use Rattle.ados_launch.specs.Intake.{comes_at_once, FailsToRead, LacksMemory, TakesLineOrEnd, TakesNextItem};
+ghost use Rattle.ados_launch.specs.Lines.{bytes_ahead, has_short_line, IsUnreadable, IfKnown};
 ghost use Rattle.ados_launch.specs.NoFurther.{TakesPart};
 ghost use Rattle.ados_launch.specs.Rounds.{asks_read_or_wait};
 ghost use Rattle.ados_launch.specs.Schedule.{found_next, MayCome};
@@ -15,7 +15,7 @@ use crate::asks::answer;
 use crate::children::open_children;
 use crate::events::{give, give_line, shell_answered};
 use crate::faults::IntakeFault;
-use crate::lines::{LineKind, next_line};
+use crate::lines::{LineKind, has_short_line, next_line};
 use crate::read_ahead::ReadAhead;
 use crate::schedule::Next;
 use ados_launcher::Launcher;
@@ -53,6 +53,24 @@ impl Intake {
         }
     }
 
+    // What comes next may wait: it is a call of the launcher, or a line that was not read ahead whole.
+    fn may_wait(&self, next: Next) -> bool
+        ensures { result ≡ not (comes_at_once self.now.held (found_next next)) }
+    {
+        match next {
+            Next::Break(_) => false,
+            Next::Due(found) if found.place == 0 => !has_short_line(&self.held),
+            Next::Due(found) => found.place > 20,
+        }
+    }
+
+    // What was gathered is to be written before this comes: it may wait, or the writer tells of it.
+    pub fn is_due_before(&self, next: Next, tells: bool) -> bool
+        ensures { result ≡ false → comes_at_once self.now.held (found_next next) ≡ true }
+    {
+        tells || self.may_wait(next)
+    }
+
     // Takes what comes next: a break, the next line, the turn of a shell, or a launcher's answer. The draft holds then what is
     // to be written.
     pub fn take<L: Launcher, S: Source>(
@@ -77,6 +95,9 @@ impl Intake {
             (bytes_ahead self.old.held (S.left reader.old)) (bytes_ahead self.new.held (S.left reader.new)) (L.calls launcher.old) (L.calls launcher.new) }
         ensures children { IsOpenTable self.new.children (L.calls launcher.new) }
         ensures stays { L.is_full launcher.old ≡ true → L.is_full launcher.new ≡ true }
+        // What comes without a wait asks nothing of the launcher, and no read fails for it.
+        ensures at_once { comes_at_once self.old.held (found_next next) ≡ true → (L.calls launcher.new ≡ L.calls launcher.old)
+            × (S.faults reader.new ≡ S.faults reader.old) }
         ensures few { length self.old.held < 4096 → length self.new.held < 4096 }
     {
         match next {
@@ -108,6 +129,7 @@ impl Intake {
         ensures err { OnErr result (world.new ≡ world.old) }
         ensures read { IsErrOf result IntakeFault.Read
             → IsUnreadable (S.faults reader.old) (S.faults reader.new) (bytes_ahead self.old.held (S.left reader.old)) (bytes_ahead self.new.held (S.left reader.new)) }
+        ensures ahead { has_short_line self.old.held ≡ true → S.faults reader.new ≡ S.faults reader.old }
         ensures memory_honest { IsErrOf result IntakeFault.NoMemory → S.faults reader.new ≡ S.faults reader.old }
         ensures memory_unread { IsErrOf result IntakeFault.NoMemory → IfKnown (bytes_ahead self.old.held (S.left reader.old))
             (λ bytes. TakesPart bytes (bytes_ahead self.new.held (S.left reader.new))) }

@@ -12,6 +12,7 @@ mod counted;
 mod driver;
 mod events;
 mod faults;
+mod gathered;
 mod intake;
 mod laws;
 mod lines;

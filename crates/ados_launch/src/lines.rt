@@ -1,6 +1,6 @@
 ghost use Rattle.std.specs.Prelude.{◌≡◌, ◌<◌, ◌≤◌, ℕ, List, Option, true, false, vec_len, length, position, ◌^◌, ◌-◌, ◌+◌, [], ◌∷◌, ◌++◌, take, IfOk, IfSome, OnOk, OnErr, IsErrOf};
 ghost use Rattle.ados_text.specs.Lines.{is_newline};
-ghost use Rattle.ados_launch.specs.Lines.{bytes_ahead, kind_of_length, IfKnown, TakesLine};
+ghost use Rattle.ados_launch.specs.Lines.{bytes_ahead, has_short_line, kind_of_length, IfKnown, TakesLine};
 ghost use Rattle.ados_launch.specs.NoFurther.{TakesPart};
 
 use crate::Source;
@@ -47,6 +47,8 @@ pub fn next_line<S: Source>(
     ensures others { (IsErrOf result IntakeFault.Read → ⊥) → S.faults source.new ≡ S.faults source.old }
     ensures no_further { IsErrOf result IntakeFault.NoMemory → IfKnown (bytes_ahead held.old (S.left source.old))
         (λ bytes. TakesPart bytes (bytes_ahead held.new (S.left source.new))) }
+    // A short line that was read ahead whole is taken without a read.
+    ensures ahead { has_short_line held.old ≡ true → IfOk result (λ kind. kind ≡ LineKind.Short) × (IsErrOf result IntakeFault.Read → ⊥) }
 {
     line.clear();
     if take_held(held, line)? {
@@ -78,17 +80,38 @@ fn take_held(held: &mut ReadAhead, line: &mut Vec<u8>) -> Result<bool, AllocErro
     ensures taken { IfOk result (λ is_taken. is_taken ≡ true → (left : Option (List ℕ)) → IfKnown (bytes_ahead held.old left) (λ bytes.
         TakesLine bytes LineKind.Short line.new.items (bytes_ahead held.new left))) }
     ensures none { IfOk result (λ is_taken. is_taken ≡ false → (held.new ≡ held.old) × (line.new.items ≡ [])) }
+    ensures ahead { IfOk result (λ is_taken. is_taken ≡ has_short_line held.old) }
     ensures short { vec_len line.new ≤ 512 }
     ensures few { length held.old < 4096 → length held.new < 4096 }
     ensures err { OnErr result (held.new ≡ held.old) }
 {
-    let bytes = held.bytes();
-    let Some(length) = newline_at(&bytes[..bytes.len().min(LINE_BYTES + 1)]) else {
+    let Some(length) = short_line_length(held) else {
         return Ok(false);
     };
-    line.extend_from_slice(&bytes[..length])?;
+    line.extend_from_slice(&held.bytes()[..length])?;
     held.skip(length + 1);
     Ok(true)
+}
+
+/// A short line was read ahead whole, with the byte 10 after it.
+pub fn has_short_line(held: &ReadAhead) -> bool
+    ensures { result ≡ has_short_line held.now }
+{
+    short_line_length(held).is_some()
+}
+
+// The length of the short line with which the bytes read ahead begin, if the byte 10 after it was read too.
+#[tactic(auto, using(crate::proofs::HeldLines::short_position))]
+fn short_line_length(held: &ReadAhead) -> Option<usize>
+    ensures value { result ≡ position is_newline (take 513 held.now) }
+    ensures within { IfSome result (λ place. place < length held.now) }
+    ensures short { IfSome result (λ place. place ≤ 512) }
+{
+    let bytes = held.bytes();
+    if bytes.len() > LINE_BYTES {
+        return newline_at(&bytes[..LINE_BYTES + 1]);
+    }
+    newline_at(bytes)
 }
 
 // The place of the first byte 10.

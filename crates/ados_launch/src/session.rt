@@ -1,5 +1,6 @@
 // A world that is driven event by event.
 ghost use Rattle.std.specs.Prelude.{◌≡◌, ◌<◌, ◌^◌, ◌-◌, ◌+◌, ◌≤◌, ℕ, List, [], true, false, None, get_or, is_none, option_map, IfOk, OnOk, OnErr, IsErrOf, length};
+ghost use Rattle.std.specs.Io.KnownBytes.{Appends};
 ghost use Rattle.std.specs.Option.{option_copied};
 ghost use Rattle.ados_machine.specs.Limits.{IsSane};
 ghost use Rattle.ados_machine.specs.World.{codes_at, pending_of};
@@ -7,6 +8,7 @@ ghost use Rattle.ados_launch.specs.Agreement.{Agrees, AreOver, IsOpenTable, Wait
 ghost use Rattle.ados_launcher.specs.declared.calls.Call.{Call};
 ghost use Rattle.ados_launch.specs.Alone.{AgreesAfterLine};
 ghost use Rattle.ados_launch.specs.Deeds.{Does};
+ghost use Rattle.ados_launch.specs.Gathering.{FailsToWrite, GetsPart, HasGatherResult};
 ghost use Rattle.ados_launch.specs.Rounds.{asks_read_or_wait, due_place};
 ghost use Rattle.ados_launch.specs.Schedule.{IsInRound, first_schedule_state, next_named, scheduled_next, unless_break};
 ghost use Rattle.ados_launch.specs.Session.{moment_of};
@@ -16,11 +18,12 @@ use crate::alone::{SystemEnd, SystemFault};
 use crate::children::{children_after_line, wait_for_open};
 use crate::driver::End;
 use crate::events::shell_answered;
-use crate::faults::DriveFault;
+use crate::faults::{DriveFault, why_stopped};
+use crate::gathered::Gathered;
 use crate::intake::Intake;
 use crate::next::Next;
 use crate::schedule::{self, Schedule};
-use crate::written::write_whole;
+use crate::written::{WriteFault, write_whole};
 use crate::{Sink, Source};
 use ados_find::Renamed;
 use ados_launcher::Launcher;
@@ -37,6 +40,8 @@ use std::marker::Model;
 pub struct Session<'a> {
     schedule: Schedule<'a>,
     intake: Intake,
+    // what events of `advance` printed and is not written yet
+    gathered: Gathered,
 }
 
 impl<'a> Model for Session<'a> {
@@ -45,7 +50,7 @@ impl<'a> Model for Session<'a> {
 
     ghost Value = { SessionState };
 
-    ghost view = { λ s. record { schedule = s.schedule; held = s.intake.held; children = s.intake.children; reports = s.intake.draft.reports.items; renamed = option_map (λ r. r.value) s.intake.draft.renamed } };
+    ghost view = { λ s. record { schedule = s.schedule; held = s.intake.held; children = s.intake.children; reports = s.intake.draft.reports.items; renamed = option_map (λ r. r.value) s.intake.draft.renamed; gathered = s.gathered } };
 
     ghost invariant = { λ s. (s.schedule.round.place ≤ 61) × (length s.intake.held < 4096) };
 }
@@ -55,12 +60,14 @@ impl<'a> Session<'a> {
     pub fn new(alloc: Global, world: &World, breaks: &'a [BreakAt]) -> Session<'a>
         ensures schedule { result.schedule ≡ first_schedule_state breaks.now }
         ensures held { result.held ≡ [] }
+        ensures gathered { result.gathered ≡ [] }
         ensures children { (k : ℕ) → get_or result.children k false ≡ asks_read_or_wait (pending_of world.now k) }
         ensures sane { IsSane world.now }
     {
         Session {
             schedule: Schedule::new(breaks),
             intake: Intake::new(alloc, world),
+            gathered: Gathered::new(alloc),
         }
     }
 
@@ -146,6 +153,67 @@ impl<'a> Session<'a> {
         write_whole(writer, self.intake.draft.printed.as_slice())?;
         self.schedule.pass(next);
         Ok(true)
+    }
+
+    // Takes the event that comes next, or a long line, and gathers what it prints; `false` if nothing comes. What was gathered is
+    // written before anything that may wait, before each event if the writer tells of them, before a fault is returned, and if nothing
+    // comes.
+    pub fn advance<L: Launcher, S: Source, K: Sink>(
+        &mut self,
+        world: &mut World,
+        launcher: &mut L,
+        reader: &mut S,
+        writer: &mut K,
+    ) -> Result<bool, DriveFault>
+        requires reader { S.faults reader.old < 2 ^ 64 - 1 }
+        requires writer { K.faults writer.old < 2 ^ 64 - 1 }
+        requires count { self.old.schedule.taken < 2 ^ 64 - 1 }
+        requires agrees { Agrees world.old (L.calls launcher.old) }
+        requires children { IsOpenTable self.old.children (L.calls launcher.old) }
+        // What was taken, gathered and written, or why not.
+        ensures takes { HasGatherResult self.old self.new
+            (moment_of S.left S.faults K.contents K.faults K.stalls L.calls L.is_full world.old reader.old writer.old launcher.old)
+            (moment_of S.left S.faults K.contents K.faults K.stalls L.calls L.is_full world.new reader.new writer.new launcher.new)
+            result }
+        ensures stays { L.is_full launcher.old ≡ true → L.is_full launcher.new ≡ true }
+        ensures agrees { OnOk result (Agrees world.new (L.calls launcher.new)) }
+        ensures children { IsOpenTable self.new.children (L.calls launcher.new) }
+        // What the next step needs.
+        ensures count { self.new.schedule.taken ≤ self.old.schedule.taken + 1 }
+        ensures in_round { self.new.schedule.round.place ≤ 61 }
+        ensures few { length self.new.held < 4096 }
+        ensures reads { OnOk result (S.faults reader.new ≡ S.faults reader.old) }
+        ensures writes { OnOk result (K.faults writer.new ≡ K.faults writer.old) }
+    {
+        let Some(next) = self.schedule.next(world) else {
+            self.gathered.release(writer)?;
+            return Ok(false);
+        };
+        let is_due = self.intake.is_due_before(next, writer.tells());
+        self.gathered.release_if(writer, is_due)?;
+        show(writer, world, next);
+        if let Err(fault) = self.intake.take(world, launcher, reader, next) {
+            self.gathered.release(writer)?;
+            return Err(why_stopped(fault));
+        }
+        writer.heed_ends(self.intake.draft.reports.as_slice());
+        self.gathered
+            .add(writer, self.intake.draft.printed.as_slice())?;
+        self.schedule.pass(next);
+        Ok(true)
+    }
+
+    // Writes what is gathered.
+    pub fn release<K: Sink>(&mut self, writer: &mut K) -> Result<(), WriteFault>
+        requires writer { K.faults writer.old < 2 ^ 64 - 1 }
+        ensures none { self.new ≡ record self.old { gathered = [] } }
+        ensures written { OnOk result (Appends (K.contents writer.old) (K.contents writer.new) self.old.gathered) }
+        ensures honest { OnOk result ((K.faults writer.new ≡ K.faults writer.old) × (K.stalls writer.new ≡ K.stalls writer.old)) }
+        ensures part { OnErr result (GetsPart (K.contents writer.old) (K.contents writer.new) self.old.gathered) }
+        ensures cause { OnErr result (FailsToWrite (K.faults writer.old) (K.faults writer.new) (K.stalls writer.old) (K.stalls writer.new)) }
+        ensures untouched { self.old.gathered ≡ [] → writer.new ≡ writer.old }
+    {
+        self.gathered.release(writer)
     }
 
     /// Looks up which children are open after a line ran alone in the world ([`system`](crate::system)), however that ended.

@@ -80,6 +80,11 @@ impl<'a, R: AllocGlobal + Eprint, N: ScriptNames, K: Sink> Sink for Traced<'a, R
         }
     }
 
+    // A command is told after what was printed before it.
+    fn tells(&self) -> bool {
+        true
+    }
+
     // A turn that a break ends takes no command.
     fn heed_ends(&mut self, ends: &[EndReport]) {
         self.inner.heed_ends(ends);
