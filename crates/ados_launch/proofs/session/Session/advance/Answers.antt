@@ -1,4 +1,5 @@
 use Rattle.std.proofs.Common.{◌∙◌, Err, IsErrOf, ap, inl, inr, length, refl, rules, subst, sym}
+use Rattle.std.specs.Prelude.{option_map}
 use Rattle.ados_shell.specs.Drafts.{out_of}
 use Rattle.ados_launch.specs.Gathering.{HasGatherResult}
 use Rattle.ados_launch.specs.Schedule.{found_next}
@@ -49,6 +50,7 @@ returns-in-Err-clause-takes g c =
       held = c.take.new.self.held;
       children = c.take.new.self.children;
       reports = c.take.new.self.draft.reports.items;
+      renamed = option_map (λ r. r.value) c.take.new.self.draft.renamed;
       gathered = c.release-in-Err.new.self;
     } in
     let before : Moment = moment_of g.S.Source.left g.S.Source.faults g.K.Sink.contents g.K.Sink.faults g.K.Sink.stalls g.L.Launcher.calls g.L.Launcher.is_full c.args.world.now c.args.reader.now c.args.writer.now c.args.launcher.now in
