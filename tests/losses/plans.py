@@ -1,135 +1,136 @@
-"""Random plans of runs on a shared folder: what stands before, the scripts, what their programs do, and whether a run is killed."""
+"""Random plans of runs on a shared folder: what stands before, the scripts, what their programs do, and what comes between."""
 import copy
+import errno
 import signal
 
+from deeds import LINKS, MOVES, deed
+from names import ALL_PATHS, EXCHANGED, FOLDERS, NAMES
 from rooms import Link, filled
+from steps import step
 
-NAMES = ["a", "b", "c", "big"]
-FOLDERS = ["d", "e", "g"]
-OUT = ["T:t1", "T:t2", "T:t3", "RAM:keep"]
 SIGNALS = [signal.SIGKILL, signal.SIGTERM, signal.SIGINT, signal.SIGHUP]
-MOST_LINES = 14
-ALL_PATHS = NAMES + [f"{folder}/{name}" for folder in FOLDERS for name in NAMES]
+MOST_LINES = 16
+MOST_CALLS = 300
+# What is tried: `out` moves to T:; `folders` renames folders, also in a circle; `exchanges` lets files and directories change places, and nothing else;
+# `time` and `call` kill the run at a moment and before a call of a path, before which `meanwhile` lets another program act, and which fails with `error`;
+# `two` runs two scripts at a time. The others are kinds of objects and options.
+KINDS = ["out", "large", "links", "folders", "exchanges", "time", "call", "meanwhile", "error", "two", "dry"]
 
 
 class Plan:
-    """A plan by its random numbers. Each token stands in one file, or in copies of it; each large file has a size of its own."""
+    """A plan by its kind and random numbers. Each token stands in one file, or in copies of it; each large file has a size of its own."""
 
-    def __init__(self, numbers):
-        self.numbers, self.count = numbers, 0
+    def __init__(self, kind, numbers):
+        self.kind, self.numbers, self.count = kind, numbers, 0
         self.before, self.modes, self.sizes, self.acts = {}, {}, {}, []
+        self.is_alone, self.is_dry = kind != "two", kind == "dry"
+        self.has_large = kind == "large" or numbers.random() < 0.4
+        self.has_exchanges = kind == "exchanges" or kind in ("time", "call") and numbers.random() < 0.5
+        # one that may not be written: what is added to it and then moved out is documented to be lost, so it is shown
+        self.has_closed = numbers.random() < 0.15
         self.make_before()
-        kind = numbers.random()
-        self.killed_at = numbers.random() * 1.2 if kind < 0.25 else None
-        self.signal = numbers.choice(SIGNALS)
-        # what a program shows may be changed by the other script before it is destroyed
-        self.is_alone = kind <= 0.85
         self.scripts = [self.script() for _ in range(1 if self.is_alone else 2)]
-        self.options = ["--take", "RAM:Work=taken"] if len(self.scripts) == 1 and numbers.random() < 0.4 else []
-        self.has_large = bool(self.sizes)
+        self.killed_at = numbers.random() * 1.2 if kind == "time" else None
+        self.signal = numbers.choice(SIGNALS)
+        self.call, self.deed = self.between()
+        self.error = numbers.choice([errno.ENOSPC, errno.EACCES, errno.EIO]) if kind == "error" else None
+        self.is_for_long = numbers.random() < 0.3
+        self.options = self.chosen_options()
 
     def token(self):
         self.count += 1
         return f"t{self.count}x"
 
-    def path(self):
-        return self.numbers.choice(ALL_PATHS)
+    def script_token(self):
+        self.count += 1
+        return f"s{self.count}x"
+
+    def large_size(self, token):
+        """A size that no other file has."""
+        size = 70000 + 13 * self.count
+        self.sizes[size] = token.encode()
+        return size
+
+    def target(self, path, other):
+        """Where a link of this path leads to: out, nowhere, or to another path."""
+        up = "../" * path.count("/")
+        return up + self.numbers.choice(["../out/x", "../out", "nowhere", other])
+
+    def paths_before(self):
+        """Which files stand before."""
+        numbers = self.numbers
+        if not self.has_exchanges:
+            return numbers.sample(ALL_PATHS, numbers.randint(1, 7))
+        paths = []
+        for name in EXCHANGED:
+            inner = [f"{name}/{one}" for one in numbers.sample([*NAMES, ".h"], numbers.randint(1, 2))]
+            paths += [name] if numbers.random() < 0.6 else inner
+        return paths
 
     def make_before(self):
         numbers = self.numbers
-        for path in numbers.sample(ALL_PATHS, numbers.randint(1, 7)):
-            if path.endswith("big") or numbers.random() < 0.1:
-                size = 70000 + 13 * self.count
+        for path in self.paths_before():
+            if self.has_large and (path.endswith("big") or numbers.random() < 0.3):
                 token = self.token()
-                self.sizes[size] = token.encode()
+                size = self.large_size(token)
                 self.before[f"f/{path}"] = f"{token}\n".encode() + filled(path, size - len(token) - 1)
             else:
                 self.before[f"f/{path}"] = f"{self.token()}\n".encode() if numbers.random() < 0.9 else b""
             if numbers.random() < 0.3:
-                self.modes[f"f/{path}"] = numbers.choice([0o600, 0o755, 0o666, 0o444])
+                self.modes[f"f/{path}"] = numbers.choice([0o600, 0o755, 0o444 if self.has_closed else 0o666])
         self.before["out/x"] = b"outside\n"
         for path in ["f/.h", "f/d/.h"]:
-            if numbers.random() < 0.2:
+            if numbers.random() < 0.2 and "f/d" not in self.before:
                 self.before[path] = f"{self.token()}\n".encode()
-        free = [path for path in ALL_PATHS if f"f/{path}" not in self.before]
-        if numbers.random() < 0.25:
-            path = numbers.choice(free)
-            self.before[f"f/{path}"] = Link("../" * (path.count("/") + 1) + numbers.choice(["out/x", "out", "nowhere"]))
+        for _ in range(numbers.randint(1, 4) if self.kind == "links" else numbers.random() < 0.2):
+            self.make_link()
 
-    # What a program does: it adds lines and files, moves and copies, and destroys nothing.
+    def make_link(self):
+        taken = {above for path in self.before for above in (path, path.rsplit("/", 1)[0])}
+        path = self.numbers.choice(ALL_PATHS + FOLDERS)
+        above = path.split("/")[0]
+        if f"f/{path}" not in taken and not isinstance(self.before.get(f"f/{above}"), (Link, bytes)):
+            self.before[f"f/{path}"] = Link(self.target(path, self.numbers.choice(ALL_PATHS)))
 
     def act(self):
-        self.acts.append([line for _ in range(self.numbers.randint(0, 3)) for line in [self.deed()]])
+        """The line that starts the next program of this machine."""
+        count = 0 if self.is_dry or self.has_exchanges else self.numbers.randint(0, 3)
+        self.acts.append([deed(self) for _ in range(count)])
         return f"sh ../act{len(self.acts) - 1}"
-
-    def deed(self):
-        numbers, path, other, token = self.numbers, self.path(), self.path(), self.token()
-        kind = numbers.random()
-        if kind < 0.35:
-            return f"[ -f {path} ] && [ ! -L {path} ] && echo {token} >>{path} && echo {token} >>../log"
-        if kind < 0.6:
-            return f"[ -e {path} ] || [ -L {path} ] || {{ echo {token} >{path} && echo {token} >>../log; }}"
-        if kind < 0.7:
-            return f"[ -e {other} ] || [ -L {other} ] || mv {path} {other}"
-        if kind < 0.76:
-            return f"[ -e {other} ] || [ -L {other} ] || cp {path} {other}"
-        if kind < 0.82:
-            size = 80000 + 13 * self.count
-            self.sizes[size] = token.encode()
-            rest = size - len(token) - 1
-            return f"[ -e {path} ] || [ -L {path} ] || {{ (echo {token}; head -c {rest} /dev/zero) >{path} && echo {token} >>../log; }}"
-        if kind < 0.86:
-            return f"echo {token} >>.h && echo {token} >>../log"
-        if kind < 0.9:
-            return f"[ -e {path} ] || ln -s ../out/x {path}"
-        if kind < 0.95:
-            return f"chmod {numbers.choice(['600', '644', '755'])} {path}"
-        return f"mkdir -p {numbers.choice(FOLDERS)}"
-
-    # What the script does: what it destroys it shows first, by itself or by a program that shows what is in a directory of this machine.
 
     def script(self):
         """The steps of a script, each some lines."""
-        steps = [["FailAt 100"]]
+        steps = [[self.numbers.choice(["FailAt 100"] * 9 + ["FailAt 11"])]]
         while sum(map(len, steps)) < MOST_LINES:
-            step = self.step()
-            steps += [step] if self.is_alone or not step[0].startswith("show") else []
-            if self.numbers.random() < 0.08:
+            lines = step(self)
+            # what a program shows may be changed by the other script before it is destroyed
+            steps += [lines] if self.is_alone or not lines[0].startswith("show") else []
+            if self.numbers.random() < 0.06:
                 break
         return steps
 
-    def step(self):
-        numbers, path, other, out = self.numbers, self.path(), self.path(), self.numbers.choice(OUT)
-        folder, second = numbers.sample(FOLDERS, 2)
-        return numbers.choice([
-            lambda: [f"Rename {path} {other}"],
-            lambda: [f"Rename {path} {other}"],
-            lambda: [self.act(), f"Rename {path} {out}"],
-            lambda: [self.act(), f"Rename {folder} {out}"],
-            lambda: [f"If NOT EXISTS {path}", f"Rename {out} {path}", "EndIf"],
-            lambda: [f"If NOT EXISTS {path}", f"Rename {out} {path}", "EndIf"],
-            lambda: [f"If NOT EXISTS {folder}", f"Rename {out} {folder}", "EndIf"],
-            lambda: [f"If NOT EXISTS {second}", f"Rename {folder} {second}", "EndIf"],
-            lambda: [f"If NOT EXISTS {second}", f"Rename {folder} {second}", "EndIf"],
-            lambda: [f"If NOT EXISTS {other}", f"Copy {path} {other} QUIET", "EndIf"],
-            lambda: [f"show {other}", f"Copy {path} {other} QUIET"],
-            lambda: [f"If NOT EXISTS {out}", f"Copy {path} {out} QUIET", "EndIf"],
-            lambda: [f"show {second}", f"Copy {folder} {second} ALL QUIET"],
-            lambda: [f"Echo >>{path} more"],
-            lambda: [f"Type {out}", f"Echo >>{out} more"],
-            lambda: [f"Type {path}", f"Echo >{path} new"],
-            lambda: [f"Type {path}", f"List {path}", f"Delete {path} QUIET"],
-            lambda: [f"show {folder}", f"Delete {folder} ALL QUIET"],
-            lambda: [f"Type {out}", f"List {out}", f"Delete {out} QUIET"],
-            lambda: [f"MakeDir {folder}"],
-            lambda: [f"Protect {path} rwed"],
-            lambda: [f"Protect {path} {numbers.choice(['+d', '+w', '-w', '-d', '+r'])}"],
-            lambda: [f"List {path}", f"Filenote {path} note"],
-            lambda: [f"Rename {path} z", f"MakeDir {path}", f"Rename z {path}/a"],
-            lambda: [f"Rename {folder}/a z", f"Delete {folder}", f"Rename z {folder}"],
-            lambda: [self.act()],
-            lambda: [self.act()],
-        ])()
+    def between(self):
+        """Before which call something comes, and what: the line of a program."""
+        number = self.numbers.randint(1, MOST_CALLS)
+        if self.kind == "call":
+            return number, f"kill -{self.signal.value} $PPID"
+        if self.kind == "error":
+            return number, None
+        if self.kind == "meanwhile" or self.kind == "links" and self.numbers.random() < 0.5:
+            return number, deed(self, LINKS + (MOVES if self.kind == "links" else []) if self.numbers.random() < 0.6 else None)
+        return None, None
+
+    def chosen_options(self):
+        numbers = self.numbers
+        options = ["--core"] if self.sizes or numbers.random() < 0.5 else []
+        if not self.is_dry and numbers.random() < 0.15:
+            options += ["--all"]
+        if numbers.random() < 0.08:
+            options += ["--turns", str(numbers.randint(20, 120))]
+        return options + (["--dry"] if self.is_dry else ["--take", "RAM:Work=taken"] if self.is_alone and not self.sizes else [])
+
+    def lines(self, number=0):
+        return [line for lines in self.scripts[number] for line in lines]
 
     # A plan without one of its lines or objects.
 
@@ -146,15 +147,16 @@ class Plan:
                                modes={one: mode for one, mode in self.modes.items() if one != path})
         if self.modes:
             yield self.changed(modes={})
-        if self.options:
-            yield self.changed(options=[])
+        for word in ("--all", "--core"):
+            if word in self.options and not (word == "--core" and self.sizes):
+                yield self.changed(options=[one for one in self.options if one != word])
 
     @staticmethod
     def shorter_steps(steps, place):
         """The steps without this one, or without one of its lines, but for those which show what is destroyed."""
         yield [*steps[:place], *steps[place + 1:]]
         lines = steps[place]
-        if len(lines) > 1 and not any(line.startswith(("Type", "show")) for line in lines):
+        if len(lines) > 1 and not any(line.startswith(("Type", "show", "List", "If", "sh ")) for line in lines):
             for at in range(len(lines)):
                 yield [*steps[:place], [*lines[:at], *lines[at + 1:]], *steps[place + 1:]]
 
@@ -166,7 +168,10 @@ class Plan:
     def __str__(self):
         stands = [f"    {path} -> {what}" if isinstance(what, Link) else f"    {path}: {len(what)} bytes, {what[:8]!r}" for path, what in self.before.items()]
         stands += [f"    {path}: mode {mode:o}" for path, mode in self.modes.items()]
-        scripts = [f"    script {number}: {line}" for number, steps in enumerate(self.scripts) for lines in steps for line in lines]
-        acts = [f"    act{number}: {line}" for number, lines in enumerate(self.acts) for line in lines]
-        killed = [] if self.killed_at is None else [f"    {self.signal.name} at {self.killed_at:.2f} of its time"]
-        return "\n".join([*stands, *scripts, *acts, *killed, f"    options {self.options}"])
+        scripts = [f"    script {number}: {line}" for number in range(len(self.scripts)) for line in self.lines(number)]
+        started = {line for number in range(len(self.scripts)) for line in self.lines(number)}
+        acts = [f"    act{number}: {line}" for number, lines in enumerate(self.acts) if f"sh ../act{number}" in started for line in lines]
+        between = [f"    {self.signal.name} at {self.killed_at:.2f} of its time"] if self.killed_at is not None else []
+        between += [f"    call {self.call} fails by {errno.errorcode[self.error]}{', and all after it' * self.is_for_long}"] if self.error else []
+        between += [f"    before call {self.call}: {self.deed}"] if self.deed else []
+        return "\n".join([*stands, *scripts, *acts, *between, f"    options {self.options}"])

@@ -5,6 +5,7 @@ from typing import Callable
 from rooms import FOLDER, filled
 
 LINE = "a line of another program"
+# with --core a file of more than 65,536 bytes is a stand-in
 SHARED = ["--core", "--share", "f"]
 
 
@@ -19,7 +20,7 @@ class Race:
     judge: Callable
     most: int = 0
     named: str = ""
-    options: list = field(default_factory=lambda: ["--core", "--share", "f"])
+    options: list = field(default_factory=lambda: SHARED)
     prepare: str = "true"
     is_after_start: bool = True
 
@@ -155,7 +156,7 @@ EXCHANGED = [
     Race("the folder becomes a link and then itself again", TREE, UPDATE, "mv f f.was && ln -s out f && rm f && mv f.was f", nothing_outside,
          prepare=COPIED),
     Race("the folder above becomes a link", {f"up/{path}": what for path, what in TREE.items()}, UPDATE.replace("../go", "../../go"), "mv up up.was && ln -s out up",
-         lambda trial: above_outside(trial), options=["--share", "up/f"], prepare="cp -a up out"),
+         lambda trial: above_outside(trial), options=["--core", "--share", "up/f"], prepare="cp -a up out"),
     Race("a folder in it becomes a link", TREE, UPDATE, "[ -d f/d ] && mv f/d d.was && ln -s ../out/d f/d", nothing_outside, prepare=COPIED),
     Race("a folder in it becomes a link to an empty one", TREE, UPDATE, "[ -d f/d ] && mv f/d d.was && ln -s ../out f/d", nothing_outside,
          prepare="mkdir out"),
@@ -169,6 +170,22 @@ EXCHANGED = [
 def above_outside(trial):
     came, wanted = outside(trial.stands), outside(trial.before)
     return None if came == wanted else f"outside: {sorted(path for path in came.keys() | wanted.keys() if came.get(path) != wanted.get(path))}"
+
+
+# What was moved stands somewhere, though another program takes its new name, or moves it back.
+
+def moved_stands(trial):
+    return None if any(what == b"a\n" for path, what in trial.stands.items() if path.startswith("f/")) else "the bytes of a are lost"
+
+
+MOVED = [
+    Race("a file that was moved out comes in where another program makes one", A,
+         started("Rename a T:a", "Echo >a new", "sh -c true", "Rename T:a b", "sh -c true"), "[ -e f/b ] || echo theirs >f/b", moved_stands),
+    Race("a file that is renamed is moved back", A, started("Rename a b", "Rename n0 m0", "Rename n1 m1"), "[ -f f/b ] && mv f/b f/a", moved_stands, most=1,
+         named=MOMENT),
+    Race("a directory that is renamed is moved back", {"f/d/a": b"a\n", "f/d/b": b"b\n"}, started("Rename d e"), "[ -f f/e/a ] && mv f/e/a f/d/a", moved_stands,
+         most=1, named=MOMENT),
+]
 
 
 # A file becomes a pipe. Only between the look at it and its opening nobody can see that.
@@ -186,4 +203,4 @@ PIPES = [
          most=1, named="open .*a$", options=["--bring", "d"], is_after_start=False),
 ]
 
-RACES = EXCHANGED + BOTH + CHANGED + PIPES
+RACES = EXCHANGED + BOTH + CHANGED + MOVED + PIPES

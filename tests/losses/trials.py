@@ -1,0 +1,175 @@
+"""A run of a random plan, and what is lost by it."""
+import os
+import re
+import shutil
+import signal
+import subprocess
+import time
+
+from deeds import BEGIN
+from rooms import FOLDER, Link, look, place
+
+SECONDS = 60
+TOKEN = re.compile(rb"[ts]\d+x")
+LARGE = re.compile(rb"(\d{5,}) bytes")
+WRITTEN = re.compile(rb"wrote-(\d+)")
+TEMPORARY = ".amishell-execute."
+SHOW = b"""#!/bin/sh
+grep -raohE '[ts][0-9]+x' "$1" 2>/dev/null
+true
+"""
+# What was not written, or gave way to what this machine has, is told. Where it could not be written, a program sees something else than the Shell.
+TOLD = re.compile(rb"both changed|cannot |is not written|not written, since|left alone|kept, since|kept as|nothing is written")
+UNWRITTEN = re.compile(rb"both changed|cannot |not written|nothing is written")
+
+
+class Room:
+    """A folder to be shared, what is beside it, and the runs of a plan there."""
+
+    def __init__(self, program, shim, plan, room):
+        self.program, self.shim, self.plan, self.room = program, shim, plan, room
+        shutil.rmtree(room, ignore_errors=True)
+        beside = {f"act{number}": "\n".join([f"echo {number} >>../began", BEGIN, *lines]).encode() + b"\n" for number, lines in enumerate(plan.acts)}
+        scripts = {f"script{number}": "".join(f"{line}\n" for line in plan.lines(number)).encode() for number in range(len(plan.scripts))}
+        hook = f'#!/bin/sh\ncd "{room}/f"\necho "$1" "$2" >../call\n{BEGIN}{plan.deed}\n'.encode() if plan.deed else b""
+        place(room, {"f": FOLDER, **plan.before, **beside, **scripts, "show": SHOW, "hook": hook}, {**plan.modes, "show": 0o755, "hook": 0o755})
+        self.before, self.states = self.files(), self.look_at_all()
+        self.outside = self.beside()
+
+    def beside(self):
+        return {path: what for path, what in look(self.room)[0].items() if path.startswith("out")}
+
+    def files(self):
+        return {path: what for path, what in look(f"{self.room}/f")[0].items() if isinstance(what, bytes)}
+
+    def look_at_all(self):
+        """Each object of the folder with what a run without a write leaves as it is."""
+        found = {}
+        for above, folders, files in os.walk(f"{self.room}/f"):
+            for name in folders + files:
+                about = os.lstat(os.path.join(above, name))
+                found[os.path.join(above, name)] = (about.st_ino, about.st_mode, about.st_size, about.st_mtime_ns)
+        return found
+
+    def read(self, name):
+        whole = f"{self.room}/{name}"
+        if not os.path.exists(whole):
+            return b""
+        with open(whole, "rb") as file:
+            return file.read()
+
+    def begin(self, number):
+        plan = self.plan
+        words = [self.program, "--host", "sh", "--host", "show=./show", "--turns", "20000", "--share", "f", *plan.options, f"script{number}"]
+        if "--turns" in plan.options:
+            words[5:7] = []
+        given = {name: value for name, value in os.environ.items() if name != "AMISHELL_HOSTS"}
+        if plan.call:
+            given |= {"LD_PRELOAD": self.shim, "FAIL_CALL": "path", "FAIL_AT": str(plan.call)}
+            given |= {"FAIL_RUN": f"{self.room}/hook"} if plan.deed else {"FAIL_ERRNO": str(plan.error), **({"FAIL_ON": "1"} if plan.is_for_long else {})}
+        with open(f"{self.room}/said{number}", "ab") as said:
+            return subprocess.Popen(words, cwd=self.room, env=given, stdin=subprocess.DEVNULL, stdout=said, stderr=subprocess.PIPE, start_new_session=True)
+
+    def run(self, seconds_each):
+        """Runs the plan; gives the seconds that it took."""
+        began = time.monotonic()
+        children = [self.begin(number) for number in range(len(self.plan.scripts))]
+        if self.plan.killed_at is not None:
+            time.sleep(self.plan.killed_at * seconds_each)
+            children[0].send_signal(self.plan.signal)
+        self.statuses, self.told = [], b""
+        for child in children:
+            try:
+                # programs of a run that was killed write on; they hold its standard error
+                self.told += child.communicate(timeout=SECONDS)[1]
+                self.statuses.append(child.returncode)
+            except subprocess.TimeoutExpired:
+                os.killpg(child.pid, signal.SIGKILL)
+                child.communicate()
+                self.statuses.append(None)
+        self.said = b"".join(self.read(f"said{number}") for number in range(len(children)))
+        self.is_killed = any(status is not None and status < 0 for status in self.statuses)
+        return time.monotonic() - began
+
+    def fault(self):
+        """What is lost, left or changed, or None."""
+        if None in self.statuses:
+            return "it does not end"
+        if any(status and status < 0 and -status not in (1, 2, 9, 15) for status in self.statuses):
+            return f"it ends badly: {self.statuses}"
+        if self.beside() != self.outside:
+            return "what is outside is changed"
+        if self.plan.is_dry:
+            return None if self.look_at_all() == self.states else "a dry run changes the folder"
+        self.stands = self.files()
+        return self.loss() or self.torn() or self.left() or self.difference() or self.without_a_line()
+
+    def loss(self):
+        """Tokens of the folder and of programs stand there, unless the script or a program showed them before it destroyed them."""
+        sizes = set(LARGE.findall(self.said))
+        self.shown = set(TOKEN.findall(self.said)) | {token for size, token in self.plan.sizes.items() if str(size).encode() in sizes}
+        self.shown |= set(TOKEN.findall(self.read("gone")))
+        required = set(TOKEN.findall(b"".join(self.before.values()) + self.read("log"))) - self.shown
+        self.stand = {token for what in self.stands.values() for token in TOKEN.findall(what)}
+        lost = required - self.stand
+        # what a program shows of a folder is not what the Shell has if something could not be written
+        is_unsure = UNWRITTEN.search(self.told) and any("ALL" in line for number in range(len(self.plan.scripts)) for line in self.plan.lines(number))
+        if lost and not is_unsure:
+            return f"lost: {sorted(lost)}"
+        lost = self.of_scripts() - self.stand - self.shown
+        if lost and not (self.is_killed or 125 in self.statuses) and not TOLD.search(self.told):
+            return f"lost without a word: {sorted(lost)}, statuses {self.statuses}"
+        if lost and self.is_killed and not TOLD.search(self.told):
+            return f"lost by a kill after an update: {sorted(lost)}"
+        return None
+
+    def of_scripts(self):
+        """The tokens that the scripts wrote, if a script is killed only those before the last program that began."""
+        written = {b"s%sx" % number for number in WRITTEN.findall(self.said)}
+        lines = [line for number in range(len(self.plan.scripts)) for line in self.plan.lines(number)]
+        if not self.is_killed:
+            return written
+        if "--all" not in self.plan.options and any(".n" in line for line in lines):
+            # what is in a name that is not shared is in memory alone
+            return set()
+        began, kept, found = set(self.read("began").decode().split()), set(), set()
+        for line in lines:
+            found |= {token.encode() for token in re.findall(r"s\d+x", line)}
+            if line.startswith("sh ../act") and line.removeprefix("sh ../act") in began:
+                kept |= found
+        return written & kept
+
+    def torn(self):
+        """No file but a temporary one has a part of its bytes. Of two runs one may bring in what a program of the other has written by half."""
+        for path, what in self.stands.items() if self.plan.is_alone else []:
+            large = [size for size, token in self.plan.sizes.items() if what.startswith(token + b"\n")]
+            if TEMPORARY not in path and (large and len(what) < large[0] or not large and what and not what.endswith((b"\n", b"\0"))):
+                return f"torn: {path} has {len(what)} bytes"
+        return None
+
+    def left(self):
+        """A temporary file is left but by a kill, and not told."""
+        left = [path for path in self.stands if TEMPORARY in path and path.encode() not in self.told]
+        if self.plan.error and self.plan.is_for_long:
+            # it cannot be looked at either
+            return None
+        return f"left: {left}" if left and not self.is_killed else None
+
+    def difference(self):
+        """What the Shell has and the folder has not, or the other way round, with a status that does not say so. Names that begin with a dot and links
+        are not shared, and a directory with such a one in it stays. A program may act after the last look, and at the limit of turns. Of two names
+        that differ in case alone one is left alone, with a line."""
+        if "--take" not in self.plan.options or self.plan.call or self.is_killed or {124, 125} & set(self.statuses) or b"taken twice" in self.told:
+            return None
+        stands = look(f"{self.room}/f")[0]
+        unseen = [path for path, what in stands.items() if isinstance(what, Link) or re.search(r"(^|/)\.", path) and "--all" not in self.plan.options]
+        came = {path.lower(): what for path, what in stands.items() if path not in unseen}
+        wanted = {path.lower(): what for path, what in look(f"{self.room}/taken")[0].items()}
+        other = sorted(path for path in came.keys() | wanted.keys() if came.get(path) != wanted.get(path)
+                       and not any(one.lower().startswith(path + "/") for one in unseen))
+        return f"status {self.statuses[0]}, and the folder is not what the Shell has: {other}" if other else None
+
+    def without_a_line(self):
+        """Status 125 has its lines."""
+        is_told = b"cannot take" in self.told or b"not a folder" in self.told or b"Shell's files differ" in self.told and self.told.count(b"\n") > 1
+        return "status 125 without its lines" if 125 in self.statuses and not is_told else None
