@@ -9,7 +9,7 @@ use crate::faults::TransferFault;
 use crate::here::Here;
 use crate::last_copies::Holders;
 use crate::mirror::Mirror;
-use crate::moves::Elsewhere;
+use crate::moves::{Destination, Elsewhere};
 use crate::paths::last_piece;
 use crate::placing::{Draft, holds, place_new};
 use crate::records::Last;
@@ -35,15 +35,13 @@ pub struct Backups {
     pub have_stayed: bool,
 }
 
-// What it is a copy of: the path of the file, what that held, its mode, and where the script moved it, if it did. `is_replaced`: since
-// it was made something of the Shell gave way to what came in, which may have been the other copy: that is no deletion by the script.
+// What it is a copy of: the path of the file, what that held, its mode, and where the script moved it, if it did.
 #[derive(Drop)]
 struct Backup {
     original: String,
     bytes: FileBytes,
     mode: u32,
-    moved: Option<Place>,
-    is_replaced: bool,
+    moved: Option<Destination>,
 }
 
 // A backup that stays at the end: its path, and where the Shell has the file.
@@ -87,18 +85,32 @@ impl Backups {
             .map(|backup| backup.mode)
     }
 
-    /// Something of the Shell's files gives way to what comes in.
+    /// Something of the Shell's files gives way to what comes in, which may be the other copy of any of them: that is no deletion by the
+    /// script.
     pub fn note_replaced(&mut self) {
         for backup in self.by_path.values_mut() {
-            backup.is_replaced = true;
+            backup.moved = Some(Destination::Replaced);
+        }
+    }
+
+    /// What the script deleted is followed no longer.
+    pub fn forget_deleted(&mut self, files: &Ram) {
+        for backup in self.by_path.values_mut() {
+            if backup
+                .moved
+                .as_ref()
+                .is_some_and(|moved| moved.is_deleted(files))
+            {
+                backup.moved = None;
+            }
         }
     }
 
     /// An object of the Shell's files was renamed: what was moved before moves along.
     pub fn carry(&mut self, from: &Place, to: &Place) -> Result<(), NoMemory> {
         for backup in self.by_path.values_mut() {
-            if let Some(place) = &backup.moved {
-                backup.moved = Some(place.carried(from, to)?);
+            if let Some(moved) = &mut backup.moved {
+                moved.carry(from, to)?;
             }
         }
         Ok(())
@@ -145,7 +157,6 @@ impl Mirror {
             bytes: bytes.clone()?,
             mode: *mode,
             moved: self.moves.take(key),
-            is_replaced: false,
         };
         let beside = write_beside(rt, "", bytes, Manner::Mode(*mode))?;
         match self.backups.add(beside.as_str(), backup) {
@@ -202,12 +213,7 @@ impl Mirror {
         if let Some(holder) = holders.first_with(&backup.bytes) {
             return Ok(Some(Elsewhere::Copy(self.copy_path(files, holder.place())?)));
         }
-        match &backup.moved {
-            Some(place) if self.is_out(files, place) => {
-                Ok(Some(Elsewhere::Moved(self.copy_path(files, place)?)))
-            }
-            _ => Ok(backup.is_replaced.then_some(Elsewhere::Replaced)),
-        }
+        self.destined_elsewhere(files, backup.moved.as_ref())
     }
 
     // A file of the folder has the bytes of a backup.

@@ -124,7 +124,7 @@ impl Mirror {
             if let Some(bytes) = bytes_of(&self.records, key.as_str()) {
                 departure.elsewhere = match holders.copy_of(departure, bytes, is_moved) {
                     Some(found) => Some(Elsewhere::Copy(self.copy_path(files, &found.place)?)),
-                    None => self.moved_elsewhere(files, key.as_str())?,
+                    None => self.destined_elsewhere(files, self.moves.destination(key.as_str()))?,
                 };
             }
         }
@@ -157,14 +157,6 @@ impl Mirror {
     pub(crate) fn copy_path(&self, files: &Ram, place: &Place) -> Result<String, TransferFault> {
         let path = self.spelled(files.written(place)?.names())?;
         Ok(format!(in self.alloc; "RAM:{path}")?)
-    }
-
-    // Where the script moved the file of a key, if that is outside of the directory.
-    fn moved_elsewhere(&self, files: &Ram, key: &str) -> Result<Option<Elsewhere>, TransferFault> {
-        match self.moved_out(files, key) {
-            Some(place) => Ok(Some(Elsewhere::Moved(self.copy_path(files, place)?))),
-            None => Ok(None),
-        }
     }
 
     // The bytes of an object that is to be deleted or written over are in a file of the Shell, and in no other file of the folder; or it is

@@ -189,6 +189,8 @@ impl Mirror {
     ) -> Result<(), TransferFault> {
         if is_there {
             self.reports.add_lost(key)?;
+            let place = self.place_of(key)?;
+            self.moves.note_replaced(&place);
             self.backups.note_replaced();
         }
         if is_there && self.overruled.is_none() {

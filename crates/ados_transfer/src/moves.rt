@@ -14,10 +14,19 @@ use std::collections::BTreeMap;
 use std::fmt;
 use std::fmt::{Display, Formatter, Write};
 
-/// The places of what was moved, each by the key of the file of the folder that it was at the last comparison.
+/// Where a file of the folder went.
+#[derive(Drop)]
+pub enum Destination {
+    /// It is at this place.
+    At(Place),
+    /// What it was moved to gave way to what came in from the folder.
+    Replaced,
+}
+
+/// What was moved, each by the key of the file of the folder that it was at the last comparison.
 #[derive(Drop)]
 pub struct Moves {
-    by_key: BTreeMap<String, Place>,
+    by_key: BTreeMap<String, Destination>,
 }
 
 impl Moves {
@@ -28,29 +37,57 @@ impl Moves {
         }
     }
 
-    /// Where the file of this key is now.
-    pub fn place(&self, key: &str) -> Option<&Place>
+    /// Where the file of this key went.
+    pub fn destination(&self, key: &str) -> Option<&Destination>
         ensures { option_copied result ≡ get_by_text self.now.by_key key.now }
     {
         self.by_key.get(key)
     }
 
-    /// The place of the file of this key, which is followed no longer.
-    pub fn take(&mut self, key: &str) -> Option<Place> {
+    /// Where the file of this key went, which is followed no longer.
+    pub fn take(&mut self, key: &str) -> Option<Destination> {
         self.by_key.remove(key)
     }
 
     // Another object was moved to this place.
     fn has_at(&self, place: &Place) -> bool {
-        self.by_key.values().any(|other| other == place)
+        self.by_key.values().any(|other| matches!(other, Destination::At(other) if other == place))
     }
 
     // What was moved before moves along.
     fn carry(&mut self, from: &Place, to: &Place) -> Result<(), NoMemory> {
-        for place in self.by_key.values_mut() {
-            *place = place.carried(from, to)?;
+        for destination in self.by_key.values_mut() {
+            destination.carry(from, to)?;
         }
         Ok(())
+    }
+
+    /// What is at or below a place gives way to what comes in from the folder.
+    pub fn note_replaced(&mut self, place: &Place) {
+        for destination in self.by_key.values_mut() {
+            if matches!(destination, Destination::At(other) if other.names().starts_with(place.names()))
+            {
+                *destination = Destination::Replaced;
+            }
+        }
+    }
+}
+
+impl Destination {
+    /// It moves along with an object that was renamed.
+    pub fn carry(&mut self, from: &Place, to: &Place) -> Result<(), NoMemory> {
+        if let Destination::At(place) = self {
+            *self = Destination::At(place.carried(from, to)?);
+        }
+        Ok(())
+    }
+
+    /// The script deleted what was moved.
+    pub fn is_deleted(&self, files: &Ram) -> bool {
+        match self {
+            Destination::At(place) => !is_file(files, place),
+            Destination::Replaced => false,
+        }
     }
 }
 
@@ -99,7 +136,7 @@ impl Mirror {
         self.moves.carry(from, to)?;
         self.backups.carry(from, to)?;
         for (key, place) in begun {
-            self.moves.by_key.insert(key, place)?;
+            self.moves.by_key.insert(key, Destination::At(place))?;
         }
         Ok(())
     }
@@ -108,8 +145,23 @@ impl Mirror {
     fn begins_to_move(&self, key: &str, record: &Record, from: &Place) -> bool {
         matches!(&record.last, Last::File(bytes) if bytes.len() > 0)
             && record.place.names().starts_with(from.names())
-            && self.moves.place(key).is_none()
+            && self.moves.destination(key).is_none()
             && !self.moves.has_at(&record.place)
+    }
+
+    /// After an event: what the script deleted is followed no longer, so that another object in its place is not taken for it.
+    pub fn forget_deleted(&mut self, files: &Ram) -> Result<(), TransferFault> {
+        let mut deleted = Vec::new(self.alloc);
+        for (key, destination) in &self.moves.by_key {
+            if destination.is_deleted(files) {
+                deleted.push(key.clone()?)?;
+            }
+        }
+        for key in &deleted {
+            self.moves.take(key.as_str());
+        }
+        self.backups.forget_deleted(files);
+        Ok(())
     }
 
     // What is in its place again as it was at the last comparison is followed no longer.
@@ -130,15 +182,28 @@ impl Mirror {
         Ok(())
     }
 
-    // The place outside of the directory to which the script moved the file of a key, if it is still there.
-    pub(crate) fn moved_out<'a>(&'a self, files: &Ram, key: &str) -> Option<&'a Place> {
-        let place = self.moves.place(key)?;
-        self.is_out(files, place).then_some(place)
+    // Where the Shell has what was moved, if that would be gone with its files, or gave way to what came in.
+    pub(crate) fn destined_elsewhere(
+        &self,
+        files: &Ram,
+        destination: Option<&Destination>,
+    ) -> Result<Option<Elsewhere>, TransferFault> {
+        match destination {
+            Some(Destination::At(place)) if self.is_out(files, place) => {
+                Ok(Some(Elsewhere::Moved(self.copy_path(files, place)?)))
+            }
+            Some(Destination::Replaced) => Ok(Some(Elsewhere::Replaced)),
+            _ => Ok(None),
+        }
     }
 
     // A file is at a place that is not in the directory.
-    pub(crate) fn is_out(&self, files: &Ram, place: &Place) -> bool {
-        !place.names().starts_with(self.place.names())
-            && files.look(place).is_some_and(|entry| !entry.is_directory())
+    fn is_out(&self, files: &Ram, place: &Place) -> bool {
+        !place.names().starts_with(self.place.names()) && is_file(files, place)
     }
+}
+
+// A file is at a place.
+fn is_file(files: &Ram, place: &Place) -> bool {
+    files.look(place).is_some_and(|entry| !entry.is_directory())
 }

@@ -103,7 +103,7 @@ impl Share {
         ensures held { session.new.held ≡ session.old.held }
         ensures ran { RunsLines world.old world.new }
     {
-        self.follow(session)?;
+        self.follow(world, session)?;
         self.mirror.watch(world.files())?;
         if !self.is_filled {
             if is_ready && world.wants_line() {
@@ -130,8 +130,8 @@ impl Share {
         Ok(())
     }
 
-    // What the event before renamed is followed.
-    fn follow(&mut self, session: &mut Session<'_>) -> Result<(), Fault>
+    // What the event before renamed is followed, and what it deleted no longer.
+    fn follow(&mut self, world: &World, session: &mut Session<'_>) -> Result<(), Fault>
         ensures children { session.new.children ≡ session.old.children }
         ensures schedule { session.new.schedule ≡ session.old.schedule }
         ensures held { session.new.held ≡ session.old.held }
@@ -139,7 +139,7 @@ impl Share {
         if let Some(renamed) = session.take_renamed() {
             self.mirror.follow(&renamed.from, &renamed.to)?;
         }
-        Ok(())
+        Ok(self.mirror.forget_deleted(world.files())?)
     }
 
     /// Writes what changed to the folder at the end, and goes back to where this process was started. `false` if the two sides are not alike then.
