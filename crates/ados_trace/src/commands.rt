@@ -1,7 +1,7 @@
 //! `--trace`: the line on a command that is taken.
 
+use crate::escapes::shown_bytes;
 use crate::names::{ScriptNames, script_name};
-use crate::shown::shown_bytes;
 use ados_flow::Frame;
 use ados_items::trimmed;
 use ados_shell::Shell;

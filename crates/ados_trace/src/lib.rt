@@ -2,11 +2,11 @@
 //! Tells each command that a script takes, as `--trace` of both programs does.
 
 mod commands;
+mod escapes;
 mod names;
-mod shown;
 mod ticks;
 mod traced;
 
+pub use escapes::{escaped, shown, shown_bytes};
 pub use names::{FullPaths, ScriptNames, script_name};
-pub use shown::{escaped, shown, shown_bytes};
 pub use traced::Traced;

@@ -1,6 +1,6 @@
 //! What a script is called where something is told of it.
 
-use crate::shown::shown;
+use crate::escapes::shown;
 use ados_flow::{Frame, FrameKind};
 use ados_text::{NoMemory, Text};
 use std::alloc::Global;

@@ -2,8 +2,8 @@
 ghost use Rattle.std.specs.Prelude.{◌≡◌, IfOk};
 
 use crate::commands::command_line;
+use crate::escapes::escaped;
 use crate::names::ScriptNames;
-use crate::shown::escaped;
 use crate::ticks::Ticks;
 use ados_launch::{Next, Sink};
 use ados_machine::EndReport;
