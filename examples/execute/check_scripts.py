@@ -25,6 +25,8 @@ WRONG = {
     ("bad_directives.dialogue", "S:foo"): [1],
     ("bad_directives.dialogue", "S:directive"): [2],
     ("deepest.dialogue", "S:bad"): [1],
+    ("full_skip.dialogue", "S:e"): [3, 5],
+    ("full_skip.dialogue", "S:j"): [1],
     ("if_faults.dialogue", "S:two"): [6, 7],
     ("if_faults.dialogue", "S:value"): [2, 3],
     ("key_faults.dialogue", "S:bad1"): [1],
