@@ -9,3 +9,5 @@ pub mod Backups
 pub mod Here
 pub mod Records
 pub mod Changes
+pub mod Moves
+pub mod Volumes

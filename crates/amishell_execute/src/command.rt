@@ -43,9 +43,9 @@ PATH, in which no name is . or .. and no folder a link. May be given again";
 const TYPE: &str = "A line that is typed before the script. May be given again";
 
 const SHARE: &str =
-    "Shares a folder of this machine: it stands as RAM:Work, or as PATH, and the script begins there. Before
-each program starts what changed there is written to the folder, and what the program changes in the
-folder comes in when it ends";
+    "Shares a folder of this machine: it stands as RAM:Work, or as PATH, which may be a device that the Shell lacks, as
+Work:. Before each program starts what changed there is written to the folder, and what the program changes in the
+folder comes in when it ends. May be given again; the script begins in the first";
 
 const ALL: &str = "Shares also what has a name that begins with a dot";
 
@@ -53,7 +53,7 @@ const PART: &str =
     "Shares what fits of a folder that has more files and folders than the Shell can hold; without it nothing runs then";
 
 const DRY: &str =
-    "Tells what would be written to the shared folder and deleted there, and writes nothing itself; programs
+    "Tells what would be written to the shared folders and deleted there, and writes nothing itself; programs
 and --take write as ever";
 
 const QUOTE: &str = "Quotes each of ARGS, so that none is the name of an option of .KEY";
@@ -63,7 +63,7 @@ const STRIKE: &str =
 DATES, NOREQ and BUFFER of Copy, FORCE of Delete, KEYS, DATES, NODATES, BLOCK and NOHEAD of List, and
 QUIET where there is none";
 
-const STRICT: &str = "As without it: a line that must not be run as it is ends the run";
+const STRICT: &str = "As without --lenient: a line that must not be run as it is ends the run";
 
 const LENIENT: &str =
     "Reports the lines of the script that give a command an option of Release 2 that the Shell leaves out, or
@@ -103,6 +103,13 @@ const TRACE: &str =
     "Writes each command that a script takes on standard error before it runs, as + build:12: Copy a b: a + for
 each script that runs, and in brackets the shell of a Run";
 
+const CONFIG: &str =
+    "A file of options, one in each line, as they are typed but without quoting; what is typed comes after
+them, and wins. By default it is amishell/options in the folder XDG_CONFIG_HOME, or else in .config of
+HOME, if it is there";
+
+const NO_CONFIG: &str = "Reads no file of options";
+
 const SCRIPT: &str = "The script, a file of this machine, and its arguments";
 
 /// The matches of the words after the program's name, or `clap`'s error.
@@ -110,11 +117,6 @@ pub fn matches_of_words<'a, S: AsStr>(
     alloc: Global,
     words: &'a [S],
 ) -> Result<ArgMatches<'a>, Error> {
-    command(alloc)?.try_get_matches_from(words)
-}
-
-// `amishell-execute` with its options.
-fn command<'a>(alloc: Global) -> Result<Command<'a>, AllocError> {
     let script = Arg::new(alloc, "script")
         .value_name("SCRIPT [ARGS]")
         .help(SCRIPT)
@@ -122,6 +124,19 @@ fn command<'a>(alloc: Global) -> Result<Command<'a>, AllocError> {
         .required(true)
         .trailing_var_arg(true)
         .action(ArgAction::Append);
+    command(alloc)?.arg(script)?.try_get_matches_from(words)
+}
+
+/// The matches of options without a script, or `clap`'s error.
+pub fn matches_of_options<'a, S: AsStr>(
+    alloc: Global,
+    options: &'a [S],
+) -> Result<ArgMatches<'a>, Error> {
+    command(alloc)?.try_get_matches_from(options)
+}
+
+// `amishell-execute` with its options.
+fn command<'a>(alloc: Global) -> Result<Command<'a>, AllocError> {
     Command::new(alloc, "amishell-execute")
         .about(ABOUT)
         .version(VERSION)
@@ -136,7 +151,7 @@ fn command<'a>(alloc: Global) -> Result<Command<'a>, AllocError> {
         .arg(list_option(alloc, "bring", "PATH[=NAME]", BRING))?
         .arg(list_option(alloc, "take", "NAME[=PATH]", TAKE))?
         .arg(list_option(alloc, "type", "LINE", TYPE))?
-        .arg(text_option(alloc, "share", "FOLDER[=PATH]", SHARE))?
+        .arg(list_option(alloc, "share", "FOLDER[=PATH]", SHARE))?
         .arg(flag(alloc, "all", ALL))?
         .arg(flag(alloc, "part", PART))?
         .arg(flag(alloc, "dry", DRY))?
@@ -153,7 +168,8 @@ fn command<'a>(alloc: Global) -> Result<Command<'a>, AllocError> {
         .arg(text_option(alloc, "ok-below", "N", OK_BELOW))?
         .arg(flag(alloc, "quiet", QUIET))?
         .arg(flag(alloc, "trace", TRACE))?
-        .arg(script)
+        .arg(text_option(alloc, "config", "FILE", CONFIG))?
+        .arg(flag(alloc, "no-config", NO_CONFIG))
 }
 
 // An option with a value.

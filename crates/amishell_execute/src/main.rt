@@ -6,6 +6,7 @@ ghost use Rattle.ados_launch.specs.Agreement.{Agrees};
 
 mod checks;
 mod command;
+mod config;
 mod deadline;
 mod delivery;
 mod descriptors;
@@ -13,6 +14,7 @@ mod due;
 mod ends;
 mod error_codes;
 mod faults;
+mod given;
 mod home;
 mod host_faults;
 mod hosts;
@@ -21,6 +23,8 @@ mod launcher;
 mod losses;
 mod lost_jumps;
 mod mistakes;
+mod numbers;
+mod option_lines;
 mod origins;
 mod pace;
 mod play;
@@ -43,6 +47,7 @@ use ados_trace::Traced;
 use ados_transfer::{Lines, Plan, TransferFault, bring, bring_script, take, taken_place};
 use ados_world::World;
 use checks::{Checks, read_checked};
+use config::Config;
 use deadline::Deadline;
 use descriptors::held_descriptors;
 use error_codes::{ErrorCode, error_codes};
@@ -60,7 +65,7 @@ use std::io::{Eprint, Write};
 use std::process::{ExitCode, Processes};
 use std::rt::{Env, Files};
 use std::time::Clock;
-use std::{env, fs, io};
+use std::{fs, io};
 use teller::Teller;
 use trail::Trail;
 use watched::Watched;
@@ -81,13 +86,25 @@ fn main(rt: HostRuntime) -> ExitCode {
 fn run<R: Env + AllocGlobal + Files + Input + Print + Eprint + Processes + Clone + Drop + Clock>(
     rt: &R,
 ) -> Result<Status, Fault> {
-    let words = given_words(rt)?;
-    match reading::asked(rt.alloc(), &words) {
+    let words = reading::given_words(rt)?;
+    let typed = match reading::typed(rt.alloc(), &words) {
+        Ok(typed) => typed,
+        Err(refused) => return answer(rt, refused),
+    };
+    let config = Config::find(rt, &typed)?;
+    match reading::asked(rt.alloc(), typed, &config) {
         Ok(options) if options.check => inspect_all(rt, &options),
         Ok(options) => execute(rt, &options),
-        Err(Refused::Help(text)) => show(rt, &text),
-        Err(Refused::BadLine(reason)) => Err(Fault::BadLine(reason)),
-        Err(Refused::NoMemory) => Err(Fault::Memory),
+        Err(refused) => answer(rt, refused),
+    }
+}
+
+// What follows where the words are not run: the help or the version is written, or there is a fault.
+fn answer<R: Print>(rt: &R, refused: Refused) -> Result<Status, Fault> {
+    match refused {
+        Refused::Help(text) => show(rt, &text),
+        Refused::BadLine(reason) => Err(Fault::BadLine(reason)),
+        Refused::NoMemory => Err(Fault::Memory),
     }
 }
 
@@ -96,22 +113,6 @@ fn show<R: Print>(rt: &R, text: &Text) -> Result<Status, Fault> {
     match io::writer(rt).write_all(text.as_bytes()) {
         Ok(()) => Ok(Status::Done),
         Err(_) => Err(Fault::Write),
-    }
-}
-
-// The words after the program's name.
-fn given_words<R: Env + AllocGlobal>(rt: &R) -> Result<Vec<String>, Fault> {
-    let all = match env::args(rt) {
-        Ok(all) => all,
-        Err(error) if error.kind() == io::ErrorKind::OutOfMemory => return Err(Fault::Memory),
-        Err(_) => {
-            let reason = String::from_str(rt.alloc(), "a word is not UTF-8")?;
-            return Err(Fault::BadLine(reason));
-        }
-    };
-    match all.skip(1).collect::<Vec<String>>(rt.alloc()) {
-        Ok(words) => Ok(words),
-        Err(_) => Err(Fault::Memory),
     }
 }
 
@@ -127,7 +128,7 @@ fn execute<
     run_script(rt, options, errors.as_slice(), &mut world, &mut share)
 }
 
-// The folder that is shared, if one is.
+// The folders that are shared, if any are.
 fn opened<R: Env + AllocGlobal + Files + Clone + Drop + Clock>(
     rt: &R,
     options: &Options<'_>,
@@ -136,13 +137,13 @@ fn opened<R: Env + AllocGlobal + Files + Clone + Drop + Clock>(
     requires agrees { Agrees world.old [] }
     ensures agrees { OnOk result (Agrees world.new []) }
 {
-    match options.share {
-        Some(words) => match Share::open(rt, words, options.mirror, world) {
-            Ok(share) => Ok(Some(share)),
-            Err(Fault::Transfer(TransferFault::CannotRead(path))) => Err(Fault::NoFolder(path)),
-            Err(fault) => Err(fault),
-        },
-        None => Ok(None),
+    if options.share.is_empty() {
+        return Ok(None);
+    }
+    match Share::open(rt, options.share.as_slice(), options.mirror, world) {
+        Ok(share) => Ok(Some(share)),
+        Err(Fault::Transfer(TransferFault::CannotRead(path))) => Err(Fault::NoFolder(path)),
+        Err(fault) => Err(fault),
     }
 }
 
@@ -161,12 +162,11 @@ fn run_script<
     let mut plan = Plan::new(rt.alloc(), options.mirror.limits, world.files())?;
     let script = add_files(rt, options, world, &mut plan)?;
     let lines = lines_for(rt, options, share.as_ref(), &plan, &script)?;
-    let shared = share.as_ref().map(|share| share.place());
-    let origins = Origins::new(rt, plan.planned(), options.share, shared)?;
-    let kept = Kept::new(rt.alloc(), world.files(), plan.planned(), &script)?;
+    let mut origins = Origins::new(rt.alloc(), plan.planned());
     if let Some(share) = share.as_ref() {
-        share.enter(rt)?;
+        origins.add_shares(rt, options.share.as_slice(), share.volumes())?;
     }
+    let kept = Kept::new(rt.alloc(), world.files(), plan.planned(), &script)?;
     let script = Script {
         planned: plan.planned(),
         lines: &lines,
@@ -200,7 +200,7 @@ fn run_script<
     Ok(if is_taken { status } else { Status::Failed })
 }
 
-// Reports that the shared folder is not as the script left it, and with which code the script ended, if it did.
+// Reports that a shared folder is not as the script left it, and with which code the script ended, if it did.
 fn report_lacking<R: AllocGlobal + Eprint>(rt: &R, code: Option<Code>) -> Result<Status, Fault> {
     let mut line = String::from_str(rt.alloc(), "the shared folder and the Shell's files differ")?;
     if let Some(Code(number)) = code {
@@ -238,7 +238,9 @@ fn tell_gone<R: AllocGlobal + Eprint>(
     mut kept: Kept<'_>,
 ) -> Result<(), Fault> {
     if let Some(share) = share {
-        kept.add(share.place())?;
+        for volume in share.volumes() {
+            kept.add(&volume.place)?;
+        }
     }
     for words in &options.take {
         if let Some(place) = taken_place(rt.alloc(), world.files(), world.assigns(), words)? {
@@ -248,8 +250,8 @@ fn tell_gone<R: AllocGlobal + Eprint>(
     tell_losses(rt, world.files(), &kept)
 }
 
-// Brings the shared folder up to date, if there is one; gives whether all was done.
-fn close<R: Env + AllocGlobal + Files + Eprint + Clone + Drop + Clock>(
+// Brings the shared folders up to date, if there are any; gives whether all was done.
+fn close<R: AllocGlobal + Files + Eprint + Clone + Drop + Clock>(
     rt: &R,
     world: &World,
     share: Option<&mut Share>,
