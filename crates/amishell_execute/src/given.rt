@@ -55,6 +55,14 @@ impl<'a> Given<'a> {
         Ok(hosts)
     }
 
+    /// The words of `--share`: those of the command line, if it has any. Whoever names a folder there wants no other one changed.
+    pub fn shares(&self) -> &[&'a str] {
+        match self.typed.get_strs("share") {
+            Some(words) => words,
+            None => self.file.get_strs("share").unwrap_or(&[]),
+        }
+    }
+
     /// Whether lines that must not be run as they are run all the same: `--strict` of the command line undoes `--lenient` of the file.
     pub fn is_lenient(&self) -> bool {
         self.typed.get_flag("lenient")

@@ -63,7 +63,7 @@ pub fn asked<'a>(
     let numbers = Numbers::of(alloc, &typed)?.or(Numbers::of(alloc, &file)?);
     let given = Given { typed, file };
     for name in ["all", "part", "dry"] {
-        if given.typed.get_flag(name) && given.get_str("share").is_none() {
+        if given.typed.get_flag(name) && given.shares().is_empty() {
             return Err(bad_line(format!(in alloc; "--{name} needs --share")));
         }
     }
@@ -93,7 +93,7 @@ fn options<'a>(
         bring: matches.list(alloc, "bring")?,
         take: matches.list(alloc, "take")?,
         typed: matches.list(alloc, "type")?,
-        share: matches.get_str("share"),
+        share: matches.shares().to_vec(alloc)?,
         mirror: MirrorOptions {
             all: matches.get_flag("all"),
             part: matches.get_flag("part"),
