@@ -56,11 +56,12 @@ impl<'a> Given<'a> {
     }
 
     /// The words of `--share`: those of the command line, if it has any. Whoever names a folder there wants no other one changed.
-    pub fn shares(&self) -> &[&'a str] {
-        match self.typed.get_strs("share") {
-            Some(words) => words,
-            None => self.file.get_strs("share").unwrap_or(&[]),
+    pub fn shares(&self, alloc: Global) -> Result<Vec<&'a str>, AllocError> {
+        let typed = self.typed.get_strs("share").unwrap_or(&[]);
+        if typed.is_empty() {
+            return self.list(alloc, "share");
         }
+        typed.to_vec(alloc)
     }
 
     /// Whether lines that must not be run as they are run all the same: `--strict` of the command line undoes `--lenient` of the file.

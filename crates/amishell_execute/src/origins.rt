@@ -14,16 +14,16 @@ pub struct Origins<'a> {
     // What was brought in.
     planned: &'a [Planned],
     // The directories that are shared.
-    shares: Vec<Shared<'a>>,
+    shares: Vec<Shared>,
 }
 
 // A directory of the Shell that is shared.
 #[derive(Drop)]
-struct Shared<'a> {
+struct Shared {
     // Its full path.
     directory: Text,
     // Its folder, as it was named.
-    folder: &'a str,
+    folder: String,
 }
 
 impl<'a> Origins<'a> {
@@ -40,13 +40,13 @@ impl<'a> Origins<'a> {
     pub fn add_shares<R: Files>(
         &mut self,
         rt: &R,
-        words: &[&'a str],
+        words: &[&str],
         volumes: &[Volume],
     ) -> Result<(), NoMemory> {
         for (words, volume) in words.iter().zip(volumes) {
             self.shares.push(Shared {
                 directory: volume.place.path(self.alloc)?,
-                folder: parted(rt, words).0,
+                folder: String::from_str(self.alloc, parted(rt, words).0)?,
             })?;
         }
         Ok(())
@@ -71,7 +71,7 @@ impl ScriptNames for Origins<'_> {
     }
 }
 
-impl Shared<'_> {
+impl Shared {
     // The path of a file in the folder, if it is below the directory.
     fn name(&self, alloc: Global, file: &Text) -> Result<Option<String>, NoMemory> {
         let path = shown(file);
@@ -89,7 +89,7 @@ impl Shared<'_> {
 
     // The path of what is below the folder; nothing is before it if that is the current one.
     fn path(&self, alloc: Global, below: &str) -> Result<String, NoMemory> {
-        match self.folder {
+        match self.folder.as_str() {
             "." | "./" => Ok(String::from_str(alloc, below)?),
             folder => match step_into(alloc, folder, below) {
                 Ok(path) => Ok(path),

@@ -62,8 +62,9 @@ pub fn asked<'a>(
     let file = config.matches(alloc)?;
     let numbers = Numbers::of(alloc, &typed)?.or(Numbers::of(alloc, &file)?);
     let given = Given { typed, file };
+    let has_share = !given.list(alloc, "share")?.is_empty();
     for name in ["all", "part", "dry"] {
-        if given.typed.get_flag(name) && given.shares().is_empty() {
+        if given.typed.get_flag(name) && !has_share {
             return Err(bad_line(format!(in alloc; "--{name} needs --share")));
         }
     }
@@ -93,7 +94,7 @@ fn options<'a>(
         bring: matches.list(alloc, "bring")?,
         take: matches.list(alloc, "take")?,
         typed: matches.list(alloc, "type")?,
-        share: matches.shares().to_vec(alloc)?,
+        share: matches.shares(alloc)?,
         mirror: MirrorOptions {
             all: matches.get_flag("all"),
             part: matches.get_flag("part"),
