@@ -62,9 +62,8 @@ pub fn asked<'a>(
     let file = config.matches(alloc)?;
     let numbers = Numbers::of(alloc, &typed)?.or(Numbers::of(alloc, &file)?);
     let given = Given { typed, file };
-    let has_share = !given.list(alloc, "share")?.is_empty();
     for name in ["all", "part", "dry"] {
-        if given.typed.get_flag(name) && !has_share {
+        if given.typed.get_flag(name) && given.get_str("share").is_none() {
             return Err(bad_line(format!(in alloc; "--{name} needs --share")));
         }
     }
