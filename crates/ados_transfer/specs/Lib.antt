@@ -9,3 +9,4 @@ pub mod Backups
 pub mod Here
 pub mod Records
 pub mod Changes
+pub mod Moves

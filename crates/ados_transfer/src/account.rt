@@ -6,6 +6,7 @@ ghost use Rattle.ados_ram.specs.Entry.{bytes_of};
 ghost use Rattle.ados_transfer.specs.Account.{first_path, is_in_unwritten, is_substring, with_bytes_of};
 
 use crate::faults::TransferFault;
+use crate::moves::Destination;
 use crate::records::Record;
 use ados_ram::{Body, Entry, FileBytes};
 use ados_text::NoMemory;
@@ -58,6 +59,8 @@ pub struct Aside {
     pub beside: Option<String>,
     /// Its mode (permissions).
     pub mode: u32,
+    /// Where the script moved it, if it did.
+    pub moved: Option<Destination>,
 }
 
 impl Account {

@@ -4,26 +4,21 @@ ghost use Rattle.ados_ram.specs.Entry.{bytes_of};
 ghost use Rattle.ados_transfer.specs.Backups.{needs_backup, retention_of};
 
 use crate::account::{Moment, is_part_of};
-use crate::departure::own_path;
 use crate::faults::TransferFault;
 use crate::here::Here;
 use crate::last_copies::Holders;
 use crate::mirror::Mirror;
 use crate::moves::{Destination, Elsewhere};
-use crate::paths::last_piece;
-use crate::placing::{Draft, holds, place_new};
+use crate::placing::{Draft, holds};
 use crate::records::Last;
-use crate::writing::{Manner, write_beside};
+use crate::remainders::Remainder;
+use crate::writing::{Manner, no_memory, write_beside};
 use ados_ram::{FileBytes, Place, Ram};
 use ados_text::NoMemory;
 use std::alloc::Global;
 use std::collections::BTreeMap;
-use std::io::{Error, ErrorKind};
 use std::rt::Files;
 use std::{fs, io};
-
-// As many names are tried for one that stays.
-const NAMES: u32 = 1000;
 
 /// The backups of a share.
 #[derive(Drop)]
@@ -42,13 +37,6 @@ struct Backup {
     bytes: FileBytes,
     mode: u32,
     moved: Option<Destination>,
-}
-
-// A backup that stays at the end: its path, and where the Shell has the file.
-#[derive(Drop)]
-struct Remainder {
-    path: String,
-    elsewhere: Elsewhere,
 }
 
 /// What becomes of a backup after an update.
@@ -122,29 +110,19 @@ impl Backups {
             .insert(String::from_str(self.alloc, path)?, backup)?;
         Ok(())
     }
-
-    // The line that reports what stays, given the name that the first one has now.
-    fn line(&self, name: &str, first: &Remainder, more: usize) -> Result<String, TransferFault> {
-        let elsewhere = &first.elsewhere;
-        let original = match self.by_path.get(first.path.as_str()) {
-            Some(backup) => backup.original.as_str(),
-            None => "",
-        };
-        if more == 0 {
-            return Ok(format!(in self.alloc; "kept as {name}, since {elsewhere}: {original}")?);
-        }
-        Ok(format!(in self.alloc; "kept as {name}, since {elsewhere}: {original} and {more} more")?)
-    }
 }
 
 impl Mirror {
-    // Copies a file that is to be written over to a temporary file, which has its permissions.
+    // Copies a file that is to be written over to a temporary file, which has its permissions. Where the script moved the file is
+    // still followed: it may stay in its place.
     pub(crate) fn back_up<R: AllocGlobal + Files>(
         &mut self,
         rt: &R,
         object: (&str, &str),
         here: &Here,
-    ) -> io::Result<()> {
+    ) -> io::Result<()>
+        ensures followed { self.new.moves ≡ self.old.moves }
+    {
         let (key, path) = object;
         let (Here::File { mode, .. }, Some(record)) = (here, self.records.get(key)) else {
             return Ok(());
@@ -152,18 +130,21 @@ impl Mirror {
         let Last::File(bytes) = &record.last else {
             return Ok(());
         };
+        let Ok(moved) = self.moves.copy(key) else {
+            return Err(no_memory());
+        };
         let backup = Backup {
             original: String::from_str(self.alloc, path)?,
             bytes: bytes.clone()?,
             mode: *mode,
-            moved: self.moves.take(key),
+            moved,
         };
         let beside = write_beside(rt, "", bytes, Manner::Mode(*mode))?;
         match self.backups.add(beside.as_str(), backup) {
             Ok(()) => Ok(()),
             Err(_) => {
                 let _ = fs::remove_file(rt, beside.as_str());
-                Err(Error::from(ErrorKind::OutOfMemory))
+                Err(no_memory())
             }
         }
     }
@@ -191,6 +172,7 @@ impl Mirror {
             ) {
                 (Retention::Stays, Some(elsewhere)) => remainders.push(Remainder {
                     path: path.clone()?,
+                    original: backup.original.clone()?,
                     elsewhere,
                 })?,
                 (Retention::Goes, _) => over.push(path.clone()?)?,
@@ -236,75 +218,6 @@ impl Mirror {
         }
         Ok(())
     }
-
-    // Gives the backups that stay names of their own, and reports the first. One that another program deleted has none.
-    fn keep_remainders<R: AllocGlobal + Files>(
-        &mut self,
-        rt: &R,
-        remainders: &[Remainder],
-    ) -> Result<(), TransferFault> {
-        let mut named = Vec::new(self.alloc);
-        for remainder in remainders {
-            self.backups.have_stayed = true;
-            if fs::symlink_metadata(rt, remainder.path.as_str()).is_ok() {
-                let name = self.own_name(rt, remainder.path.as_str())?;
-                named.push((name, remainder))?;
-            }
-        }
-        let [(name, first), more @ ..] = named.as_slice() else {
-            return Ok(());
-        };
-        let line = self.backups.line(name.as_str(), first, more.len())?;
-        self.reports.report_line(line)
-    }
-
-    // Gives a backup a name of its own: beside the place of the file, or else in the folder of the share itself. Gives the name; that is
-    // the temporary one if it can have no other.
-    fn own_name<R: AllocGlobal + Files>(
-        &self,
-        rt: &R,
-        path: &str,
-    ) -> Result<String, TransferFault> {
-        if let Some(backup) = self.backups.by_path.get(path) {
-            let original = backup.original.as_str();
-            for stem in [original, last_piece(original)] {
-                if let Some(name) = placed_as(rt, path, stem)? {
-                    return Ok(name);
-                }
-            }
-        }
-        Ok(String::from_str(self.alloc, path)?)
-    }
-}
-
-// Gives a file a name that begins like this and that nothing has; nothing if that can't be done.
-fn placed_as<R: AllocGlobal + Files>(
-    rt: &R,
-    path: &str,
-    stem: &str,
-) -> Result<Option<String>, TransferFault> {
-    for number in 0..NAMES {
-        let name = if number == 0 {
-            format!(in rt.alloc(); "{stem}.kept")?
-        } else {
-            format!(in rt.alloc(); "{stem}.kept{number}")?
-        };
-        match try_place(rt, path, name.as_str()) {
-            Ok(true) => return Ok(Some(name)),
-            Ok(false) => {}
-            Err(error) if error.kind() == ErrorKind::OutOfMemory => {
-                return Err(TransferFault::NoMemory);
-            }
-            Err(_) => return Ok(None),
-        }
-    }
-    Ok(None)
-}
-
-// Gives a file a path below the folder of the share; `false` if something has it.
-fn try_place<R: AllocGlobal + Files>(rt: &R, path: &str, name: &str) -> io::Result<bool> {
-    let target = own_path(rt, name)?;
-    place_new(rt, path, target.as_str())
 }
 
 /// A file that was seen needs a backup before another one takes its place: only the Shell has its bytes beside.

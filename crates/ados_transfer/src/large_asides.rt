@@ -40,6 +40,7 @@ impl Mirror {
             record,
             beside,
             mode,
+            moved: None,
         }))
     }
 

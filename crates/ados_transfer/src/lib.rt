@@ -29,6 +29,7 @@ mod placing;
 mod plan;
 mod planned;
 mod records;
+mod remainders;
 mod removals;
 mod reports;
 mod room;

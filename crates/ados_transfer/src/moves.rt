@@ -1,8 +1,11 @@
 //! Where files of the folder went in the Shell's files: each Rename is followed, so that a file that was moved out of the directory is
 //! known there, whatever its bytes are by then.
-ghost use Rattle.std.specs.Prelude.{◌≡◌};
+ghost use Rattle.std.specs.Prelude.{◌≡◌, IfOk, OnOk};
 ghost use Rattle.std.specs.Option.{option_copied};
 ghost use Rattle.std.specs.BTreeMap.{get_by_text};
+ghost use Rattle.std.specs.FinMap as map;
+ghost use Rattle.ados_ram.specs.Place.{key_of};
+ghost use Rattle.ados_transfer.specs.Moves.{destination_after, is_deleted, is_file};
 
 use crate::faults::TransferFault;
 use crate::mirror::Mirror;
@@ -44,9 +47,25 @@ impl Moves {
         self.by_key.get(key)
     }
 
+    /// The same, as a value of its own.
+    pub fn copy(&self, key: &str) -> Result<Option<Destination>, NoMemory>
+        ensures { IfOk result (λ destination. destination ≡ get_by_text self.now.by_key key.now) }
+    {
+        match self.destination(key) {
+            Some(destination) => Ok(Some(destination.copy()?)),
+            None => Ok(None),
+        }
+    }
+
     /// Where the file of this key went, which is followed no longer.
     pub fn take(&mut self, key: &str) -> Option<Destination> {
         self.by_key.remove(key)
+    }
+
+    /// The file of this key went there.
+    pub fn add(&mut self, key: String, destination: Destination) -> Result<(), TransferFault> {
+        self.by_key.insert(key, destination)?;
+        Ok(())
     }
 
     // Another object was moved to this place.
@@ -74,8 +93,20 @@ impl Moves {
 }
 
 impl Destination {
+    /// An equal value.
+    pub fn copy(&self) -> Result<Destination, NoMemory>
+        ensures { IfOk result (λ destination. destination ≡ self.now) }
+    {
+        Ok(match self {
+            Destination::At(place) => Destination::At(place.copy()?),
+            Destination::Replaced => Destination::Replaced,
+        })
+    }
+
     /// It moves along with an object that was renamed.
-    pub fn carry(&mut self, from: &Place, to: &Place) -> Result<(), NoMemory> {
+    pub fn carry(&mut self, from: &Place, to: &Place) -> Result<(), NoMemory>
+        ensures { OnOk result (self.new ≡ destination_after from.now to.now self.old) }
+    {
         if let Destination::At(place) = self {
             *self = Destination::At(place.carried(from, to)?);
         }
@@ -83,7 +114,9 @@ impl Destination {
     }
 
     /// The script deleted what was moved.
-    pub fn is_deleted(&self, files: &Ram) -> bool {
+    pub fn is_deleted(&self, files: &Ram) -> bool
+        ensures { result ≡ is_deleted files.now self.now }
+    {
         match self {
             Destination::At(place) => !is_file(files, place),
             Destination::Replaced => false,
@@ -136,7 +169,7 @@ impl Mirror {
         self.moves.carry(from, to)?;
         self.backups.carry(from, to)?;
         for (key, place) in begun {
-            self.moves.by_key.insert(key, Destination::At(place))?;
+            self.moves.add(key, Destination::At(place))?;
         }
         Ok(())
     }
@@ -204,6 +237,8 @@ impl Mirror {
 }
 
 // A file is at a place.
-fn is_file(files: &Ram, place: &Place) -> bool {
+fn is_file(files: &Ram, place: &Place) -> bool
+    ensures { result ≡ is_file (map.get files.now (key_of place.now)) }
+{
     files.look(place).is_some_and(|entry| !entry.is_directory())
 }

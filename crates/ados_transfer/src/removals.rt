@@ -172,11 +172,13 @@ impl Mirror {
         let Some((key, record)) = self.records.remove_entry(key) else {
             return Ok(true);
         };
+        let moved = self.moves.take(key.as_str());
         let aside = Aside {
             key,
             record,
             beside,
             mode,
+            moved,
         };
         match account.set_aside(aside) {
             Ok(()) => Ok(true),
@@ -213,12 +215,16 @@ impl Mirror {
             record,
             beside,
             mode,
+            moved,
         } = aside;
         match placed_back(rt, &record, beside.as_ref(), mode) {
             Ok(Some(stamp)) => {
                 let mut record = record;
                 record.stamp = stamp;
                 record.is_fresh = true;
+                if let Some(moved) = moved {
+                    self.moves.add(key.clone()?, moved)?;
+                }
                 self.records.insert(key, record)?;
                 Ok(())
             }

@@ -1,0 +1,106 @@
+//! Backups that stay at the end of a run: the names that they get, and the line that reports them.
+
+use crate::departure::own_path;
+use crate::faults::TransferFault;
+use crate::mirror::Mirror;
+use crate::moves::Elsewhere;
+use crate::paths::last_piece;
+use crate::placing::place_new;
+use std::alloc::Global;
+use std::io::ErrorKind;
+use std::rt::Files;
+use std::{fs, io};
+
+// As many names are tried for one backup.
+const NAMES: u32 = 1000;
+
+/// A backup that stays.
+#[derive(Drop)]
+pub struct Remainder {
+    /// Its path, which is that of a temporary file.
+    pub path: String,
+    /// The path of the file of which it is a copy.
+    pub original: String,
+    /// Where the Shell has that file.
+    pub elsewhere: Elsewhere,
+}
+
+impl Remainder {
+    // The line that reports it, given the name that it has now, and how many more stay.
+    fn line(&self, alloc: Global, name: &str, more: usize) -> Result<String, TransferFault> {
+        let Remainder {
+            original,
+            elsewhere,
+            ..
+        } = self;
+        if more == 0 {
+            return Ok(format!(in alloc; "kept as {name}, since {elsewhere}: {original}")?);
+        }
+        Ok(format!(in alloc; "kept as {name}, since {elsewhere}: {original} and {more} more")?)
+    }
+
+    // Gives it a name of its own: beside the place of the file, or else in the folder of the share itself. Gives the name; that is the
+    // temporary one if it can have no other.
+    fn own_name<R: AllocGlobal + Files>(&self, rt: &R) -> Result<String, TransferFault> {
+        let original = self.original.as_str();
+        for stem in [original, last_piece(original)] {
+            if let Some(name) = placed_as(rt, self.path.as_str(), stem)? {
+                return Ok(name);
+            }
+        }
+        Ok(self.path.clone()?)
+    }
+}
+
+impl Mirror {
+    // Gives the backups that stay names of their own, and reports the first. One that another program deleted has none.
+    pub(crate) fn keep_remainders<R: AllocGlobal + Files>(
+        &mut self,
+        rt: &R,
+        remainders: &[Remainder],
+    ) -> Result<(), TransferFault> {
+        let mut named = Vec::new(self.alloc);
+        for remainder in remainders {
+            self.backups.have_stayed = true;
+            if fs::symlink_metadata(rt, remainder.path.as_str()).is_ok() {
+                let name = remainder.own_name(rt)?;
+                named.push((name, remainder))?;
+            }
+        }
+        let [(name, first), more @ ..] = named.as_slice() else {
+            return Ok(());
+        };
+        let line = first.line(self.alloc, name.as_str(), more.len())?;
+        self.reports.report_line(line)
+    }
+}
+
+// Gives a file a name that begins like this and that nothing has; nothing if that can't be done.
+fn placed_as<R: AllocGlobal + Files>(
+    rt: &R,
+    path: &str,
+    stem: &str,
+) -> Result<Option<String>, TransferFault> {
+    for number in 0..NAMES {
+        let name = if number == 0 {
+            format!(in rt.alloc(); "{stem}.kept")?
+        } else {
+            format!(in rt.alloc(); "{stem}.kept{number}")?
+        };
+        match try_place(rt, path, name.as_str()) {
+            Ok(true) => return Ok(Some(name)),
+            Ok(false) => {}
+            Err(error) if error.kind() == ErrorKind::OutOfMemory => {
+                return Err(TransferFault::NoMemory);
+            }
+            Err(_) => return Ok(None),
+        }
+    }
+    Ok(None)
+}
+
+// Gives a file a path below the folder of the share; `false` if something has it.
+fn try_place<R: AllocGlobal + Files>(rt: &R, path: &str, name: &str) -> io::Result<bool> {
+    let target = own_path(rt, name)?;
+    place_new(rt, path, target.as_str())
+}
