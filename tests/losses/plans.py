@@ -4,7 +4,7 @@ import errno
 import signal
 
 from deeds import LINKS, MOVES, deed
-from names import ALL_PATHS, EXCHANGED, FOLDERS, NAMES
+from names import ALL_PATHS, EXCHANGED, FOLDERS, NAMES, OUT
 from rooms import Link, filled
 from steps import step
 
@@ -13,8 +13,9 @@ MOST_LINES = 16
 MOST_CALLS = 300
 # What is tried: `out` moves to T:; `folders` renames folders, also in a circle; `exchanges` lets files and directories change places, and nothing else;
 # `time` and `call` kill the run at a moment and before a call of a path, before which `meanwhile` lets another program act, and which fails with `error`;
-# `two` runs two scripts at a time. The others are kinds of objects and options.
-KINDS = ["out", "large", "links", "folders", "exchanges", "time", "call", "meanwhile", "error", "two", "dry"]
+# `two` runs two scripts at a time; `memory` compares a folder that nothing else changes with a run in memory alone. The others are kinds of objects and
+# options.
+KINDS = ["out", "large", "links", "folders", "exchanges", "time", "call", "meanwhile", "error", "two", "dry", "memory"]
 
 
 class Plan:
@@ -23,11 +24,11 @@ class Plan:
     def __init__(self, kind, numbers):
         self.kind, self.numbers, self.count = kind, numbers, 0
         self.before, self.modes, self.sizes, self.acts = {}, {}, {}, []
-        self.is_alone, self.is_dry = kind != "two", kind == "dry"
-        self.has_large = kind == "large" or numbers.random() < 0.4
-        self.has_exchanges = kind == "exchanges" or kind in ("time", "call") and numbers.random() < 0.5
+        self.is_alone, self.is_dry, self.is_compared = kind != "two", kind == "dry", kind == "memory"
+        self.has_large = not self.is_compared and (kind == "large" or numbers.random() < 0.4)
+        self.has_exchanges = kind == "exchanges" or kind in ("time", "call", "memory") and numbers.random() < 0.5
         # one that may not be written: what is added to it and then moved out is documented to be lost, so it is shown
-        self.has_closed = numbers.random() < 0.15
+        self.has_closed = numbers.random() < 0.15 and not self.is_compared
         self.make_before()
         self.scripts = [self.script() for _ in range(1 if self.is_alone else 2)]
         self.killed_at = numbers.random() * 1.2 if kind == "time" else None
@@ -63,7 +64,7 @@ class Plan:
             return numbers.sample(ALL_PATHS, numbers.randint(1, 7))
         paths = []
         for name in EXCHANGED:
-            inner = [f"{name}/{one}" for one in numbers.sample([*NAMES, ".h"], numbers.randint(1, 2))]
+            inner = [f"{name}/{one}" for one in numbers.sample(NAMES if self.is_compared else [*NAMES, ".h"], numbers.randint(1, 2))]
             paths += [name] if numbers.random() < 0.6 else inner
         return paths
 
@@ -79,6 +80,8 @@ class Plan:
             if numbers.random() < 0.3:
                 self.modes[f"f/{path}"] = numbers.choice([0o600, 0o755, 0o444 if self.has_closed else 0o666])
         self.before["out/x"] = b"outside\n"
+        if self.is_compared:
+            return
         for path in ["f/.h", "f/d/.h"]:
             if numbers.random() < 0.2 and "f/d" not in self.before:
                 self.before[path] = f"{self.token()}\n".encode()
@@ -94,7 +97,7 @@ class Plan:
 
     def act(self):
         """The line that starts the next program of this machine."""
-        count = 0 if self.is_dry or self.has_exchanges else self.numbers.randint(0, 3)
+        count = 0 if self.is_dry or self.has_exchanges or self.is_compared else self.numbers.randint(0, 3)
         self.acts.append([deed(self) for _ in range(count)])
         return f"sh ../act{len(self.acts) - 1}"
 
@@ -103,11 +106,20 @@ class Plan:
         steps = [[self.numbers.choice(["FailAt 100"] * 9 + ["FailAt 11"])]]
         while sum(map(len, steps)) < MOST_LINES:
             lines = step(self)
+            if self.is_compared and any(".n" in line for line in lines):
+                # a name that is not shared
+                continue
             # what a program shows may be changed by the other script before it is destroyed
             steps += [lines] if self.is_alone or not lines[0].startswith("show") else []
             if self.numbers.random() < 0.06:
                 break
-        return steps
+        return [*steps, *self.home()] if self.is_compared else steps
+
+    def home(self):
+        """The last steps, in which most of what is outside comes in or is deleted."""
+        numbers = self.numbers
+        return [[numbers.choice([f"Rename {out} new{place}", f"Rename {out} new{place}", f"Delete {out} ALL QUIET"])]
+                for place, out in enumerate([*OUT, "T:t", *(f"T:{name}" for name in EXCHANGED)]) if numbers.random() < 0.9]
 
     def between(self):
         """Before which call something comes, and what: the line of a program."""
@@ -123,9 +135,9 @@ class Plan:
     def chosen_options(self):
         numbers = self.numbers
         options = ["--core"] if self.sizes or numbers.random() < 0.5 else []
-        if not self.is_dry and numbers.random() < 0.15:
+        if not self.is_dry and not self.is_compared and numbers.random() < 0.15:
             options += ["--all"]
-        if numbers.random() < 0.08:
+        if not self.is_compared and numbers.random() < 0.08:
             options += ["--turns", str(numbers.randint(20, 120))]
         return options + (["--dry"] if self.is_dry else ["--take", "RAM:Work=taken"] if self.is_alone and not self.sizes else [])
 

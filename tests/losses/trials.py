@@ -14,6 +14,8 @@ TOKEN = re.compile(rb"[ts]\d+x")
 LARGE = re.compile(rb"(\d{5,}) bytes")
 WRITTEN = re.compile(rb"wrote-(\d+)")
 TEMPORARY = ".amishell-execute."
+# What a run in memory takes.
+MEMORY = ["Work", "Old", "T", "keep"]
 SHOW = b"""#!/bin/sh
 grep -raohE '[ts][0-9]+x' "$1" 2>/dev/null
 true
@@ -37,7 +39,7 @@ class Room:
         self.outside = self.beside()
 
     def beside(self):
-        return {path: what for path, what in look(self.room)[0].items() if path.startswith("out")}
+        return look(f"{self.room}/out")[0]
 
     def files(self):
         return {path: what for path, what in look(f"{self.room}/f")[0].items() if isinstance(what, bytes)}
@@ -70,8 +72,16 @@ class Room:
         with open(f"{self.room}/said{number}", "ab") as said:
             return subprocess.Popen(words, cwd=self.room, env=given, stdin=subprocess.DEVNULL, stdout=said, stderr=subprocess.PIPE, start_new_session=True)
 
+    def run_in_memory(self):
+        """The script on a copy of the folder in memory alone, where its programs do nothing; what it has at the end is taken."""
+        words = [self.program, "--host", "sh=/bin/true", "--host", "show=/bin/true", "--bring", "f=RAM:Work", "--type", "CD RAM:Work", *self.plan.options]
+        words += [word for name in MEMORY for word in ("--take", f"RAM:{name}=memory/{name}")]
+        subprocess.run([*words, "script0"], cwd=self.room, stdin=subprocess.DEVNULL, stdout=subprocess.DEVNULL, stderr=subprocess.DEVNULL, check=False)
+
     def run(self, seconds_each):
         """Runs the plan; gives the seconds that it took."""
+        if self.plan.is_compared:
+            self.run_in_memory()
         began = time.monotonic()
         children = [self.begin(number) for number in range(len(self.plan.scripts))]
         if self.plan.killed_at is not None:
@@ -102,7 +112,8 @@ class Room:
         if self.plan.is_dry:
             return None if self.look_at_all() == self.states else "a dry run changes the folder"
         self.stands = self.files()
-        return self.loss() or self.torn() or self.left() or self.difference() or self.without_a_line()
+        lost = self.beside_memory() if self.plan.is_compared else self.loss()
+        return lost or self.torn() or self.left() or self.difference() or self.without_a_line()
 
     def loss(self):
         """Tokens of the folder and of programs stand there, unless the script or a program showed them before it destroyed them."""
@@ -168,6 +179,27 @@ class Room:
         other = sorted(path for path in came.keys() | wanted.keys() if came.get(path) != wanted.get(path)
                        and not any(one.lower().startswith(path + "/") for one in unseen))
         return f"status {self.statuses[0]}, and the folder is not what the Shell has: {other}" if other else None
+
+    def beside_memory(self):
+        """What the script has in a run in memory alone, the folder has too, and nothing else, unless bytes of the folder are outside at the end: these it
+        has as well, and the status says so."""
+        taken = look(f"{self.room}/memory")[0]
+        if taken.get("Work") is not FOLDER:
+            return None
+        below = "Work/"
+        outside = {token for path, what in taken.items() if not path.startswith(below) and isinstance(what, bytes) for token in TOKEN.findall(what)}
+        before = set(TOKEN.findall(b"".join(self.before.values())))
+        lost = outside & before - set(TOKEN.findall(b"".join(self.stands.values())))
+        if lost:
+            return f"lost: {sorted(lost)}"
+        is_told = 125 in self.statuses
+        came, wanted = ({path.lower(): what for path, what in stands.items()} for stands in
+                        (look(f"{self.room}/f")[0], {path.removeprefix(below): what for path, what in taken.items() if path.startswith(below)}))
+        missing = sorted(path for path, what in wanted.items() if came.get(path) != what)
+        more = sorted(came.keys() - wanted.keys())
+        if missing or more and not (outside and is_told):
+            return f"status {self.statuses[0]}, and the folder is not what a run in memory has: {missing}, {more}"
+        return "status 125, and the folder is what the script has" if is_told and not outside else None
 
     def without_a_line(self):
         """Status 125 has its lines."""
