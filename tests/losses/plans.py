@@ -4,6 +4,7 @@ import errno
 import signal
 
 from deeds import LINKS, MOVES, deed
+from limits import FOR_ALL, FOR_ROOT, Limits
 from names import ALL_PATHS, EXCHANGED, FOLDERS, NAMES, OUT
 from rooms import Link, filled
 from steps import step
@@ -13,9 +14,9 @@ MOST_LINES = 16
 MOST_CALLS = 300
 # What is tried: `out` moves to T:; `folders` renames folders, also in a circle; `exchanges` lets files and directories change places, and nothing else;
 # `time` and `call` kill the run at a moment and before a call of a path, before which `meanwhile` lets another program act, and which fails with `error`;
-# `two` runs two scripts at a time; `memory` compares a folder that nothing else changes with a run in memory alone. The others are kinds of objects and
-# options.
-KINDS = ["out", "large", "links", "folders", "exchanges", "time", "call", "meanwhile", "error", "two", "dry", "memory"]
+# `two` runs two scripts at a time; `memory` compares a folder that nothing else changes with a run in memory alone; limits.py says what the last four are.
+# The others are kinds of objects and options.
+KINDS = ["out", "large", "links", "folders", "exchanges", "time", "call", "meanwhile", "error", "two", "dry", "memory", *FOR_ALL, *FOR_ROOT]
 
 
 class Plan:
@@ -25,8 +26,11 @@ class Plan:
         self.kind, self.numbers, self.count = kind, numbers, 0
         self.before, self.modes, self.sizes, self.acts = {}, {}, {}, []
         self.is_alone, self.is_dry, self.is_compared = kind != "two", kind == "dry", kind == "memory"
+        self.limits = Limits(kind, numbers) if kind in FOR_ALL + FOR_ROOT else None
         self.has_large = not self.is_compared and (kind == "large" or numbers.random() < 0.4)
-        self.has_exchanges = kind == "exchanges" or kind in ("time", "call", "memory") and numbers.random() < 0.5
+        self.has_exchanges = kind == "exchanges" or kind in ("time", "call", "error", "memory", *FOR_ALL, *FOR_ROOT) and numbers.random() < 0.5
+        # what a program copies there can be torn by itself
+        self.has_large = self.has_large and (self.has_exchanges or kind != "full")
         # one that may not be written: what is added to it and then moved out is documented to be lost, so it is shown
         self.has_closed = numbers.random() < 0.15 and not self.is_compared
         self.make_before()
@@ -109,8 +113,8 @@ class Plan:
             if self.is_compared and any(".n" in line for line in lines):
                 # a name that is not shared
                 continue
-            # what a program shows may be changed by the other script before it is destroyed
-            steps += [lines] if self.is_alone or not lines[0].startswith("show") else []
+            # what a program shows may be changed by the other script before it is destroyed; and with few descriptors it shows nothing
+            steps += [lines] if self.is_alone and self.kind != "few" or not lines[0].startswith("show") else []
             if self.numbers.random() < 0.06:
                 break
         return [*steps, *self.home()] if self.is_compared else steps
@@ -139,7 +143,11 @@ class Plan:
             options += ["--all"]
         if not self.is_compared and numbers.random() < 0.08:
             options += ["--turns", str(numbers.randint(20, 120))]
-        return options + (["--dry"] if self.is_dry else ["--take", "RAM:Work=taken"] if self.is_alone and not self.sizes else [])
+        return options + (["--dry"] if self.is_dry else ["--take", "RAM:Work=taken"] if self.is_taken() else [])
+
+    def is_taken(self):
+        """Whether what the Shell has at the end can be compared with the folder."""
+        return self.is_alone and not self.sizes and self.kind not in FOR_ALL
 
     def lines(self, number=0):
         return [line for lines in self.scripts[number] for line in lines]
@@ -186,4 +194,5 @@ class Plan:
         between = [f"    {self.signal.name} at {self.killed_at:.2f} of its time"] if self.killed_at is not None else []
         between += [f"    call {self.call} fails by {errno.errorcode[self.error]}{', and all after it' * self.is_for_long}"] if self.error else []
         between += [f"    before call {self.call}: {self.deed}"] if self.deed else []
-        return "\n".join([*stands, *scripts, *acts, *between, f"    options {self.options}"])
+        limits = [f"    limits {self.limits}"] if self.limits else []
+        return "\n".join([*stands, *scripts, *acts, *between, *limits, f"    options {self.options}"])

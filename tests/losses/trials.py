@@ -10,6 +10,8 @@ from deeds import BEGIN
 from rooms import FOLDER, Link, look, place
 
 SECONDS = 60
+# The signals by which a run may end.
+ENDS = [signal.SIGHUP, signal.SIGINT, signal.SIGKILL, signal.SIGTERM, signal.SIGXFSZ]
 TOKEN = re.compile(rb"[ts]\d+x")
 LARGE = re.compile(rb"(\d{5,}) bytes")
 WRITTEN = re.compile(rb"wrote-(\d+)")
@@ -31,10 +33,15 @@ class Room:
     def __init__(self, program, shim, plan, room):
         self.program, self.shim, self.plan, self.room = program, shim, plan, room
         shutil.rmtree(room, ignore_errors=True)
+        if plan.limits and plan.limits.is_full:
+            os.makedirs(f"{room}/f")
+            plan.limits.mount(f"{room}/f", {path: what for path, what in plan.before.items() if path.startswith("f/")})
         beside = {f"act{number}": "\n".join([f"echo {number} >>../began", BEGIN, *lines]).encode() + b"\n" for number, lines in enumerate(plan.acts)}
         scripts = {f"script{number}": "".join(f"{line}\n" for line in plan.lines(number)).encode() for number in range(len(plan.scripts))}
         hook = f'#!/bin/sh\ncd "{room}/f"\necho "$1" "$2" >../call\n{BEGIN}{plan.deed}\n'.encode() if plan.deed else b""
         place(room, {"f": FOLDER, **plan.before, **beside, **scripts, "show": SHOW, "hook": hook}, {**plan.modes, "show": 0o755, "hook": 0o755})
+        if plan.limits and plan.limits.is_nobody:
+            plan.limits.give(room)
         self.before, self.states = self.files(), self.look_at_all()
         self.outside = self.beside()
 
@@ -69,8 +76,9 @@ class Room:
         if plan.call:
             given |= {"LD_PRELOAD": self.shim, "FAIL_CALL": "path", "FAIL_AT": str(plan.call)}
             given |= {"FAIL_RUN": f"{self.room}/hook"} if plan.deed else {"FAIL_ERRNO": str(plan.error), **({"FAIL_ON": "1"} if plan.is_for_long else {})}
-        with open(f"{self.room}/said{number}", "ab") as said:
-            return subprocess.Popen(words, cwd=self.room, env=given, stdin=subprocess.DEVNULL, stdout=said, stderr=subprocess.PIPE, start_new_session=True)
+        begin = plan.limits.begin if plan.limits else None
+        return subprocess.Popen(words, cwd=self.room, env=given, stdin=subprocess.DEVNULL, stdout=subprocess.PIPE, stderr=subprocess.PIPE, start_new_session=True,
+                                preexec_fn=begin)
 
     def run_in_memory(self):
         """The script on a copy of the folder in memory alone, where its programs do nothing; what it has at the end is taken."""
@@ -87,17 +95,17 @@ class Room:
         if self.plan.killed_at is not None:
             time.sleep(self.plan.killed_at * seconds_each)
             children[0].send_signal(self.plan.signal)
-        self.statuses, self.told = [], b""
+        self.statuses, self.said, self.told = [], b"", b""
         for child in children:
             try:
                 # programs of a run that was killed write on; they hold its standard error
-                self.told += child.communicate(timeout=SECONDS)[1]
+                said, told = child.communicate(timeout=SECONDS)
+                self.said, self.told = self.said + said, self.told + told
                 self.statuses.append(child.returncode)
             except subprocess.TimeoutExpired:
                 os.killpg(child.pid, signal.SIGKILL)
                 child.communicate()
                 self.statuses.append(None)
-        self.said = b"".join(self.read(f"said{number}") for number in range(len(children)))
         self.is_killed = any(status is not None and status < 0 for status in self.statuses)
         return time.monotonic() - began
 
@@ -105,7 +113,7 @@ class Room:
         """What is lost, left or changed, or None."""
         if None in self.statuses:
             return "it does not end"
-        if any(status and status < 0 and -status not in (1, 2, 9, 15) for status in self.statuses):
+        if any(status and status < 0 and -status not in ENDS for status in self.statuses):
             return f"it ends badly: {self.statuses}"
         if self.beside() != self.outside:
             return "what is outside is changed"
@@ -114,6 +122,11 @@ class Room:
         self.stands = self.files()
         lost = self.beside_memory() if self.plan.is_compared else self.loss()
         return lost or self.torn() or self.left() or self.difference() or self.without_a_line()
+
+    def close(self):
+        """Ends what was mounted."""
+        if self.plan.limits and self.plan.limits.is_full:
+            subprocess.run(["umount", "-l", f"{self.room}/f"], check=True)
 
     def loss(self):
         """Tokens of the folder and of programs stand there, unless the script or a program showed them before it destroyed them."""
@@ -173,7 +186,7 @@ class Room:
         if "--take" not in self.plan.options or self.plan.call or self.is_killed or {124, 125} & set(self.statuses) or b"taken twice" in self.told:
             return None
         stands = look(f"{self.room}/f")[0]
-        unseen = [path for path, what in stands.items() if isinstance(what, Link) or re.search(r"(^|/)\.", path) and "--all" not in self.plan.options]
+        unseen = [path for path, what in stands.items() if isinstance(what, Link) or TEMPORARY in path or re.search(r"(^|/)\.", path) and "--all" not in self.plan.options]
         came = {path.lower(): what for path, what in stands.items() if path not in unseen}
         wanted = {path.lower(): what for path, what in look(f"{self.room}/taken")[0].items()}
         other = sorted(path for path in came.keys() | wanted.keys() if came.get(path) != wanted.get(path)
