@@ -1,4 +1,4 @@
-"""What the system does not let a run do: a user's rights, a full file system, few descriptors, short files."""
+"""What the system does not let a run do (a user's rights, a full file system, few descriptors, short files), and the Shell: too many bytes or objects."""
 import os
 import random
 import resource
@@ -10,7 +10,20 @@ from names import FOLDERS
 NOBODY = 65534
 PAGE = 4096
 # The kinds of plans that need root, and those that do not.
-FOR_ROOT, FOR_ALL = ["rights", "full"], ["few", "short"]
+FOR_ROOT, FOR_ALL = ["rights", "full"], ["few", "short", "tight"]
+# With --core: the sizes of most files that fill the Shell, and how many; what there is without them and what is shared.
+FILLED = {"bytes": (65536, 15), "objects": (0, 900)}
+MOST = {"bytes": 1048576, "objects": 1024}
+BESIDE = {"bytes": 199, "objects": 26}
+
+
+def fill(folder):
+    """Makes the files that fill the Shell, but for the last ones."""
+    for name, (size, count) in FILLED.items():
+        os.mkdir(f"{folder}/{name}")
+        for number in range(count):
+            with open(f"{folder}/{name}/{number}", "wb") as file:
+                file.write(bytes(size))
 
 
 class Limits:
@@ -25,6 +38,23 @@ class Limits:
         self.folders = {f"f/{name}": numbers.choice([0o755, 0o555, 0o1777, 0o300, 0o000]) for name in FOLDERS if numbers.random() < 0.4}
         self.folders["f"] = numbers.choice([0o755, 0o755, 0o755, 0o555, 0o1777, 0o777])
         self.owners = numbers.random()
+        self.filled = numbers.choice(list(FILLED)) if kind == "tight" else None
+        self.spare = numbers.randint(0, 8) if self.filled == "objects" else numbers.randint(0, 40)
+
+    def options(self):
+        """The options that bring in what fills the Shell."""
+        return ["--bring", f"../{self.filled}=T:filled", "--bring", "rest=T:rest"] if self.filled else []
+
+    def rest(self, shared, script):
+        """The files that fill the Shell beside these, but for a little room."""
+        if not self.filled:
+            return {}
+        size, count = FILLED[self.filled]
+        if self.filled == "bytes":
+            left = MOST["bytes"] - size * count - BESIDE["bytes"] - len(script) - sum(map(len, shared.values())) - self.spare
+            return {"rest/last": bytes(max(0, left))}
+        above = {path.rsplit("/", 1)[0] for path in shared}
+        return {f"rest/{number}": b"" for number in range(MOST["objects"] - count - BESIDE["objects"] - len(shared) - len(above) + 1 - self.spare)}
 
     def __str__(self):
         return ", ".join(f"{name} {value}" for name, value in self.__dict__.items())

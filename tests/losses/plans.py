@@ -14,7 +14,7 @@ MOST_LINES = 16
 MOST_CALLS = 300
 # What is tried: `out` moves to T:; `folders` renames folders, also in a circle; `exchanges` lets files and directories change places, and nothing else;
 # `time` and `call` kill the run at a moment and before a call of a path, before which `meanwhile` lets another program act, and which fails with `error`;
-# `two` runs two scripts at a time; `memory` compares a folder that nothing else changes with a run in memory alone; limits.py says what the last four are.
+# `two` runs two scripts at a time; `memory` compares a folder that nothing else changes with a run in memory alone; limits.py says what the last five are.
 # The others are kinds of objects and options.
 KINDS = ["out", "large", "links", "folders", "exchanges", "time", "call", "meanwhile", "error", "two", "dry", "memory", *FOR_ALL, *FOR_ROOT]
 
@@ -27,7 +27,7 @@ class Plan:
         self.before, self.modes, self.sizes, self.acts = {}, {}, {}, []
         self.is_alone, self.is_dry, self.is_compared = kind != "two", kind == "dry", kind == "memory"
         self.limits = Limits(kind, numbers) if kind in FOR_ALL + FOR_ROOT else None
-        self.has_large = not self.is_compared and (kind == "large" or numbers.random() < 0.4)
+        self.has_large = not self.is_compared and kind != "tight" and (kind == "large" or numbers.random() < 0.4)
         self.has_exchanges = kind == "exchanges" or kind in ("time", "call", "error", "memory", *FOR_ALL, *FOR_ROOT) and numbers.random() < 0.5
         # what a program copies there can be torn by itself
         self.has_large = self.has_large and (self.has_exchanges or kind != "full")
@@ -138,16 +138,17 @@ class Plan:
 
     def chosen_options(self):
         numbers = self.numbers
-        options = ["--core"] if self.sizes or numbers.random() < 0.5 else []
+        options = ["--core"] if self.sizes or self.kind == "tight" or numbers.random() < 0.5 else []
         if not self.is_dry and not self.is_compared and numbers.random() < 0.15:
             options += ["--all"]
+        options += self.limits.options() if self.limits else []
         if not self.is_compared and numbers.random() < 0.08:
             options += ["--turns", str(numbers.randint(20, 120))]
         return options + (["--dry"] if self.is_dry else ["--take", "RAM:Work=taken"] if self.is_taken() else [])
 
     def is_taken(self):
         """Whether what the Shell has at the end can be compared with the folder."""
-        return self.is_alone and not self.sizes and self.kind not in FOR_ALL
+        return self.is_alone and not self.sizes and self.kind not in ("few", "short")
 
     def lines(self, number=0):
         return [line for lines in self.scripts[number] for line in lines]
@@ -168,7 +169,7 @@ class Plan:
         if self.modes:
             yield self.changed(modes={})
         for word in ("--all", "--core"):
-            if word in self.options and not (word == "--core" and self.sizes):
+            if word in self.options and not (word == "--core" and (self.sizes or self.kind == "tight")):
                 yield self.changed(options=[one for one in self.options if one != word])
 
     @staticmethod

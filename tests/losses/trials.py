@@ -24,6 +24,7 @@ true
 """
 # What was not written, or gave way to what this machine has, is told. Where it could not be written, a program sees something else than the Shell.
 TOLD = re.compile(rb"both changed|cannot |is not written|not written, since|left alone|kept, since|kept as|nothing is written")
+NOT_SHARED = re.compile(rb"taken twice|files and folders, left alone from")
 UNWRITTEN = re.compile(rb"both changed|cannot |not written|nothing is written")
 
 
@@ -39,6 +40,9 @@ class Room:
         beside = {f"act{number}": "\n".join([f"echo {number} >>../began", BEGIN, *lines]).encode() + b"\n" for number, lines in enumerate(plan.acts)}
         scripts = {f"script{number}": "".join(f"{line}\n" for line in plan.lines(number)).encode() for number in range(len(plan.scripts))}
         hook = f'#!/bin/sh\ncd "{room}/f"\necho "$1" "$2" >../call\n{BEGIN}{plan.deed}\n'.encode() if plan.deed else b""
+        if plan.limits:
+            shared = {path: what for path, what in plan.before.items() if path.startswith("f/") and isinstance(what, bytes)}
+            beside |= plan.limits.rest(shared, scripts["script0"])
         place(room, {"f": FOLDER, **plan.before, **beside, **scripts, "show": SHOW, "hook": hook}, {**plan.modes, "show": 0o755, "hook": 0o755})
         if plan.limits and plan.limits.is_nobody:
             plan.limits.give(room)
@@ -182,8 +186,8 @@ class Room:
     def difference(self):
         """What the Shell has and the folder has not, or the other way round, with a status that does not say so. Names that begin with a dot and links
         are not shared, and a directory with such a one in it stays. A program may act after the last look, and at the limit of turns. Of two names
-        that differ in case alone one is left alone, with a line."""
-        if "--take" not in self.plan.options or self.plan.call or self.is_killed or {124, 125} & set(self.statuses) or b"taken twice" in self.told:
+        that differ in case alone one is left alone, with a line, and so is what there is no room for."""
+        if "--take" not in self.plan.options or self.plan.call or self.is_killed or {124, 125} & set(self.statuses) or NOT_SHARED.search(self.told):
             return None
         stands = look(f"{self.room}/f")[0]
         unseen = [path for path, what in stands.items() if isinstance(what, Link) or TEMPORARY in path or re.search(r"(^|/)\.", path) and "--all" not in self.plan.options]
@@ -216,5 +220,5 @@ class Room:
 
     def without_a_line(self):
         """Status 125 has its lines."""
-        is_told = b"cannot take" in self.told or b"not a folder" in self.told or b"Shell's files differ" in self.told and self.told.count(b"\n") > 1
+        is_told = b"cannot take" in self.told or b"not a folder" in self.told or b"does not fit" in self.told or b"Shell's files differ" in self.told and self.told.count(b"\n") > 1
         return "status 125 without its lines" if 125 in self.statuses and not is_told else None
