@@ -10,3 +10,4 @@ pub mod Here
 pub mod Records
 pub mod Changes
 pub mod Moves
+pub mod Volumes

@@ -8,6 +8,7 @@ ghost use Rattle.ados_transfer.specs.Account.{first_path, is_in_unwritten, is_su
 use crate::faults::TransferFault;
 use crate::moves::Destination;
 use crate::records::Record;
+use crate::volumes::Volumes;
 use ados_ram::{Body, Entry, FileBytes};
 use ados_text::NoMemory;
 use std::alloc::Global;
@@ -181,10 +182,12 @@ impl Account {
     }
 
     /// The line that reports what is not deleted.
-    pub fn line(&self) -> Result<Option<String>, TransferFault> {
+    pub fn line(&self, volumes: &Volumes) -> Result<Option<String>, TransferFault> {
         let (Some(unwritten), Some(held)) = (&self.unwritten, &self.held) else {
             return Ok(None);
         };
+        let unwritten = volumes.shown(unwritten.as_str())?;
+        let held = volumes.shown(held.as_str())?;
         if self.more == 0 {
             return Ok(Some(format!(in self.alloc;
                 "not deleted, since {unwritten} is not written: {held}"

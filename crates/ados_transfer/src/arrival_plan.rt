@@ -184,7 +184,10 @@ impl<'a> ArrivalPlan<'a> {
         place: &Place,
         lines: &mut ShareLines,
     ) -> Result<(), TransferFault> {
-        let root = mirror.place().names().len().saturating_add(1);
+        let Some(volume) = mirror.volumes.of_place(place) else {
+            return Ok(());
+        };
+        let root = volume.place.names().len().saturating_add(1);
         for depth in root..place.names().len() {
             let directory = Place::root(self.alloc).joined(&place.names()[..depth])?;
             let Some(key) = mirror.key_of(&directory)? else {

@@ -8,7 +8,7 @@ ghost use Rattle.ados_transfer.specs.Changes.{has_changed, has_last_stamp, has_s
 ghost use Rattle.ados_transfer.specs.Records.{OthersStay, has_key};
 
 use crate::arrival_plan::ArrivalPlan;
-use crate::below::{Below, is_gone};
+use crate::below::Below;
 use crate::faults::TransferFault;
 use crate::folders::{Kind, Look, Seen};
 use crate::mirror::Mirror;
@@ -92,15 +92,20 @@ impl Arrival {
 }
 
 impl Mirror {
-    /// The lines that are run before all others: those of the commands of the share, and those that make its directory.
+    /// The lines that are run before all others: those of the commands of the share, and those that make its directories and assigns.
     pub fn first_lines(&self, alloc: Global, files: &Ram) -> Result<Vec<Text>, TransferFault> {
         let mut lines = ShareLines::new(alloc);
         lines.add_commands()?;
-        lines.add_way(files, &self.place)?;
+        for volume in self.volumes.all() {
+            lines.add_way(files, &volume.place)?;
+            if let Some(device) = &volume.device {
+                lines.add_assign(device, &volume.place)?;
+            }
+        }
         lines.into_lines()
     }
 
-    /// What changed in the folder since the last comparison, in an order in which it can come in; the first time everything. If both
+    /// What changed in the folders since the last comparison, in an order in which it can come in; the first time everything. If both
     /// sides changed, this machine's version comes in, and a line reports it. If both are alike there is no arrival.
     ///
     /// `DoesNotFit` if the first time there is no room for all names, unless a part is enough; `CannotRead` if there are too many folders.
@@ -110,17 +115,15 @@ impl Mirror {
         files: &Ram,
     ) -> Result<Vec<Arrival>, TransferFault> {
         self.reports.begin_look();
-        let rt = &Below::new(rt);
-        if is_gone(rt) {
-            self.report_unread("", "")?;
-            return Ok(Vec::new(self.alloc));
-        }
-        let look = Look::new(rt, self.folder.as_str(), self.options.all, &self.records)?;
+        let volumes = self.volumes.copy()?;
+        let rt = &Below::new(rt, &volumes);
+        let look = Look::new(rt, self.options.all, &self.records)?;
         for unread in &look.unread {
-            self.report_unread(unread.key.as_str(), unread.path.as_str())?;
+            self.reports
+                .report_unread(unread.key.as_str(), unread.path.as_str())?;
         }
-        for line in &look.lines {
-            self.reports.report_line(line.clone()?)?;
+        for (text, path) in &look.left_alone {
+            self.reports.report_once(text, path.as_str())?;
         }
         let is_first = self.begins(&look, files)?;
         let changes = self.changes(&look, files)?;

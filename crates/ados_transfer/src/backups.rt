@@ -139,7 +139,8 @@ impl Mirror {
             mode: *mode,
             moved,
         };
-        let beside = write_beside(rt, "", bytes, Manner::Mode(*mode))?;
+        let root = self.volumes.root_of(path);
+        let beside = write_beside(rt, root, bytes, Manner::Mode(*mode))?;
         match self.backups.add(beside.as_str(), backup) {
             Ok(()) => Ok(()),
             Err(_) => {

@@ -1,19 +1,20 @@
-//! The files below the folder of a share, which is this process's current directory: what its name leads to by now has no effect. No
-//! link leads out of it: each folder on the way to an object is opened, and it is used by its descriptor, which means this folder
-//! whatever takes its name.
+//! The files below the folders of a share. Each folder is open for the whole run, and each one on the way from it to an object is opened:
+//! it is used by its descriptor, which means this folder whatever takes its name, so that no link leads out of it.
 //!
-//! Where there is no `/proc` the folder is used by its name: then a link that takes the name between the look and the call is followed.
+//! Where there is no `/proc` a folder is used by its name: then a link that takes the name between the look and the call is followed.
 
 use crate::faults::TransferFault;
 use crate::here::Here;
 use crate::paths::last_piece;
 use crate::stamps::Stamp;
-use crate::writing::{BESIDE, joined};
+use crate::volumes::{Volume, Volumes};
+use crate::writing::{BESIDE, joined, no_memory};
 use std::alloc::{Alloc, AllocError, Allocator, Global};
 use std::cell::Cell;
 use std::collections::BTreeSet;
 use std::fs::{Metadata, OpenFile, OpenOptions, Permissions};
 use std::io::{Error, ErrorKind};
+use std::mem::forget;
 use std::os::unix::fs::MetadataExt;
 use std::rt::Files;
 use std::time::{Clock, Duration};
@@ -27,10 +28,11 @@ const FIRST: usize = 3;
 
 const LAST: usize = 1024;
 
-/// The files of this machine by paths below this process's current directory.
+/// The files of this machine by the paths of volumes.
 #[derive(Drop)]
 pub struct Below<'a, R> {
     rt: &'a R,
+    volumes: &'a Volumes,
     // The paths of the temporary files that were made.
     made: Cell<BTreeSet<String>>,
 }
@@ -43,7 +45,7 @@ struct Folder<F: Drop> {
     _open: F,
 }
 
-// The path of an object, and the folder in which it is, unless that is the current directory.
+// The path of an object, and the folder in which it is, unless that is the folder of a volume.
 #[derive(Drop)]
 struct Way<F: Drop> {
     path: String,
@@ -51,11 +53,25 @@ struct Way<F: Drop> {
 }
 
 impl<'a, R: AllocGlobal + Files> Below<'a, R> {
-    /// The files below this process's current directory.
-    pub fn new(rt: &'a R) -> Below<'a, R> {
+    /// The files below the folders of these volumes.
+    pub fn new(rt: &'a R, volumes: &'a Volumes) -> Below<'a, R> {
         Below {
             rt,
+            volumes,
             made: Cell::new(BTreeSet::new(rt.alloc())),
+        }
+    }
+
+    /// The volumes.
+    pub fn volumes(&self) -> &Volumes {
+        self.volumes
+    }
+
+    /// The folder of a volume with this label was deleted.
+    pub fn is_gone(&self, label: &str) -> bool {
+        match self.metadata(label) {
+            Ok(found) => found.nlink() == 0,
+            Err(_) => true,
         }
     }
 
@@ -63,7 +79,7 @@ impl<'a, R: AllocGlobal + Files> Below<'a, R> {
     pub fn temporaries(&self) -> Result<Vec<String>, TransferFault> {
         let mut left = Vec::new(self.rt.alloc());
         for path in self.made.replace(BTreeSet::new(self.rt.alloc())) {
-            if fs::symlink_metadata(self.rt, path.as_str()).is_ok() {
+            if self.symlink_metadata(path.as_str()).is_ok() {
                 left.push(path)?;
             }
         }
@@ -94,32 +110,53 @@ impl<'a, R: AllocGlobal + Files> Below<'a, R> {
         self.made.set(made);
     }
 
+    // The volume of a path, and what leads down from its folder.
+    fn parted<'p>(&self, path: &'p str) -> io::Result<(&Volume, &'p str)> {
+        match self.volumes.of_path(path) {
+            Some(parted) => Ok(parted),
+            None => Err(Error::from(ErrorKind::NotFound)),
+        }
+    }
+
+    // The path by which this process reaches what is below the folder of a volume.
+    fn real(&self, volume: &Volume, below: &str) -> io::Result<String> {
+        match volume.real(self.rt.alloc(), below) {
+            Ok(path) => Ok(path),
+            Err(_) => Err(no_memory()),
+        }
+    }
+
+    // The path by which this process reaches an object.
+    fn real_path(&self, path: &str) -> io::Result<String> {
+        let (volume, below) = self.parted(path)?;
+        self.real(volume, below)
+    }
+
     // The way to an object.
     fn way(&self, path: &str) -> io::Result<Way<R::File>> {
-        let Some((above, name)) = path.rsplit_once('/') else {
+        let (volume, below) = self.parted(path)?;
+        let Some((above, name)) = below.rsplit_once('/') else {
             return Ok(Way {
-                path: String::from_str(self.rt.alloc(), path)?,
+                path: self.real(volume, below)?,
                 _folder: None,
             });
         };
-        let folder = self.folder(above)?;
+        let folder = self.folder(volume, above)?;
         Ok(Way {
             path: joined(self.rt.alloc(), folder.path.as_str(), name)?,
             _folder: Some(folder),
         })
     }
 
-    // Opens the folder at a path, and for it each one on the way.
-    fn folder(&self, path: &str) -> io::Result<Folder<R::File>> {
-        let Some((above, name)) = path.rsplit_once('/') else {
-            return open_folder(self.rt, path);
-        };
-        let mut steps = above.split('/');
-        let mut folder = open_folder(self.rt, steps.next().unwrap_or(""))?;
+    // Opens a folder below that of a volume, and for it each one on the way.
+    fn folder(&self, volume: &Volume, below: &str) -> io::Result<Folder<R::File>> {
+        let mut steps = below.split('/');
+        let first = self.real(volume, steps.next().unwrap_or(""))?;
+        let mut folder = open_folder(self.rt, first.as_str())?;
         for step in steps {
             folder = step_down(self.rt, &folder, step)?;
         }
-        step_down(self.rt, &folder, name)
+        Ok(folder)
     }
 }
 
@@ -166,12 +203,12 @@ fn own_path<R: AllocGlobal + Files>(rt: &R, opened: &Metadata) -> io::Result<Opt
     Ok(None)
 }
 
-/// This process's current directory was deleted.
-pub fn is_gone<R: Files>(rt: &R) -> bool {
-    match fs::metadata(rt, ".") {
-        Ok(found) => found.nlink() == 0,
-        Err(_) => true,
-    }
+/// Opens the folder at a path until this process ends, and gives the path by which it is used.
+pub fn held_folder<R: AllocGlobal + Files>(rt: &R, path: &str) -> io::Result<String> {
+    let Folder { path, _open } = open_folder(rt, path)?;
+    // The path needs it as long as programs start.
+    forget(_open);
+    Ok(path)
 }
 
 // Two looks were at one object.
@@ -181,7 +218,7 @@ fn is_one(found: &Metadata, other: &Metadata) -> bool {
 
 impl<R: AllocGlobal + Files> Clone for Below<'_, R> {
     fn clone(&self) -> Result<Self, AllocError> {
-        Ok(Below::new(self.rt))
+        Ok(Below::new(self.rt, self.volumes))
     }
 }
 
@@ -218,21 +255,21 @@ impl<R: AllocGlobal + Files> Files for Below<'_, R> {
     }
 
     fn open_dir(&self, path: &str) -> io::Result<R::Dir> {
-        let path = path.trim_end_matches('/');
-        if path.is_empty() {
-            return self.rt.open_dir("./");
+        let (volume, below) = self.parted(path.trim_end_matches('/'))?;
+        if below.is_empty() {
+            return self.rt.open_dir(self.real(volume, below)?.as_str());
         }
-        let folder = self.folder(path)?;
+        let folder = self.folder(volume, below)?;
         let whole = format!(in self.rt.alloc(); "{}/", folder.path.as_str())?;
         self.rt.open_dir(whole.as_str())
     }
 
     fn metadata(&self, path: &str) -> io::Result<Metadata> {
-        self.rt.metadata(path)
+        self.rt.metadata(self.real_path(path)?.as_str())
     }
 
     fn symlink_metadata(&self, path: &str) -> io::Result<Metadata> {
-        self.rt.symlink_metadata(path)
+        self.rt.symlink_metadata(self.real_path(path)?.as_str())
     }
 
     fn copy(&self, from: &str, to: &str) -> io::Result<u64> {

@@ -84,7 +84,7 @@ impl Mirror {
         }
         let here = Here::look(rt, self.options.limits, seen.path.as_str())?;
         if here.is_unread() {
-            return self.report_unread(key, seen.path.as_str());
+            return self.reports.report_unread(key, seen.path.as_str());
         }
         let record = self.records.get(key).filter(|_| !plan.deletes(key));
         if entry.is_some() && record.is_some_and(|record| !is_of_kind(record, seen.kind)) {

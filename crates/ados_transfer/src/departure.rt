@@ -106,6 +106,11 @@ impl<'a> Departures<'a> {
         Ok(())
     }
 
+    /// Leaves out those in the volumes with these labels.
+    pub fn leave_out(&mut self, labels: &[String]) {
+        self.by_key.retain(|key, _| !labels.iter().any(|label| is_descendant(label.as_str(), key.as_str())));
+    }
+
     // An object changes its kind, which is noted, or is below one that does.
     fn note_kind_change(&mut self, key: &str, changes_kind: bool) -> Result<bool, TransferFault>
         ensures { self.new.by_key ≡ self.old.by_key }
@@ -161,10 +166,11 @@ pub fn remove<R: AllocGlobal + Files>(
     rt.remove_unchanged(whole.as_str(), here)
 }
 
-/// Moves a file that was looked at to the name of a temporary file in the folder of the share, or deletes an empty folder. Gives the
-/// path where the file is then, and the mode; nothing if something else came to be there since.
+/// Moves a file that was looked at to the name of a temporary file in a folder, or deletes an empty folder. Gives the path where the file
+/// is then, and the mode; nothing if something else came to be there since.
 pub fn move_aside<R: AllocGlobal + Files>(
     rt: &R,
+    folder: &str,
     path: &str,
     here: &Here,
 ) -> io::Result<Option<(Option<String>, u32)>> {
@@ -180,7 +186,7 @@ pub fn move_aside<R: AllocGlobal + Files>(
     if !is_still(rt, whole.as_str(), here)? {
         return Ok(None);
     }
-    let (beside, file) = open_beside(rt, "", 0o600)?;
+    let (beside, file) = open_beside(rt, folder, 0o600)?;
     drop(file);
     match fs::rename(rt, whole.as_str(), beside.as_str()) {
         Ok(()) => Ok(Some((Some(beside), mode))),
@@ -191,7 +197,7 @@ pub fn move_aside<R: AllocGlobal + Files>(
     }
 }
 
-/// The path of an object below the folder of the share, and in no other. Folders on the way are made; one that is a link is refused.
+/// The path of an object below the folder of its volume, and in no other. Folders on the way are made; one that is a link is refused.
 #[tactic(auto, using(crate::proofs::PathLemmas::below_step))]
 pub fn own_path<R: AllocGlobal + Files>(rt: &R, path: &str) -> io::Result<String>
     ensures { IfOk result (λ path. IsBelow [] (string_bytes path)) }

@@ -1,23 +1,25 @@
-//! What changed in the Shell's files below the directory of a share, on its way to the folder.
+//! What changed in the Shell's files below the directories of a share, on its way to the folders.
 ghost use Rattle.std.specs.Prelude.{◌≡◌, IfOk};
 ghost use Rattle.std.specs.List.{list_any};
 ghost use Rattle.ados_text.specs.Text.{Bytes};
 ghost use Rattle.ados_transfer.specs.Records.{has_key, has_left};
 
 use crate::account::{Account, Moment};
-use crate::below::{Below, is_gone};
+use crate::below::Below;
 use crate::departure::{Departure, Departures, is_key_left_out};
 use crate::faults::TransferFault;
 use crate::mirror::Mirror;
+use crate::places::shell_path;
 use crate::stand_ins::own_entry;
+use crate::volumes::Volume;
 use ados_ram::{Entry, Place, Ram};
 use std::rt::Files;
 use std::time::Clock;
 
 impl Mirror {
-    /// Writes to the folder what changed below the directory since the last comparison: first what is new, then what changed,
+    /// Writes to the folders what changed below their directories since the last comparison: first what is new, then what changed,
     /// then what is of another kind now, and what needs its place. At last what is gone is deleted, the deepest first. While
-    /// anything that the Shell holds below the directory is not written, nothing is deleted: it may have been moved there, and
+    /// anything that the Shell holds below a directory is not written, nothing is deleted: it may have been moved there, and
     /// one line reports it, unless the script goes on meanwhile. With `dry` the changes are only reported.
     ///
     /// What can't be written or deleted is reported and left. The only error is that an allocation fails.
@@ -27,7 +29,8 @@ impl Mirror {
         files: &Ram,
         moment: Moment,
     ) -> Result<(), TransferFault> {
-        let rt = &Below::new(rt);
+        let volumes = self.volumes.copy()?;
+        let rt = &Below::new(rt, &volumes);
         let mut account = Account::new(self.alloc, moment);
         let updated = self.update(rt, files, &mut account);
         let finished = self.finish_backups(rt, files, moment);
@@ -43,14 +46,10 @@ impl Mirror {
         files: &Ram,
         account: &mut Account,
     ) -> Result<(), TransferFault> {
-        if !files.look(&self.place).is_some_and(Entry::is_directory) {
-            return self.report_no_directory(account.moment);
+        let away = self.away(rt, files, account)?;
+        if away.len() == self.volumes.all().len() {
+            return Ok(());
         }
-        if is_gone(rt) {
-            let folder = self.folder.clone()?;
-            return self.reports.fail("", "cannot write", folder.as_str());
-        }
-        self.forget("");
         if account.moment == Moment::End {
             self.forgive_deleted(files)?;
         }
@@ -58,6 +57,7 @@ impl Mirror {
         self.settle_moves(files)?;
         let asides = self.begin_moves(rt, files, account)?;
         let mut departures = self.departures(files, account)?;
+        departures.leave_out(away.as_slice());
         self.find_copies(files, &mut departures)?;
         account.is_private = self.loses_private(rt, &departures);
         for is_new in [true, false] {
@@ -81,15 +81,45 @@ impl Mirror {
         self.report_account(account)
     }
 
-    // Reports that the directory itself is gone in the Shell's files, unless the script goes on meanwhile.
-    fn report_no_directory(&mut self, moment: Moment) -> Result<(), TransferFault> {
+    // The labels of the volumes whose directory or folder is gone. Nothing is written there, and so nothing is deleted in any other.
+    fn away<R: AllocGlobal + Files>(
+        &mut self,
+        rt: &Below<'_, R>,
+        files: &Ram,
+        account: &mut Account,
+    ) -> Result<Vec<String>, TransferFault> {
+        let mut away = Vec::new(self.alloc);
+        for volume in rt.volumes().all() {
+            let label = volume.label.as_str();
+            if !files
+                .look(&volume.place)
+                .is_some_and(Entry::is_directory)
+            {
+                self.report_no_directory(volume, account.moment)?;
+            } else if rt.is_gone(label) {
+                self.reports.fail(label, "cannot write", label)?;
+            } else {
+                self.forget(label);
+                continue;
+            }
+            account.add_unwritten(label)?;
+            away.push(volume.label.clone()?)?;
+        }
+        Ok(away)
+    }
+
+    // Reports that the directory of a volume is gone in the Shell's files, unless the script goes on meanwhile.
+    fn report_no_directory(
+        &mut self,
+        volume: &Volume,
+        moment: Moment,
+    ) -> Result<(), TransferFault> {
         if moment == Moment::Meanwhile {
             return Ok(());
         }
-        let path = self.spelled(self.place.names())?;
-        let path = format!(in self.alloc; "RAM:{path}")?;
+        let path = shell_path(self.alloc, &volume.place)?;
         self.reports.fail(
-            "",
+            volume.label.as_str(),
             "nothing is written, since there is no directory",
             path.as_str(),
         )
@@ -175,8 +205,10 @@ impl Mirror {
         account: &mut Account,
     ) -> Result<Departures<'a>, TransferFault> {
         let mut departures = self.known_departures(files)?;
-        let places = files.contents(&self.place)?;
-        self.add_new(files, &places, &mut departures, account)?;
+        for volume in self.volumes.all() {
+            let places = files.contents(&volume.place)?;
+            self.add_new(files, &places, &mut departures, account)?;
+        }
         Ok(departures)
     }
 
@@ -210,8 +242,9 @@ impl Mirror {
             if self.records.contains_key(key.as_str()) {
                 continue;
             }
-            let written = files.written(place)?;
-            let path = self.path_of(written.relative_names(&self.place))?;
+            let Some(path) = self.path_of(&files.written(place)?)? else {
+                continue;
+            };
             if !is_key_left_out(key.as_str(), self.options.all) {
                 departures.add(key, Departure::new(path, entry))?;
             } else {
@@ -249,7 +282,7 @@ impl Mirror {
                     .report_once("not written, since its name is not shared", path.as_str())?;
             }
         }
-        match account.line()? {
+        match account.line(&self.volumes)? {
             Some(line) => self.reports.report_line(line),
             None => Ok(()),
         }

@@ -43,7 +43,13 @@ pub enum TransferFault {
     /// The directory of a share is a file, or files are in it at the beginning.
     #[error("no empty directory for the share: {0}")]
     NoPlace(String),
-    /// The folder of a share has more files and folders than the Shell's files can hold.
+    /// Of two folders that are to be shared one is the other, or is in it.
+    #[error("one folder cannot be shared twice: {0}, {1}")]
+    FoldersMeet(String, String),
+    /// Of the directories of two shares one is the other, or is in it.
+    #[error("one directory cannot have two folders: {0}, {1}")]
+    DirectoriesMeet(String, String),
+    /// The folders of a share have more files and folders than the Shell's files can hold.
     #[error("{0}")]
     DoesNotFit(Need),
     /// There was no memory.

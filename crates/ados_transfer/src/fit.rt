@@ -1,4 +1,4 @@
-//! Whether there is room at the start for all names of a folder, and for which of its files there is none for the bytes.
+//! Whether there is room at the start for all names of the folders, and for which of their files there is none for the bytes.
 
 use crate::arrivals::{Arrival, Coming};
 use crate::faults::TransferFault;
@@ -6,13 +6,12 @@ use crate::folders::{Kind, Look};
 use crate::mirror::Mirror;
 use crate::room::Room;
 use ados_ram::Ram;
-use std::alloc::Global;
 use std::fmt;
 
-/// What a folder needs of the Shell's files, and what is in them already.
+/// What the folders of a share need of the Shell's files, and what is in them already.
 #[derive(Debug, Drop)]
 pub struct Need {
-    folder: String,
+    folders: String,
     own: Amount,
     others: Amount,
     most: Amount,
@@ -26,8 +25,8 @@ struct Amount {
 }
 
 impl Need {
-    // What a folder needs, by a look at it: a file that is too large by itself is a stand-in, which needs no bytes.
-    fn of(alloc: Global, folder: &str, look: &Look, others: &Room) -> Result<Need, TransferFault> {
+    // What folders need, by a look at them: a file that is too large by itself is a stand-in, which needs no bytes.
+    fn of(folders: String, look: &Look, others: &Room) -> Need {
         let limits = others.limits();
         let mut own = Amount {
             objects: 0,
@@ -43,8 +42,8 @@ impl Need {
             }
             own.objects = own.objects.saturating_add(1);
         }
-        Ok(Need {
-            folder: String::from_str(alloc, folder)?,
+        Need {
+            folders,
             own,
             others: Amount {
                 objects: others.objects(),
@@ -54,7 +53,7 @@ impl Need {
                 objects: limits.objects(),
                 bytes: limits.bytes() as u64,
             },
-        })
+        }
     }
 
     // There is room for each name: a name that is not there would be taken for a file that does not exist. A file without room for
@@ -70,7 +69,7 @@ impl fmt::Display for Need {
         write!(
             f,
             "{} does not fit: {} files and folders of at most {}, beside {} others; ",
-            self.folder, own.objects, most.objects, others.objects,
+            self.folders, own.objects, most.objects, others.objects,
         )?;
         write!(
             f,
@@ -81,7 +80,7 @@ impl fmt::Display for Need {
 }
 
 impl Mirror {
-    // Whether this is the first look at the folder; if so all of it has to fit, unless a part of it is enough.
+    // Whether this is the first look at the folders; if so all that is in them has to fit, unless a part of it is enough.
     pub(crate) fn begins(&mut self, look: &Look, files: &Ram) -> Result<bool, TransferFault> {
         if self.has_begun {
             return Ok(false);
@@ -89,7 +88,7 @@ impl Mirror {
         self.has_begun = true;
         if !self.options.part {
             let others = Room::new(self.alloc, self.options.limits, files)?;
-            let need = Need::of(self.alloc, self.folder.as_str(), look, &others)?;
+            let need = Need::of(self.volumes.folders()?, look, &others);
             if !need.fits() {
                 return Err(TransferFault::DoesNotFit(need));
             }
@@ -102,12 +101,12 @@ impl Mirror {
         let mut paths = Vec::new(self.alloc);
         for arrival in arrivals {
             if matches!(arrival.coming, Coming::StandIn(_)) {
-                paths.push(arrival.path.as_str())?;
+                paths.push(self.volumes.shown(arrival.path.as_str())?)?;
             }
         }
         let named = match paths.as_slice() {
             [] => return Ok(()),
-            [one] => String::from_str(self.alloc, one)?,
+            [one] => one.clone()?,
             [one, two] => format!(in self.alloc; "{one}, {two}")?,
             [one, two, more @ ..] => {
                 let more = more.len();

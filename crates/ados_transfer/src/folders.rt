@@ -1,17 +1,18 @@
-//! What is in the folder of a share.
+//! What is in the folders of a share.
 ghost use Rattle.std.specs.Prelude.{◌≡◌};
 ghost use Rattle.std.specs.List.{list_any};
 ghost use Rattle.std.specs.Option.{option_copied};
 ghost use Rattle.ados_transfer.specs.Changes.{hides, is_descendant, is_some_slash};
 ghost use Rattle.ados_transfer.specs.Paths.{is_unshared};
 
+use crate::below::Below;
 use crate::choice::{Named, is_chosen, order};
-use crate::faults::{TransferFault, named};
+use crate::faults::TransferFault;
 use crate::here::is_nothing;
 use crate::paths::{name_of, step_into};
 use crate::records::Records;
 use crate::stamps::Stamp;
-use crate::writing::{BESIDE, joined};
+use crate::writing::{BESIDE, no_memory};
 use std::alloc::{AllocError, Global};
 use std::collections::BTreeMap;
 use std::fs::Metadata;
@@ -68,16 +69,15 @@ pub struct Look {
     pub seen: BTreeMap<String, Seen>,
     /// The folders that could not be read, and the objects that could not be looked at.
     pub unread: Vec<Unread>,
-    /// The lines that report what is left alone.
-    pub lines: Vec<String>,
+    /// What is left alone: a text, and the path.
+    pub left_alone: Vec<(&'static str, String)>,
 }
 
 impl Look {
-    /// Looks at everything below the folder of a share, which lines call `folder`. Names that begin with a dot are left out unless
-    /// `all`. If two names differ only in case, the one of the records is taken, otherwise the first.
+    /// Looks at everything below the folders of all volumes. Names that begin with a dot are left out unless `all`. If two names differ
+    /// only in case, the one of the records is taken, otherwise the first.
     pub fn new<R: AllocGlobal + Files + Clone + Drop>(
-        rt: &R,
-        folder: &str,
+        rt: &Below<'_, R>,
         all: bool,
         records: &Records,
     ) -> Result<Look, TransferFault> {
@@ -85,18 +85,24 @@ impl Look {
         let mut look = Look {
             seen: BTreeMap::new(alloc),
             unread: Vec::new(alloc),
-            lines: Vec::new(alloc),
+            left_alone: Vec::new(alloc),
         };
         let mut left = Vec::new(alloc);
-        left.push(String::new(alloc))?;
+        for volume in rt.volumes().all().iter().rev() {
+            if rt.is_gone(volume.label.as_str()) {
+                look.add_unread(alloc, volume.label.as_str())?;
+            } else {
+                left.push(volume.label.clone()?)?;
+            }
+        }
         for _ in 0..FOLDERS {
             let Some(path) = left.pop() else {
                 return Ok(look);
             };
-            let mut folders = look.add_folder(rt, folder, path.as_str(), all, records)?;
+            let mut folders = look.add_folder(rt, path.as_str(), all, records)?;
             left.append(&mut folders)?;
         }
-        Err(named(alloc, folder, TransferFault::CannotRead))
+        Err(TransferFault::CannotRead(rt.volumes().folders()?))
     }
 
     /// The object with this key could not be looked at, or is in a folder that could not be read.
@@ -118,21 +124,22 @@ impl Look {
     // Adds what is directly in a folder.
     fn add_folder<R: AllocGlobal + Files + Clone + Drop>(
         &mut self,
-        rt: &R,
-        folder: &str,
+        rt: &Below<'_, R>,
         path: &str,
         all: bool,
         records: &Records,
     ) -> Result<Vec<String>, TransferFault> {
         let alloc = rt.alloc();
         let mut folders = Vec::new(alloc);
-        let names = match self.read_names(rt, folder, path, all) {
+        let names = match self.read_names(rt, path, all) {
             Ok(names) => names,
             Err(error) if error.kind() == ErrorKind::OutOfMemory => {
                 return Err(TransferFault::NoMemory);
             }
-            // It was there a moment ago; if the folder of the share itself is gone, nothing is known of what was in it.
-            Err(error) if is_nothing(error.kind()) && !path.is_empty() => return Ok(folders),
+            // It was there a moment ago; if the folder of a volume is gone, nothing is known of what was in it.
+            Err(error) if is_nothing(error.kind()) && !rt.volumes().is_root(path) => {
+                return Ok(folders);
+            }
             Err(_) => {
                 self.add_unread(alloc, path)?;
                 return Ok(folders);
@@ -147,11 +154,7 @@ impl Look {
             if is_chosen {
                 self.add(rt, named, &mut folders)?;
             } else {
-                self.report(
-                    alloc,
-                    "name is taken twice, left alone",
-                    named.path.as_str(),
-                )?;
+                self.leave(alloc, "name is taken twice, left alone", named.path.as_str())?;
             }
         }
         Ok(folders)
@@ -160,8 +163,7 @@ impl Look {
     // Reads the names in a folder that are not left out.
     fn read_names<R: AllocGlobal + Files + Clone + Drop>(
         &mut self,
-        rt: &R,
-        folder: &str,
+        rt: &Below<'_, R>,
         path: &str,
         all: bool,
     ) -> io::Result<Vec<String>> {
@@ -171,12 +173,12 @@ impl Look {
                 Ok(entry) if is_unshared(entry.file_name(), all) => {}
                 Ok(entry) => names.push(String::from_str(rt.alloc(), entry.file_name())?)?,
                 Err(error) if error.kind() == ErrorKind::InvalidFilename => {
-                    let whole = joined(rt.alloc(), folder, path)?;
-                    let whole = whole.as_str().trim_end_matches('/');
-                    let line = format!(in rt.alloc();
-                        "bad name for the Shell, left alone: one in {whole}"
-                    )?;
-                    self.lines.push(line)?;
+                    let Ok(whole) = rt.volumes().whole(path) else {
+                        return Err(no_memory());
+                    };
+                    let one = format!(in rt.alloc(); "one in {whole}")?;
+                    self.left_alone
+                        .push(("bad name for the Shell, left alone", one))?;
                 }
                 Err(error) => return Err(error),
             }
@@ -200,7 +202,7 @@ impl Look {
                     path,
                 })?,
                 Err(TransferFault::NoMemory) => return Err(TransferFault::NoMemory),
-                Err(_) => self.report(alloc, "bad name for the Shell, left alone", path.as_str())?,
+                Err(_) => self.leave(alloc, "bad name for the Shell, left alone", path.as_str())?,
             }
         }
         below.sort_by(|a, b| order(a, b))?;
@@ -223,11 +225,9 @@ impl Look {
         let kind = kind_of(&found);
         match kind {
             Kind::Directory => folders.push(named.path.clone()?)?,
-            Kind::Foreign => self.report(
-                alloc,
-                "no file or folder, left alone",
-                named.path.as_str(),
-            )?,
+            Kind::Foreign => {
+                self.leave(alloc, "no file or folder, left alone", named.path.as_str())?;
+            }
             Kind::File { .. } => {}
         }
         let seen = Seen {
@@ -239,9 +239,10 @@ impl Look {
         Ok(())
     }
 
-    // Adds a line about an object.
-    fn report(&mut self, alloc: Global, text: &str, path: &str) -> Result<(), TransferFault> {
-        self.lines.push(format!(in alloc; "{text}: {path}")?)?;
+    // Notes that an object is left alone.
+    fn leave(&mut self, alloc: Global, text: &'static str, path: &str) -> Result<(), TransferFault> {
+        self.left_alone
+            .push((text, String::from_str(alloc, path)?))?;
         Ok(())
     }
 }

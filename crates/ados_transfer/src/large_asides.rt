@@ -7,7 +7,6 @@ use crate::folders::lower;
 use crate::here::Here;
 use crate::large_moves::{Moved, renamed};
 use crate::mirror::Mirror;
-use crate::paths::step_into;
 use crate::records::Record;
 use ados_ram::Ram;
 use std::io::ErrorKind;
@@ -24,7 +23,9 @@ impl Mirror {
         if moved.new_path.is_none() || account.is_meanwhile() {
             return Ok(None);
         }
-        let (beside, mode) = match move_aside(rt, moved.path.as_str(), &Here::Large(moved.stamp)) {
+        let path = moved.path.as_str();
+        let root = self.volumes.root_of(path);
+        let (beside, mode) = match move_aside(rt, root, path, &Here::Large(moved.stamp)) {
             Ok(Some(done)) => done,
             Err(error) if error.kind() == ErrorKind::OutOfMemory => {
                 return Err(TransferFault::NoMemory);
@@ -123,7 +124,7 @@ impl Mirror {
             Some(stamp) => self.keep(key, Record { stamp, ..record }),
             None => {
                 self.stand_ins.is_lost = true;
-                let whole = step_into(self.alloc, self.folder.as_str(), beside.as_str())?;
+                let whole = self.volumes.whole(beside.as_str())?;
                 let text = format!(in self.alloc; "kept as {whole}")?;
                 account.kept.push(beside)?;
                 self.reports.report(text.as_str(), path.as_str())

@@ -121,11 +121,7 @@ impl Mirror {
         files: &Ram,
         place: &Place,
     ) -> Result<Option<String>, TransferFault> {
-        if self.key_of(place)?.is_none() {
-            return Ok(None);
-        }
-        let written = files.written(place)?;
-        Ok(Some(self.path_of(written.relative_names(&self.place))?))
+        self.path_of(&files.written(place)?)
     }
 
     // Renames as many as possible, but none with `dry`; gives whether there was one.
@@ -211,6 +207,7 @@ impl Mirror {
         for moved in &self.moved(files)? {
             if let Some(new) = &moved.new_path {
                 self.stand_ins.is_blocked = true;
+                let new = self.volumes.shown(new.as_str())?;
                 let text = format!(in self.alloc; "cannot rename to {new}")?;
                 self.reports
                     .report_once(text.as_str(), moved.path.as_str())?;
@@ -248,6 +245,7 @@ impl Mirror {
     fn report_moves(&mut self, files: &Ram) -> Result<(), TransferFault> {
         for moved in &self.moved(files)? {
             if let Some(new) = &moved.new_path {
+                let new = self.volumes.shown(new.as_str())?;
                 let text = format!(in self.alloc; "would rename to {new}")?;
                 self.reports
                     .report_once(text.as_str(), moved.path.as_str())?;

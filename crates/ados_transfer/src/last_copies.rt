@@ -6,7 +6,9 @@ use crate::folders::is_descendant;
 use crate::here::Here;
 use crate::mirror::Mirror;
 use crate::moves::Elsewhere;
+use crate::places::shell_path;
 use crate::records::{Last, Records};
+use crate::volumes::Volumes;
 use ados_ram::{FileBytes, Place, Ram};
 use ados_text::NoMemory;
 use std::alloc::Global;
@@ -43,10 +45,11 @@ impl Waiting {
     }
 
     // The line that reports what waits.
-    fn line(&self) -> Result<Option<String>, NoMemory> {
+    fn line(&self, volumes: &Volumes) -> Result<Option<String>, TransferFault> {
         let Some((path, elsewhere)) = self.by_key.values().next() else {
             return Ok(None);
         };
+        let path = volumes.shown(path.as_str())?;
         let more = self.by_key.len().saturating_sub(1);
         if more == 0 {
             return Ok(Some(format!(in self.alloc; "not deleted, since {elsewhere}: {path}")?));
@@ -144,7 +147,7 @@ impl Mirror {
             if bytes.len() == 0 {
                 continue;
             }
-            if place.names().starts_with(self.place.names()) {
+            if self.volumes.of_place(&place).is_some() {
                 holders.inside.push(Holder { place, bytes })?;
             } else {
                 holders.outside.push(Holder { place, bytes })?;
@@ -155,8 +158,7 @@ impl Mirror {
 
     // The path of a file of the Shell, for lines.
     pub(crate) fn copy_path(&self, files: &Ram, place: &Place) -> Result<String, TransferFault> {
-        let path = self.spelled(files.written(place)?.names())?;
-        Ok(format!(in self.alloc; "RAM:{path}")?)
+        shell_path(self.alloc, &files.written(place)?)
     }
 
     // The bytes of an object that is to be deleted or written over are in a file of the Shell, and in no other file of the folder; or it is
@@ -217,7 +219,7 @@ impl Mirror {
     // Reports at the end what is not deleted, since its bytes would be gone with the Shell's files: that of files whose only other copy is
     // outside of the directory, and large files whose stand-ins are.
     pub(crate) fn report_waiting(&mut self, files: &Ram) -> Result<(), TransferFault> {
-        if let Some(line) = self.waiting.line()? {
+        if let Some(line) = self.waiting.line(&self.volumes)? {
             self.reports.report_line(line)?;
         }
         self.report_outside(files)

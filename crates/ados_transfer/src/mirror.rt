@@ -1,36 +1,30 @@
-//! A share: a folder of this machine and a directory of the Shell's files that are kept alike.
+//! A share: folders of this machine and directories of the Shell's files that are kept alike.
 ghost use Rattle.std.specs.Prelude.{◌≡◌, None, Some, OnOk, string_bytes};
 ghost use Rattle.std.specs.BTreeMap.{IsOrdered};
 ghost use Rattle.std.specs.String.{string_cmp};
 ghost use Rattle.ados_transfer.specs.Records.{Sets};
 
 use crate::backups::Backups;
-use crate::bringing::parted;
-use crate::faults::{TransferFault, named};
+use crate::faults::TransferFault;
 use crate::last_copies::Waiting;
 use crate::moves::Moves;
-use crate::paths::{is_free, place_in};
 use crate::records::{Last, Record, Records};
 use crate::reports::Reports;
 use crate::stamps::Stamp;
 use crate::stand_ins::StandIns;
+use crate::volumes::{Volume, Volumes};
 use crate::watches::Watch;
-use ados_ram::{Limits, Place, Ram};
+use ados_ram::Limits;
 use std::alloc::Global;
 use std::collections::BTreeMap;
-use std::fs;
-use std::rt::Files;
 use std::time::{Clock, SystemTime};
-
-// The directory of a share that names none.
-const DIRECTORY: &str = "RAM:Work";
 
 /// How a share is kept.
 #[derive(Clone, Copy)]
 pub struct MirrorOptions {
     /// Names that begin with a dot are shared too.
     pub all: bool,
-    /// The folder may have more files and folders than the Shell's files can hold.
+    /// The folders may have more files and folders than the Shell's files can hold.
     pub part: bool,
     /// Nothing of this machine is changed; changes are only reported.
     pub dry: bool,
@@ -38,13 +32,11 @@ pub struct MirrorOptions {
     pub limits: Limits,
 }
 
-/// A folder of this machine and a directory of the Shell's files that are kept alike, and what they were at the last comparison.
+/// Folders of this machine and directories of the Shell's files that are kept alike, and what they were at the last comparison.
 #[derive(Drop)]
 pub struct Mirror {
     pub(crate) alloc: Global,
-    // The folder's whole path, for lines: what it leads to by now has no effect.
-    pub(crate) folder: String,
-    pub(crate) place: Place,
+    pub(crate) volumes: Volumes,
     pub(crate) options: MirrorOptions,
     pub(crate) records: Records,
     pub(crate) stand_ins: StandIns,
@@ -55,7 +47,7 @@ pub struct Mirror {
     // Copies of what was written over, while only the Shell has the bytes beside.
     pub(crate) backups: Backups,
     pub(crate) reports: Reports,
-    // The folder was looked at.
+    // The folders were looked at.
     pub(crate) has_begun: bool,
     // At the last comparison something was not deleted, since not everything was written.
     pub(crate) is_holding: bool,
@@ -66,43 +58,22 @@ pub struct Mirror {
 }
 
 impl Mirror {
-    /// A share by the words `FOLDER` or `FOLDER=PATH`; PATH defaults to RAM:Work. Nothing of it is read yet.
-    ///
-    /// `CannotRead` if FOLDER is not a folder; `BadName` if PATH does not name a directory, or names the root; `NoPlace` if in
-    /// these files it is one of a file or of a directory that is not empty, or is that of the script.
-    pub fn new<R: AllocGlobal + Files>(
-        rt: &R,
-        words: &str,
+    /// A share of these volumes. Nothing of them is read yet.
+    pub fn new(
+        alloc: Global,
+        volumes: Volumes,
         options: MirrorOptions,
-        files: &Ram,
     ) -> Result<Mirror, TransferFault> {
-        let alloc = rt.alloc();
-        let (path, directory) = parted(rt, words);
-        let folder = match (fs::metadata(rt, path), fs::canonicalize(rt, path)) {
-            (Ok(found), Ok(whole)) if found.is_dir() => {
-                String::from_str(alloc, whole.as_path().as_str())?
-            }
-            _ => return Err(named(alloc, path, TransferFault::CannotRead)),
-        };
-        let directory = directory.unwrap_or(DIRECTORY);
-        let place = place_in(alloc, directory)?;
-        if place.names().is_empty() {
-            return Err(named(alloc, directory, TransferFault::BadName));
-        }
-        if !is_free(alloc, files, &place)? {
-            return Err(named(alloc, directory, TransferFault::NoPlace));
-        }
         Ok(Mirror {
             alloc,
-            folder,
-            place,
             options,
             records: BTreeMap::new(alloc),
             stand_ins: StandIns::new(alloc),
             moves: Moves::new(alloc),
             waiting: Waiting::new(alloc),
             backups: Backups::new(alloc),
-            reports: Reports::new(alloc),
+            reports: Reports::new(alloc, volumes.copy()?),
+            volumes,
             has_begun: false,
             is_holding: false,
             is_lacking: false,
@@ -110,14 +81,9 @@ impl Mirror {
         })
     }
 
-    /// The folder's whole path at the beginning.
-    pub fn folder(&self) -> &str {
-        self.folder.as_str()
-    }
-
-    /// The directory.
-    pub fn place(&self) -> &Place {
-        &self.place
+    /// The volumes.
+    pub fn volumes(&self) -> &[Volume] {
+        self.volumes.all()
     }
 
     /// The lines to report since the last call.
@@ -197,14 +163,6 @@ impl Mirror {
             self.overruled = Some(String::from_str(self.alloc, path)?);
         }
         Ok(())
-    }
-
-    // Reports that an object cannot be read, unless that was so at the look before; without a path it is the folder.
-    pub(crate) fn report_unread(&mut self, key: &str, path: &str) -> Result<(), TransferFault> {
-        if path.is_empty() {
-            return self.reports.report_unread(key, self.folder.as_str());
-        }
-        self.reports.report_unread(key, path)
     }
 
     // The time; if the clock can't be read, one that is before all others.

@@ -230,9 +230,9 @@ impl Mirror {
         }
     }
 
-    // A file is at a place that is not in the directory.
+    // A file is at a place that is in no directory of the share.
     fn is_out(&self, files: &Ram, place: &Place) -> bool {
-        !place.names().starts_with(self.place.names()) && is_file(files, place)
+        self.volumes.of_place(place).is_none() && is_file(files, place)
     }
 }
 

@@ -128,7 +128,7 @@ fn place_over<R: AllocGlobal + Files>(
 // A sticky folder keeps another owner's file in its place: it cannot be replaced, and a second name of it could not be removed. The file
 // beside it is this user's.
 fn is_bound<R: Files>(rt: &R, folder: &str, beside: &str, target: &str) -> io::Result<bool> {
-    let folder = found_folder(rt, folder)?;
+    let folder = fs::symlink_metadata(rt, folder)?;
     if !is_sticky(&folder) {
         return Ok(false);
     }
@@ -140,7 +140,7 @@ fn is_bound<R: Files>(rt: &R, folder: &str, beside: &str, target: &str) -> io::R
 /// The same for a file that is to get another name.
 pub fn is_immovable<R: AllocGlobal + Files>(rt: &R, path: &str) -> io::Result<bool> {
     let folder = path.rsplit_once('/').map_or("", |(folder, _)| folder);
-    if !is_sticky(&found_folder(rt, folder)?) {
+    if !is_sticky(&fs::symlink_metadata(rt, folder)?) {
         return Ok(false);
     }
     // Whose the files are that this user makes is known by one of them.
@@ -149,11 +149,6 @@ pub fn is_immovable<R: AllocGlobal + Files>(rt: &R, path: &str) -> io::Result<bo
     let is_immovable = is_bound(rt, folder, beside.as_str(), path);
     fs::remove_file(rt, beside.as_str())?;
     is_immovable
-}
-
-// What a folder is; the empty path is that of the folder of the share.
-fn found_folder<R: Files>(rt: &R, folder: &str) -> io::Result<Metadata> {
-    fs::symlink_metadata(rt, if folder.is_empty() { "." } else { folder })
 }
 
 // Only owners remove what is in the folder.

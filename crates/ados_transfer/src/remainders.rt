@@ -4,9 +4,9 @@ use crate::departure::own_path;
 use crate::faults::TransferFault;
 use crate::mirror::Mirror;
 use crate::moves::Elsewhere;
-use crate::paths::last_piece;
+use crate::paths::{last_piece, step_into};
 use crate::placing::place_new;
-use std::alloc::Global;
+use crate::volumes::Volumes;
 use std::io::ErrorKind;
 use std::rt::Files;
 use std::{fs, io};
@@ -27,23 +27,28 @@ pub struct Remainder {
 
 impl Remainder {
     // The line that reports it, given the name that it has now, and how many more stay.
-    fn line(&self, alloc: Global, name: &str, more: usize) -> Result<String, TransferFault> {
-        let Remainder {
-            original,
-            elsewhere,
-            ..
-        } = self;
+    fn line(&self, volumes: &Volumes, name: &str, more: usize) -> Result<String, TransferFault> {
+        let alloc = self.path.allocator();
+        let name = volumes.shown(name)?;
+        let original = volumes.shown(self.original.as_str())?;
+        let elsewhere = &self.elsewhere;
         if more == 0 {
             return Ok(format!(in alloc; "kept as {name}, since {elsewhere}: {original}")?);
         }
         Ok(format!(in alloc; "kept as {name}, since {elsewhere}: {original} and {more} more")?)
     }
 
-    // Gives it a name of its own: beside the place of the file, or else in the folder of the share itself. Gives the name; that is the
+    // Gives it a name of its own: beside the place of the file, or else in the folder of its volume. Gives the name; that is the
     // temporary one if it can have no other.
-    fn own_name<R: AllocGlobal + Files>(&self, rt: &R) -> Result<String, TransferFault> {
+    fn own_name<R: AllocGlobal + Files>(
+        &self,
+        rt: &R,
+        volumes: &Volumes,
+    ) -> Result<String, TransferFault> {
         let original = self.original.as_str();
-        for stem in [original, last_piece(original)] {
+        let root = volumes.root_of(original);
+        let in_root = step_into(rt.alloc(), root, last_piece(original))?;
+        for stem in [original, in_root.as_str()] {
             if let Some(name) = placed_as(rt, self.path.as_str(), stem)? {
                 return Ok(name);
             }
@@ -63,14 +68,14 @@ impl Mirror {
         for remainder in remainders {
             self.backups.have_stayed = true;
             if fs::symlink_metadata(rt, remainder.path.as_str()).is_ok() {
-                let name = remainder.own_name(rt)?;
+                let name = remainder.own_name(rt, &self.volumes)?;
                 named.push((name, remainder))?;
             }
         }
         let [(name, first), more @ ..] = named.as_slice() else {
             return Ok(());
         };
-        let line = first.line(self.alloc, name.as_str(), more.len())?;
+        let line = first.line(&self.volumes, name.as_str(), more.len())?;
         self.reports.report_line(line)
     }
 }

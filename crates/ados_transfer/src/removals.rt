@@ -7,7 +7,6 @@ use crate::departure::{Departure, move_aside, own_path, remove};
 use crate::faults::TransferFault;
 use crate::here::Here;
 use crate::mirror::Mirror;
-use crate::paths::step_into;
 use crate::placing::place_new;
 use crate::records::Record;
 use crate::stamps::Stamp;
@@ -166,7 +165,7 @@ impl Mirror {
         here: &Here,
         account: &mut Account,
     ) -> io::Result<bool> {
-        let Some((beside, mode)) = move_aside(rt, path, here)? else {
+        let Some((beside, mode)) = move_aside(rt, self.volumes.root_of(path), path, here)? else {
             return Ok(false);
         };
         let Some((key, record)) = self.records.remove_entry(key) else {
@@ -230,7 +229,7 @@ impl Mirror {
             }
             _ => match beside {
                 Some(beside) => {
-                    let whole = step_into(self.alloc, self.folder.as_str(), beside.as_str())?;
+                    let whole = self.volumes.whole(beside.as_str())?;
                     let text = format!(in self.alloc; "kept as {whole}")?;
                     account.kept.push(beside)?;
                     self.reports.report(text.as_str(), record.path.as_str())

@@ -1,6 +1,7 @@
 //! What a share reports on standard error: each line about an object once in a run, or once until it is settled.
 
 use crate::faults::TransferFault;
+use crate::volumes::Volumes;
 use ados_ram::Limits;
 use std::alloc::Global;
 use std::collections::BTreeSet;
@@ -9,6 +10,8 @@ use std::collections::BTreeSet;
 #[derive(Drop)]
 pub struct Reports {
     alloc: Global,
+    // By them lines name an object.
+    volumes: Volumes,
     // The lines that are to be reported, and those that are reported only once in a run.
     lines: Vec<String>,
     reported: BTreeSet<String>,
@@ -27,10 +30,11 @@ pub struct Reports {
 }
 
 impl Reports {
-    /// Nothing to report.
-    pub fn new(alloc: Global) -> Reports {
+    /// Nothing to report of these volumes.
+    pub fn new(alloc: Global, volumes: Volumes) -> Reports {
         Reports {
             alloc,
+            volumes,
             lines: Vec::new(alloc),
             reported: BTreeSet::new(alloc),
             kept: BTreeSet::new(alloc),
@@ -84,12 +88,14 @@ impl Reports {
 
     /// Reports a line about an object.
     pub fn report(&mut self, text: &str, path: &str) -> Result<(), TransferFault> {
+        let path = self.volumes.shown(path)?;
         self.lines.push(format!(in self.alloc; "{text}: {path}")?)?;
         Ok(())
     }
 
     /// Reports a line about an object once in a run.
     pub fn report_once(&mut self, text: &str, path: &str) -> Result<(), TransferFault> {
+        let path = self.volumes.shown(path)?;
         self.report_line(format!(in self.alloc; "{text}: {path}")?)
     }
 

@@ -5,7 +5,7 @@ use crate::lines::{command_line, literal, start, too_long};
 use crate::stand_ins::is_stand_in;
 use crate::words::push_word;
 use ados_ram::{Entry, Place, Ram};
-use ados_text::{LINE_BYTES, Text};
+use ados_text::{LINE_BYTES, Name, Text};
 use std::alloc::Global;
 
 // The lines that put the commands of the share on the resident list, where nothing can shadow them, each by its name there and the
@@ -64,6 +64,15 @@ impl ShareLines {
             }
         }
         Ok(())
+    }
+
+    /// Adds the line that makes an assign to a directory.
+    pub fn add_assign(&mut self, device: &Name, place: &Place) -> Result<(), TransferFault> {
+        let mut name = device.text().copy()?;
+        name.push(b':')?;
+        let mut words = Text::new(self.alloc);
+        push_word(&mut words, &place.path(self.alloc)?, true)?;
+        self.add(b"\"Assign\"", &name, words.as_bytes())
     }
 
     /// Adds the line that makes a directory.

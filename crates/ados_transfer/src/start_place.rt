@@ -1,6 +1,6 @@
 //! Where the programs of a share start.
 
-use crate::below::is_gone;
+use crate::below::Below;
 use crate::faults::TransferFault;
 use crate::mirror::Mirror;
 use crate::paths::step_into;
@@ -13,7 +13,7 @@ use std::rt::Files;
 pub enum StartPlace {
     /// Where this process was started: the directory is outside the share.
     Home,
-    /// In this folder, by its path below the folder of the share.
+    /// In the folder to which this path leads.
     Folder(String),
     /// Nowhere: the share has no such folder, or a link is on the way to it.
     Nowhere,
@@ -27,51 +27,38 @@ impl Mirror {
         rt: &R,
         place: &Place,
     ) -> Result<StartPlace, TransferFault> {
-        if !place.names().starts_with(self.place.names()) {
+        let Some(path) = self.path_of(place)? else {
             return Ok(StartPlace::Home);
-        }
-        let path = self.path_of(place.relative_names(&self.place))?;
-        if self.has_folder(rt, path.as_str())? {
-            return Ok(StartPlace::Folder(path));
-        }
-        let mut name = path;
-        if name.is_empty() {
-            name = String::from_str(self.alloc, self.folder.as_str())?;
+        };
+        if let Some((volume, below)) = self.volumes.of_path(path.as_str())
+            && self.has_folder(&Below::new(rt, &self.volumes), volume.label.as_str(), below)?
+        {
+            return Ok(StartPlace::Folder(volume.real(self.alloc, below)?));
         }
         self.reports.report(
             "no program starts there, since it is no folder",
-            name.as_str(),
+            path.as_str(),
         )?;
         Ok(StartPlace::Nowhere)
     }
 
-    // A path leads from the folder through folders alone, and through no link.
+    // What is below the folder of a volume is a folder, to which folders alone lead, and no link.
     fn has_folder<R: AllocGlobal + Files>(
         &self,
-        rt: &R,
-        path: &str,
+        rt: &Below<'_, R>,
+        label: &str,
+        below: &str,
     ) -> Result<bool, TransferFault> {
-        if is_gone(rt) {
+        if rt.is_gone(label) {
             return Ok(false);
         }
-        if path.is_empty() {
-            return Ok(true);
-        }
-        let mut whole = String::new(self.alloc);
-        for name in path.split('/') {
-            whole = step_into(self.alloc, whole.as_str(), name)?;
-            if !is_folder(rt, whole.as_str()) {
+        let mut path = String::from_str(self.alloc, label)?;
+        for name in below.split('/').filter(|name| !name.is_empty()) {
+            path = step_into(self.alloc, path.as_str(), name)?;
+            if !fs::symlink_metadata(rt, path.as_str()).is_ok_and(|found| found.is_dir()) {
                 return Ok(false);
             }
         }
         Ok(true)
-    }
-}
-
-// A folder is at a path, and not a link to one.
-fn is_folder<R: Files>(rt: &R, path: &str) -> bool {
-    match fs::symlink_metadata(rt, path) {
-        Ok(found) => found.is_dir(),
-        Err(_) => false,
     }
 }

@@ -5,7 +5,6 @@ ghost use Rattle.ados_transfer.specs.StandIns.{last_watch, next_watch};
 
 use crate::faults::TransferFault;
 use crate::mirror::Mirror;
-use crate::places::place_below;
 use crate::records::{Last, Record};
 use crate::stand_ins::is_stand_in_of;
 use ados_ram::{Bits, Place, Ram};
@@ -89,7 +88,7 @@ impl Mirror {
                 self.stand_ins.is_lost = true;
             }
             if matches!(fate, Fate::Altered | Fate::Deleted) {
-                record.place = place_below(self.alloc, &self.place, key.as_str())?;
+                record.place = self.volumes.place_of(key.as_str())?;
             }
             record.follow(fate);
         }

@@ -43,9 +43,9 @@ PATH, in which no name is . or .. and no folder a link. May be given again";
 const TYPE: &str = "A line that is typed before the script. May be given again";
 
 const SHARE: &str =
-    "Shares a folder of this machine: it stands as RAM:Work, or as PATH, and the script begins there. Before
-each program starts what changed there is written to the folder, and what the program changes in the
-folder comes in when it ends";
+    "Shares a folder of this machine: it stands as RAM:Work, or as PATH, which may be a device that the Shell lacks, as
+Work:. Before each program starts what changed there is written to the folder, and what the program changes in the
+folder comes in when it ends. May be given again; the script begins in the first";
 
 const ALL: &str = "Shares also what has a name that begins with a dot";
 
@@ -53,7 +53,7 @@ const PART: &str =
     "Shares what fits of a folder that has more files and folders than the Shell can hold; without it nothing runs then";
 
 const DRY: &str =
-    "Tells what would be written to the shared folder and deleted there, and writes nothing itself; programs
+    "Tells what would be written to the shared folders and deleted there, and writes nothing itself; programs
 and --take write as ever";
 
 const QUOTE: &str = "Quotes each of ARGS, so that none is the name of an option of .KEY";
@@ -136,7 +136,7 @@ fn command<'a>(alloc: Global) -> Result<Command<'a>, AllocError> {
         .arg(list_option(alloc, "bring", "PATH[=NAME]", BRING))?
         .arg(list_option(alloc, "take", "NAME[=PATH]", TAKE))?
         .arg(list_option(alloc, "type", "LINE", TYPE))?
-        .arg(text_option(alloc, "share", "FOLDER[=PATH]", SHARE))?
+        .arg(list_option(alloc, "share", "FOLDER[=PATH]", SHARE))?
         .arg(flag(alloc, "all", ALL))?
         .arg(flag(alloc, "part", PART))?
         .arg(flag(alloc, "dry", DRY))?

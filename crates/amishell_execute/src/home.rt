@@ -1,13 +1,12 @@
-//! Where this process was started. While a folder is shared it is this process's current directory instead.
+//! Where this process was started.
 
 use crate::faults::{Fault, cannot_read};
 use crate::launcher::Start;
 use ados_launcher::StartFolder;
-use std::alloc::Global;
 use std::env;
 use std::rt::Env;
 
-/// The directory in which this process was started.
+/// The directory in which this process was started, which stays its current one.
 #[derive(Drop)]
 pub struct Home {
     path: String,
@@ -24,29 +23,11 @@ impl Home {
         })
     }
 
-    /// Goes back to it. `CannotRead` if that cannot be.
-    pub fn enter<R: Env + AllocGlobal>(&self, rt: &R) -> Result<(), Fault> {
-        enter(rt, self.path.as_str())
-    }
-
-    /// The start of a program in a folder: outside of the share if none is given. A path with a slash leads to a program from here.
-    pub fn start(&self, alloc: Global, folder: Option<&str>) -> Result<Start, Fault> {
-        let path = match folder {
-            Some("") => ".",
-            Some(folder) => folder,
-            None => self.path.as_str(),
-        };
+    /// The start of a program in a folder. A path with a slash leads to a program from here.
+    pub fn start(&self, folder: String) -> Result<Start, Fault> {
         Ok(Start::Folder(StartFolder {
-            path: String::from_str(alloc, path)?,
+            path: folder,
             home: self.path.clone()?,
         }))
-    }
-}
-
-/// Changes into a folder. `CannotRead` if that cannot be.
-pub fn enter<R: Env + AllocGlobal>(rt: &R, folder: &str) -> Result<(), Fault> {
-    match env::set_current_dir(rt, folder) {
-        Ok(()) => Ok(()),
-        Err(_) => Err(cannot_read(rt.alloc(), folder)),
     }
 }

@@ -136,12 +136,19 @@ impl Inspector<'_> {
         Ok(true)
     }
 
-    // The file of this machine that the Shell will have under a name: in the shared folder, or brought in.
+    // The file of this machine that the Shell will have under a name: in a shared folder, or brought in.
     fn file_of<R: AllocGlobal + Files>(&self, rt: &R, name: &str) -> Result<Option<String>, Fault> {
-        if let Some(words) = self.options.share {
-            let (folder, _) = parted(rt, words);
+        for (number, words) in self.options.share.iter().enumerate() {
+            let (folder, directory) = parted(rt, words);
+            let device = directory.filter(|directory| directory.ends_with(':'));
+            let below = match device.and_then(|device| name.strip_prefix(device)) {
+                Some(below) => below,
+                // The script begins in the first.
+                None if number == 0 => name,
+                None => continue,
+            };
             let folder = if folder == "." { "" } else { folder };
-            let path = step_into(rt.alloc(), folder, name)?;
+            let path = step_into(rt.alloc(), folder, below)?;
             if fs::metadata(rt, path.as_str()).is_ok_and(|found| !found.is_dir()) {
                 return Ok(Some(path));
             }

@@ -44,6 +44,8 @@ struct Children<'a, R: Processes> {
 /// Where programs start.
 #[derive(Drop)]
 pub enum Start {
+    /// In this process's current directory.
+    Home,
     /// In this folder.
     Folder(StartFolder),
     /// Nowhere: a start fails as if there were no such program.
@@ -99,7 +101,7 @@ impl<'a, R: Processes> Bringer<'a, R> {
         self.children.is_barred = matches!(&start, Start::Nowhere);
         let folder = match start {
             Start::Folder(folder) => Some(folder),
-            Start::Nowhere => None,
+            Start::Home | Start::Nowhere => None,
         };
         self.children.programs.set_folder(folder);
     }

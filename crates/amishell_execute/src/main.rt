@@ -127,7 +127,7 @@ fn execute<
     run_script(rt, options, errors.as_slice(), &mut world, &mut share)
 }
 
-// The folder that is shared, if one is.
+// The folders that are shared, if any are.
 fn opened<R: Env + AllocGlobal + Files + Clone + Drop + Clock>(
     rt: &R,
     options: &Options<'_>,
@@ -136,13 +136,13 @@ fn opened<R: Env + AllocGlobal + Files + Clone + Drop + Clock>(
     requires agrees { Agrees world.old [] }
     ensures agrees { OnOk result (Agrees world.new []) }
 {
-    match options.share {
-        Some(words) => match Share::open(rt, words, options.mirror, world) {
-            Ok(share) => Ok(Some(share)),
-            Err(Fault::Transfer(TransferFault::CannotRead(path))) => Err(Fault::NoFolder(path)),
-            Err(fault) => Err(fault),
-        },
-        None => Ok(None),
+    if options.share.is_empty() {
+        return Ok(None);
+    }
+    match Share::open(rt, options.share.as_slice(), options.mirror, world) {
+        Ok(share) => Ok(Some(share)),
+        Err(Fault::Transfer(TransferFault::CannotRead(path))) => Err(Fault::NoFolder(path)),
+        Err(fault) => Err(fault),
     }
 }
 
@@ -161,12 +161,11 @@ fn run_script<
     let mut plan = Plan::new(rt.alloc(), options.mirror.limits, world.files())?;
     let script = add_files(rt, options, world, &mut plan)?;
     let lines = lines_for(rt, options, share.as_ref(), &plan, &script)?;
-    let shared = share.as_ref().map(|share| share.place());
-    let origins = Origins::new(rt, plan.planned(), options.share, shared)?;
-    let kept = Kept::new(rt.alloc(), world.files(), plan.planned(), &script)?;
+    let mut origins = Origins::new(rt.alloc(), plan.planned());
     if let Some(share) = share.as_ref() {
-        share.enter(rt)?;
+        origins.add_shares(rt, options.share.as_slice(), share.volumes())?;
     }
+    let kept = Kept::new(rt.alloc(), world.files(), plan.planned(), &script)?;
     let script = Script {
         planned: plan.planned(),
         lines: &lines,
@@ -200,7 +199,7 @@ fn run_script<
     Ok(if is_taken { status } else { Status::Failed })
 }
 
-// Reports that the shared folder is not as the script left it, and with which code the script ended, if it did.
+// Reports that a shared folder is not as the script left it, and with which code the script ended, if it did.
 fn report_lacking<R: AllocGlobal + Eprint>(rt: &R, code: Option<Code>) -> Result<Status, Fault> {
     let mut line = String::from_str(rt.alloc(), "the shared folder and the Shell's files differ")?;
     if let Some(Code(number)) = code {
@@ -237,8 +236,8 @@ fn tell_gone<R: AllocGlobal + Eprint>(
     share: Option<&Share>,
     mut kept: Kept<'_>,
 ) -> Result<(), Fault> {
-    if let Some(share) = share {
-        kept.add(share.place())?;
+    for volume in share.map_or(&[][..], |share| share.volumes()) {
+        kept.add(&volume.place)?;
     }
     for words in &options.take {
         if let Some(place) = taken_place(rt.alloc(), world.files(), world.assigns(), words)? {
@@ -248,8 +247,8 @@ fn tell_gone<R: AllocGlobal + Eprint>(
     tell_losses(rt, world.files(), &kept)
 }
 
-// Brings the shared folder up to date, if there is one; gives whether all was done.
-fn close<R: Env + AllocGlobal + Files + Eprint + Clone + Drop + Clock>(
+// Brings the shared folders up to date, if there are any; gives whether all was done.
+fn close<R: AllocGlobal + Files + Eprint + Clone + Drop + Clock>(
     rt: &R,
     world: &World,
     share: Option<&mut Share>,

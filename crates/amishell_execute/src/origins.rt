@@ -1,9 +1,8 @@
 //! The paths of this machine from which the Shell's files come.
 
-use ados_ram::Place;
 use ados_text::{NoMemory, Text, same_name};
 use ados_trace::{ScriptNames, shown};
-use ados_transfer::{Planned, parted, step_into};
+use ados_transfer::{Planned, Volume, parted, step_into};
 use std::alloc::Global;
 use std::rt::Files;
 
@@ -14,8 +13,8 @@ pub struct Origins<'a> {
     pub alloc: Global,
     // What was brought in.
     planned: &'a [Planned],
-    // The directory that is shared.
-    share: Option<Shared<'a>>,
+    // The directories that are shared.
+    shares: Vec<Shared<'a>>,
 }
 
 // A directory of the Shell that is shared.
@@ -28,25 +27,29 @@ struct Shared<'a> {
 }
 
 impl<'a> Origins<'a> {
-    /// What was brought in, and the directory that words of `--share` share.
-    pub fn new<R: AllocGlobal + Files>(
-        rt: &R,
-        planned: &'a [Planned],
-        words: Option<&'a str>,
-        directory: Option<&Place>,
-    ) -> Result<Origins<'a>, NoMemory> {
-        let share = match (words, directory) {
-            (Some(words), Some(directory)) => Some(Shared {
-                directory: directory.path(rt.alloc())?,
-                folder: parted(rt, words).0,
-            }),
-            _ => None,
-        };
-        Ok(Origins {
-            alloc: rt.alloc(),
+    /// What was brought in.
+    pub fn new(alloc: Global, planned: &'a [Planned]) -> Origins<'a> {
+        Origins {
+            alloc,
             planned,
-            share,
-        })
+            shares: Vec::new(alloc),
+        }
+    }
+
+    /// Adds the directories of these volumes, each with the folder that its words of `--share` name.
+    pub fn add_shares<R: Files>(
+        &mut self,
+        rt: &R,
+        words: &[&'a str],
+        volumes: &[Volume],
+    ) -> Result<(), NoMemory> {
+        for (words, volume) in words.iter().zip(volumes) {
+            self.shares.push(Shared {
+                directory: volume.place.path(self.alloc)?,
+                folder: parted(rt, words).0,
+            })?;
+        }
+        Ok(())
     }
 }
 
@@ -59,26 +62,28 @@ impl ScriptNames for Origins<'_> {
                 return Ok(String::from_str(self.alloc, one.path.as_str())?);
             }
         }
-        match &self.share {
-            Some(share) => share.name(self.alloc, file),
-            None => Ok(String::from_str(self.alloc, shown(file))?),
+        for share in &self.shares {
+            if let Some(name) = share.name(self.alloc, file)? {
+                return Ok(name);
+            }
         }
+        Ok(String::from_str(self.alloc, shown(file))?)
     }
 }
 
 impl Shared<'_> {
-    // The path of a file in the folder, if it is below the directory; otherwise its full path.
-    fn name(&self, alloc: Global, file: &Text) -> Result<String, NoMemory> {
+    // The path of a file in the folder, if it is below the directory.
+    fn name(&self, alloc: Global, file: &Text) -> Result<Option<String>, NoMemory> {
         let path = shown(file);
         let length = self.directory.as_bytes().len();
         let (Some(above), Some(below)) = (path.get(..length), path.get(length..)) else {
-            return Ok(String::from_str(alloc, path)?);
+            return Ok(None);
         };
         match below.strip_prefix('/') {
             Some(below) if same_name(above.as_bytes(), self.directory.as_bytes()) => {
-                self.path(alloc, below)
+                Ok(Some(self.path(alloc, below)?))
             }
-            _ => Ok(String::from_str(alloc, path)?),
+            _ => Ok(None),
         }
     }
 

@@ -31,7 +31,7 @@ pub fn asked<'a, S: AsStr>(alloc: Global, words: &'a [S]) -> Result<Options<'a>,
         Err(error) => return Err(refusal(alloc, &error)),
     };
     for name in ["all", "part", "dry"] {
-        if matches.get_flag(name) && matches.get_str("share").is_none() {
+        if matches.get_flag(name) && matches.get_strs("share").is_none() {
             return Err(bad_line(format!(in alloc; "--{name} needs --share")));
         }
     }
@@ -100,7 +100,7 @@ fn options<'a>(
         bring: list(alloc, matches, "bring")?,
         take: list(alloc, matches, "take")?,
         typed: list(alloc, matches, "type")?,
-        share: matches.get_str("share"),
+        share: list(alloc, matches, "share")?,
         mirror: MirrorOptions {
             all: matches.get_flag("all"),
             part: matches.get_flag("part"),

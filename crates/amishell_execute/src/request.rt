@@ -22,9 +22,9 @@ pub struct Options<'a> {
     pub take: Vec<&'a str>,
     /// The lines that are typed before the script.
     pub typed: Vec<&'a str>,
-    /// The folder that is shared, as `FOLDER` or `FOLDER=PATH`.
-    pub share: Option<&'a str>,
-    /// What of it is shared, and whether anything is written.
+    /// The folders that are shared, each as `FOLDER` or `FOLDER=PATH`.
+    pub share: Vec<&'a str>,
+    /// What of them is shared, and whether anything is written.
     pub mirror: MirrorOptions,
     /// Each argument is quoted.
     pub quote: bool,

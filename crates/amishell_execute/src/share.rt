@@ -1,17 +1,18 @@
-//! A folder of this machine that is shared with the Shell.
+//! Folders of this machine that are shared with the Shell.
 ghost use Rattle.std.specs.Prelude.{◌≡◌, ◌<◌, ◌^◌, ◌-◌, [], IsOk, OnOk};
 ghost use Rattle.ados_launch.specs.Agreement.{Agrees, IsOpenTable};
 ghost use Rattle.ados_launch.specs.Deeds.{RunsLines};
 
 use crate::due::Due;
 use crate::faults::{Fault, report};
-use crate::home::{Home, enter};
+use crate::home::Home;
 use crate::launcher::{Bringer, Start};
 use crate::pace::Pace;
 use ados_launch::{Launcher, Listed, Session, SystemEnd, SystemFault, system};
-use ados_ram::Place;
 use ados_text::Text;
-use ados_transfer::{Arrival, Mirror, MirrorOptions, Moment, StartPlace, push_word};
+use ados_transfer::{
+    Arrival, Mirror, MirrorOptions, Moment, StartPlace, Volume, push_word, volumes_of,
+};
 use ados_world::World;
 use std::alloc::Global;
 use std::io::Eprint;
@@ -22,22 +23,23 @@ use std::time::Clock;
 // The most events that a line takes which brings something in: the longest file comes in 16,384 pieces.
 const EVENTS: u64 = 16_500;
 
-/// The mirror of the folder, and its state.
+/// The mirror of the folders, and its state.
 #[derive(Drop)]
 pub struct Share {
     mirror: Mirror,
     home: Home,
-    // What was in the folder at the beginning was brought in.
+    // What was in the folders at the beginning was brought in.
     is_filled: bool,
     pace: Pace,
 }
 
 impl Share {
-    /// Makes in a new world the directory that the words name, and the commands by which files are brought in.
+    /// Makes in a new world the directories and the assigns that the words of each `--share` name, and the commands by which files are
+    /// brought in.
     #[tactic(auto, using(crate::proofs::Pairs::kept_pair))]
     pub fn open<R: Env + AllocGlobal + Files + Clone + Drop + Clock>(
         rt: &R,
-        words: &str,
+        words: &[&str],
         options: MirrorOptions,
         world: &mut World,
     ) -> Result<Share, Fault>
@@ -47,7 +49,8 @@ impl Share {
     {
         let alloc = rt.alloc();
         let home = Home::new(rt)?;
-        let mirror = Mirror::new(rt, words, options, world.files())?;
+        let volumes = volumes_of(rt, words, world.files(), world.assigns())?;
+        let mirror = Mirror::new(alloc, volumes, options)?;
         // These lines start no program.
         let mut launcher = Listed::new(Vec::new(alloc));
         let mut session = Session::new(alloc, world, &[]);
@@ -64,25 +67,22 @@ impl Share {
         })
     }
 
-    /// The directory.
-    pub fn place(&self) -> &Place {
-        self.mirror.place()
+    /// The volumes, in the order of the words.
+    pub fn volumes(&self) -> &[Volume] {
+        self.mirror.volumes()
     }
 
-    /// Makes the folder this process's current directory: from now on its files are found in it, whatever its name leads to.
-    pub fn enter<R: AllocGlobal + Env>(&self, rt: &R) -> Result<(), Fault> {
-        enter(rt, self.mirror.folder())
-    }
-
-    /// The line that makes the directory the current one.
+    /// The line that makes the first directory the current one.
     pub fn change_line(&self, alloc: Global) -> Result<Text, Fault> {
         let mut line = Text::from_bytes(alloc, b"\"CD\"")?;
-        push_word(&mut line, &self.mirror.place().path(alloc)?, true)?;
+        if let Some(volume) = self.volumes().first() {
+            push_word(&mut line, &volume.place.path(alloc)?, true)?;
+        }
         Ok(line)
     }
 
-    /// Before an event: at a program's start, what changed is written to the folder; before its end is reported to the world,
-    /// what changed in the folder is brought in. Now and then, and before this process may have to wait, what changed is written too.
+    /// Before an event: at a program's start, what changed is written to the folders; before its end is reported to the world,
+    /// what changed in the folders is brought in. Now and then, and before this process may have to wait, what changed is written too.
     /// `is_ready`: the lines that bring files in were given.
     ///
     /// At an error too the session knows which programs are open.
@@ -142,8 +142,8 @@ impl Share {
         Ok(self.mirror.forget_deleted(world.files())?)
     }
 
-    /// Writes what changed to the folder at the end, and goes back to where this process was started. `false` if the two sides are not alike then.
-    pub fn close<R: Env + AllocGlobal + Files + Eprint + Clone + Drop + Clock>(
+    /// Writes what changed to the folders at the end. `false` if the two sides are not alike then.
+    pub fn close<R: AllocGlobal + Files + Eprint + Clone + Drop + Clock>(
         &mut self,
         rt: &R,
         world: &World,
@@ -151,11 +151,10 @@ impl Share {
         if self.is_filled {
             self.write_out(rt, world, Moment::End)?;
         }
-        self.home.enter(rt)?;
         Ok(!self.mirror.differs())
     }
 
-    // Brings in what changed in the folder.
+    // Brings in what changed in the folders.
     fn bring_in<R: AllocGlobal + Files + Eprint + Processes + Clone + Drop + Clock>(
         &mut self,
         rt: &R,
@@ -179,7 +178,7 @@ impl Share {
         Ok(())
     }
 
-    // Writes what changed to the folder.
+    // Writes what changed to the folders.
     fn write_out<R: AllocGlobal + Files + Eprint + Clone + Drop + Clock>(
         &mut self,
         rt: &R,
@@ -204,8 +203,8 @@ impl Share {
             None => StartPlace::Home,
         };
         match place {
-            StartPlace::Home => self.home.start(rt.alloc(), None),
-            StartPlace::Folder(path) => self.home.start(rt.alloc(), Some(path.as_str())),
+            StartPlace::Home => Ok(Start::Home),
+            StartPlace::Folder(path) => self.home.start(path),
             StartPlace::Nowhere => {
                 self.report_lines(rt);
                 Ok(Start::Nowhere)

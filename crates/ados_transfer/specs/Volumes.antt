@@ -1,0 +1,23 @@
+-- The paths of the volumes of a share.
+use Rattle.std.specs.Prelude.{Bool, ◌++◌, ◌==◌, ◌||◌, codes, length, if◌then◌else◌}
+use Rattle.std.specs.Str.{bytes_eq}
+use Rattle.ados_text.specs.Text.{Bytes}
+use Rattle.ados_transfer.specs.Changes.{is_descendant}
+use Rattle.ados_transfer.specs.Paths.{path_in}
+
+-- the path of what is below the folder of a volume with a label; a volume that is the only one has none
+abbrev pub labelled : Bytes → Bytes → Bytes
+labelled label below =
+    if length label == 0 then below else (if length below == 0 then label else (label ++ codes "/") ++ below)
+
+-- the path of this machine by which what is below a folder is used, given that of the folder
+abbrev pub real_path : Bytes → Bytes → Bytes
+real_path root below = path_in root (if length below == 0 then codes "." else below)
+
+-- a whole path leads to what is in a folder; all is in the root
+abbrev pub is_within : Bytes → Bytes → Bool
+is_within folder path = bytes_eq folder (codes "/") || is_descendant folder path
+
+-- two folders, by their whole paths, are the same, or one is in the other
+abbrev pub meet : Bytes → Bytes → Bool
+meet path other = bytes_eq path other || (is_within path other || is_within other path)
