@@ -7,6 +7,7 @@ use crate::moves::Elsewhere;
 use crate::paths::{last_piece, step_into};
 use crate::placing::place_new;
 use crate::volumes::Volumes;
+use std::alloc::Global;
 use std::io::ErrorKind;
 use std::rt::Files;
 use std::{fs, io};
@@ -27,8 +28,13 @@ pub struct Remainder {
 
 impl Remainder {
     // The line that reports it, given the name that it has now, and how many more stay.
-    fn line(&self, volumes: &Volumes, name: &str, more: usize) -> Result<String, TransferFault> {
-        let alloc = self.path.allocator();
+    fn line(
+        &self,
+        alloc: Global,
+        volumes: &Volumes,
+        name: &str,
+        more: usize,
+    ) -> Result<String, TransferFault> {
         let name = volumes.shown(name)?;
         let original = volumes.shown(self.original.as_str())?;
         let elsewhere = &self.elsewhere;
@@ -75,7 +81,7 @@ impl Mirror {
         let [(name, first), more @ ..] = named.as_slice() else {
             return Ok(());
         };
-        let line = first.line(&self.volumes, name.as_str(), more.len())?;
+        let line = first.line(self.alloc, &self.volumes, name.as_str(), more.len())?;
         self.reports.report_line(line)
     }
 }
