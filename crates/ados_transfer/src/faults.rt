@@ -43,6 +43,9 @@ pub enum TransferFault {
     /// The directory of a share is a file, or files are in it at the beginning.
     #[error("no empty directory for the share: {0}")]
     NoPlace(String),
+    /// The folder of this name that is to be shared cannot be opened.
+    #[error("cannot read {0}")]
+    FolderUnread(String),
     /// Of two folders that are to be shared one is the other, or is in it.
     #[error("one folder cannot be shared twice: {0}, {1}")]
     FoldersMeet(String, String),

@@ -26,7 +26,7 @@ const CONSOLE: &str = "CON";
 /// The volumes for the words of each `--share`, as `FOLDER` or `FOLDER=PATH`. PATH is a directory of the Shell's files, or the name of
 /// a device that they do not have yet, as `Work:`, which then leads to RAM:Work; it defaults to RAM:Work. The folders stay open.
 ///
-/// `CannotRead` if a FOLDER is not a folder; `BadName` if PATH does not name a directory, or names the root; `NoPlace` if in these
+/// `CannotRead` if a FOLDER is not a folder, `FolderUnread` if it can't be opened; `BadName` if PATH does not name a directory, or names the root; `NoPlace` if in these
 /// files it is one of a file or of a directory that is not empty, or is that of the script; `FoldersMeet` and `DirectoriesMeet` if
 /// two folders, or two directories, are the same or one is in the other.
 pub fn volumes_of<R: AllocGlobal + Files>(
@@ -75,7 +75,7 @@ fn volume_of<R: AllocGlobal + Files>(
         return Err(named(alloc, directory, TransferFault::NoPlace));
     }
     let Ok(root) = held_folder(rt, folder.as_str()) else {
-        return Err(named(alloc, path, TransferFault::CannotRead));
+        return Err(named(alloc, path, TransferFault::FolderUnread));
     };
     let prefix = match &device {
         Some(_) => String::from_str(alloc, directory)?,
