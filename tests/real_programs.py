@@ -40,7 +40,7 @@ def end(left):
 
 def ran(words, typed, folder, more=None):
     """The run of a program on typed bytes in a folder, with more variables in its environment. Call adopt() first."""
-    given = {**os.environ, **(more or {})}
+    given = {**os.environ, "XDG_CONFIG_HOME": "/dev/null", **(more or {})}
     done = subprocess.run(words, input=typed, cwd=folder, env=given, capture_output=True, timeout=SECONDS)
     left = children()
     end(left)

@@ -11,6 +11,7 @@ import subprocess
 import sys
 import tempfile
 
+os.environ["XDG_CONFIG_HOME"] = "/dev/null"
 SCRIPT = 'FailAt 21\nRequestChoice >ENV:choice "Install" "Where to?" RAM Disk Nowhere\nEcho "chosen: $choice, code $RC"\n'
 SHOWN = "Install\nWhere to?\n  1  RAM\n  2  Disk\n  0  Nowhere\nYour choice: "
 # By what is typed: what the script prints, and how often the question stands at the terminal.

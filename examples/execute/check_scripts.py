@@ -14,6 +14,7 @@ import subprocess
 import sys
 import tempfile
 
+os.environ["XDG_CONFIG_HOME"] = "/dev/null"
 ROOT = os.path.dirname(os.path.dirname(os.path.dirname(os.path.realpath(__file__))))
 
 # By document or dialogue and script: the lines that fail whenever they are taken.

@@ -11,6 +11,7 @@ PROGRAM, ROOM = sys.argv[1:]
 PRINTED = [chr(c) for c in range(32, 127)]
 SIGNS = '*"$`;<>?+= []{}'
 random.seed(20261126)
+os.environ["XDG_CONFIG_HOME"] = "/dev/null"
 os.makedirs(ROOM)
 os.chdir(ROOM)
 failures = 0

@@ -12,6 +12,7 @@ The last line is 'N changes, M looks: ok'.
 """
 import os, random, re, resource, shutil, signal, subprocess, sys, time
 
+os.environ['XDG_CONFIG_HOME'] = '/dev/null'
 STEPS = 60
 LIMIT = 700
 NAMES = [f'n{n}' for n in range(60)]

@@ -12,6 +12,7 @@ The last line is 'N changes, M starts: ok'.
 """
 import os, random, shutil, subprocess, sys, time
 
+os.environ['XDG_CONFIG_HOME'] = '/dev/null'
 STEPS = 120
 FILES = ['a', 'b', 'c', 'd', 'p/a', 'p/b', 'q/a', 'q/b', 'r/a']
 FOLDERS = ['p', 'q', 'r', 's']

@@ -63,7 +63,7 @@ class Room:
         words = [self.program, "--host", "sh", "--host", "show=./show", "--turns", "20000", "--share", "f", *plan.options, f"script{number}"]
         if "--turns" in plan.options:
             words[5:7] = []
-        given = {name: value for name, value in os.environ.items() if name != "AMISHELL_HOSTS"}
+        given = {name: value for name, value in os.environ.items() if name != "AMISHELL_HOSTS"} | {"XDG_CONFIG_HOME": "/dev/null"}
         if plan.call:
             given |= {"LD_PRELOAD": self.shim, "FAIL_CALL": "path", "FAIL_AT": str(plan.call)}
             given |= {"FAIL_RUN": f"{self.room}/hook"} if plan.deed else {"FAIL_ERRNO": str(plan.error), **({"FAIL_ON": "1"} if plan.is_for_long else {})}

@@ -1,4 +1,5 @@
 mod Driving
+mod OptionLineLemmas
 mod Pairs
 mod Ran
 mod TrailLemmas

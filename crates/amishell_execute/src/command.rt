@@ -63,7 +63,7 @@ const STRIKE: &str =
 DATES, NOREQ and BUFFER of Copy, FORCE of Delete, KEYS, DATES, NODATES, BLOCK and NOHEAD of List, and
 QUIET where there is none";
 
-const STRICT: &str = "As without it: a line that must not be run as it is ends the run";
+const STRICT: &str = "As without --lenient: a line that must not be run as it is ends the run";
 
 const LENIENT: &str =
     "Reports the lines of the script that give a command an option of Release 2 that the Shell leaves out, or
@@ -103,6 +103,13 @@ const TRACE: &str =
     "Writes each command that a script takes on standard error before it runs, as + build:12: Copy a b: a + for
 each script that runs, and in brackets the shell of a Run";
 
+const CONFIG: &str =
+    "A file of options, one a line as it is typed here but without quoting, as --type Assign DF0: df0; blank
+lines and lines that begin with # are left out. What is typed here comes after it, and wins
+[default: amishell/options in the folder XDG_CONFIG_HOME, or else in .config of HOME, if it is there]";
+
+const NO_CONFIG: &str = "Reads no file of options";
+
 const SCRIPT: &str = "The script, a file of this machine, and its arguments";
 
 /// The matches of the words after the program's name, or `clap`'s error.
@@ -110,11 +117,6 @@ pub fn matches_of_words<'a, S: AsStr>(
     alloc: Global,
     words: &'a [S],
 ) -> Result<ArgMatches<'a>, Error> {
-    command(alloc)?.try_get_matches_from(words)
-}
-
-// `amishell-execute` with its options.
-fn command<'a>(alloc: Global) -> Result<Command<'a>, AllocError> {
     let script = Arg::new(alloc, "script")
         .value_name("SCRIPT [ARGS]")
         .help(SCRIPT)
@@ -122,6 +124,19 @@ fn command<'a>(alloc: Global) -> Result<Command<'a>, AllocError> {
         .required(true)
         .trailing_var_arg(true)
         .action(ArgAction::Append);
+    command(alloc)?.arg(script)?.try_get_matches_from(words)
+}
+
+/// The matches of options without a script, or `clap`'s error.
+pub fn matches_of_options<'a, S: AsStr>(
+    alloc: Global,
+    options: &'a [S],
+) -> Result<ArgMatches<'a>, Error> {
+    command(alloc)?.try_get_matches_from(options)
+}
+
+// `amishell-execute` with its options.
+fn command<'a>(alloc: Global) -> Result<Command<'a>, AllocError> {
     Command::new(alloc, "amishell-execute")
         .about(ABOUT)
         .version(VERSION)
@@ -153,7 +168,8 @@ fn command<'a>(alloc: Global) -> Result<Command<'a>, AllocError> {
         .arg(text_option(alloc, "ok-below", "N", OK_BELOW))?
         .arg(flag(alloc, "quiet", QUIET))?
         .arg(flag(alloc, "trace", TRACE))?
-        .arg(script)
+        .arg(text_option(alloc, "config", "FILE", CONFIG))?
+        .arg(flag(alloc, "no-config", NO_CONFIG))
 }
 
 // An option with a value.

@@ -2,15 +2,15 @@
 ghost use Rattle.std.specs.Prelude.{◌≡◌, IfOk};
 ghost use Rattle.ados_machine.specs.World.{fresh_world};
 
-use crate::faults::{Fault, cannot_read, unread};
+use crate::faults::{Fault, cannot_read};
 use crate::host_faults::{bad_line, bad_words, refusal};
 use crate::request::Options;
+use crate::unread::bytes_within;
 use ados_session::{FileFault, HOSTS_BYTES, read_hosts};
 use ados_text::Text;
-use ados_transfer::{BRING, ascii, bytes_of, last_piece, step_into};
+use ados_transfer::{BRING, ascii, last_piece, step_into};
 use ados_world::{Dialect, HostEntry, NewFault, World, hosts_fault};
 use std::alloc::Global;
-use std::io::ErrorKind;
 use std::os::unix::fs::PermissionsExt;
 use std::rt::{Env, Files};
 use std::{env, fs};
@@ -107,14 +107,7 @@ fn read_file<R: AllocGlobal + Files>(
     dialect: Dialect,
     file: &str,
 ) -> Result<Vec<HostEntry>, Fault> {
-    let bytes = match bytes_of(rt, file, HOSTS_BYTES) {
-        Ok(bytes) => bytes,
-        Err(error) if error.kind() == ErrorKind::OutOfMemory => return Err(Fault::Memory),
-        Err(_) => return Err(unread(rt, file)),
-    };
-    if bytes.len() > HOSTS_BYTES {
-        return Err(cannot_read(rt.alloc(), file));
-    }
+    let bytes = bytes_within(rt, file, HOSTS_BYTES)?;
     match read_hosts(rt.alloc(), dialect, bytes.as_slice()) {
         Ok(hosts) => Ok(hosts),
         Err(FileFault::BadLine(line)) => Err(bad_line(

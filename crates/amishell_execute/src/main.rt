@@ -6,6 +6,7 @@ ghost use Rattle.ados_launch.specs.Agreement.{Agrees};
 
 mod checks;
 mod command;
+mod config;
 mod deadline;
 mod delivery;
 mod descriptors;
@@ -13,6 +14,7 @@ mod due;
 mod ends;
 mod error_codes;
 mod faults;
+mod given;
 mod home;
 mod host_faults;
 mod hosts;
@@ -21,6 +23,8 @@ mod launcher;
 mod losses;
 mod lost_jumps;
 mod mistakes;
+mod numbers;
+mod option_lines;
 mod origins;
 mod pace;
 mod play;
@@ -43,6 +47,7 @@ use ados_trace::Traced;
 use ados_transfer::{Lines, Plan, TransferFault, bring, bring_script, take, taken_place};
 use ados_world::World;
 use checks::{Checks, read_checked};
+use config::Config;
 use deadline::Deadline;
 use descriptors::held_descriptors;
 use error_codes::{ErrorCode, error_codes};
@@ -60,7 +65,7 @@ use std::io::{Eprint, Write};
 use std::process::{ExitCode, Processes};
 use std::rt::{Env, Files};
 use std::time::Clock;
-use std::{env, fs, io};
+use std::{fs, io};
 use teller::Teller;
 use trail::Trail;
 use watched::Watched;
@@ -81,13 +86,25 @@ fn main(rt: HostRuntime) -> ExitCode {
 fn run<R: Env + AllocGlobal + Files + Input + Print + Eprint + Processes + Clone + Drop + Clock>(
     rt: &R,
 ) -> Result<Status, Fault> {
-    let words = given_words(rt)?;
-    match reading::asked(rt.alloc(), &words) {
+    let words = reading::given_words(rt)?;
+    let typed = match reading::typed(rt.alloc(), &words) {
+        Ok(typed) => typed,
+        Err(refused) => return answer(rt, refused),
+    };
+    let config = Config::find(rt, &typed)?;
+    match reading::asked(rt.alloc(), typed, &config) {
         Ok(options) if options.check => inspect_all(rt, &options),
         Ok(options) => execute(rt, &options),
-        Err(Refused::Help(text)) => show(rt, &text),
-        Err(Refused::BadLine(reason)) => Err(Fault::BadLine(reason)),
-        Err(Refused::NoMemory) => Err(Fault::Memory),
+        Err(refused) => answer(rt, refused),
+    }
+}
+
+// What follows where the words are not run: the help or the version is written, or there is a fault.
+fn answer<R: Print>(rt: &R, refused: Refused) -> Result<Status, Fault> {
+    match refused {
+        Refused::Help(text) => show(rt, &text),
+        Refused::BadLine(reason) => Err(Fault::BadLine(reason)),
+        Refused::NoMemory => Err(Fault::Memory),
     }
 }
 
@@ -96,22 +113,6 @@ fn show<R: Print>(rt: &R, text: &Text) -> Result<Status, Fault> {
     match io::writer(rt).write_all(text.as_bytes()) {
         Ok(()) => Ok(Status::Done),
         Err(_) => Err(Fault::Write),
-    }
-}
-
-// The words after the program's name.
-fn given_words<R: Env + AllocGlobal>(rt: &R) -> Result<Vec<String>, Fault> {
-    let all = match env::args(rt) {
-        Ok(all) => all,
-        Err(error) if error.kind() == io::ErrorKind::OutOfMemory => return Err(Fault::Memory),
-        Err(_) => {
-            let reason = String::from_str(rt.alloc(), "a word is not UTF-8")?;
-            return Err(Fault::BadLine(reason));
-        }
-    };
-    match all.skip(1).collect::<Vec<String>>(rt.alloc()) {
-        Ok(words) => Ok(words),
-        Err(_) => Err(Fault::Memory),
     }
 }
 

@@ -1,5 +1,7 @@
-//! What is wrong with a command line that `clap` rejects, in one line.
+//! What is wrong with words that `clap` rejects, in one line.
 
+use crate::request::Refused;
+use ados_text::{NoMemory, Text};
 use clap::Error;
 use clap::error::ErrorKind;
 use std::alloc::{AllocError, Global};
@@ -7,8 +9,34 @@ use std::alloc::{AllocError, Global};
 // Before the option that `clap` finds similar.
 const TIP: &str = "a similar argument exists: ";
 
-/// The line for an error of `clap`: the word, what is wrong with it, and what may be meant.
-pub fn mistake(alloc: Global, error: &Error) -> Result<String, AllocError> {
+/// The refusal for `clap`'s error.
+pub fn refusal(alloc: Global, error: &Error) -> Refused {
+    match error.kind() {
+        ErrorKind::OutOfMemory => Refused::NoMemory,
+        ErrorKind::DisplayHelp | ErrorKind::DisplayVersion => match shown(alloc, error) {
+            Ok(text) => Refused::Help(text),
+            Err(NoMemory) => Refused::NoMemory,
+        },
+        _ => bad_line(mistake(alloc, error)),
+    }
+}
+
+/// The refusal of words for a reason, if there was memory for it.
+pub fn bad_line(reason: Result<String, AllocError>) -> Refused {
+    match reason {
+        Ok(reason) => Refused::BadLine(reason),
+        Err(_) => Refused::NoMemory,
+    }
+}
+
+// The text that `clap` shows.
+fn shown(alloc: Global, error: &Error) -> Result<Text, NoMemory> {
+    let text = error.to_string(alloc)?;
+    Text::from_bytes(alloc, text.as_bytes())
+}
+
+// The line for an error of `clap`: the word, what is wrong with it, and what may be meant.
+fn mistake(alloc: Global, error: &Error) -> Result<String, AllocError> {
     let text = error.to_string(alloc)?;
     match (error.kind(), quoted(text.as_str())) {
         (ErrorKind::UnknownArgument, Some(word)) => unknown(alloc, word, text.as_str()),

@@ -1,9 +1,27 @@
-//! Why a file or a folder of this machine can't be read.
+//! A small file of this machine, and why a file or a folder can't be read.
 
+use crate::faults::{Fault, cannot_read, unread};
+use ados_transfer::bytes_of;
 use std::alloc::AllocError;
 use std::io::ErrorKind;
 use std::rt::Files;
 use std::{fmt, fs};
+
+/// The bytes of a file that has at most this many.
+///
+/// `CannotRead` if it has more, without a reason, or cannot be read.
+pub fn bytes_within<R: AllocGlobal + Files>(
+    rt: &R,
+    file: &str,
+    most: usize,
+) -> Result<Vec<u8>, Fault> {
+    match bytes_of(rt, file, most) {
+        Ok(bytes) if bytes.len() <= most => Ok(bytes),
+        Ok(_) => Err(cannot_read(rt.alloc(), file)),
+        Err(error) if error.kind() == ErrorKind::OutOfMemory => Err(Fault::Memory),
+        Err(_) => Err(unread(rt, file)),
+    }
+}
 
 /// What can't be read, and why, if that can be told.
 #[derive(Debug, Drop)]
@@ -32,6 +50,11 @@ impl Unread {
             path: String::from_str(rt.alloc(), path)?,
             reason: reason_at(rt, path),
         })
+    }
+
+    /// Whether nothing is there.
+    pub fn is_absent(&self) -> bool {
+        self.reason == Some(Reason::Absent)
     }
 }
 
