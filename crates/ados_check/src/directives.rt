@@ -1,5 +1,9 @@
 //! A script with directives: its lines with arguments that fill its template, by which a line that depends on them is told.
 
+ghost use Rattle.std.specs.Prelude.{IfOk};
+ghost use Rattle.ados_text.specs.Lines.{lines_of};
+ghost use Rattle.ados_check.specs.Directives.{IfBad, IsNeverCalled};
+
 use ados_items::{first_word, rest_of};
 use ados_readargs::{ArgFault, Template, TemplateOption};
 use ados_subst::{SubstFault, script};
@@ -18,7 +22,11 @@ pub enum Sample {
 }
 
 /// The lines of a script, as it is written and by its bytes, with some arguments.
-pub fn sample_of(alloc: Global, written: &[Text], bytes: &[u8]) -> Result<Sample, NoMemory> {
+#[tactic(auto, using(crate::proofs::DirectiveLemmas::bad_line, crate::proofs::DirectiveLemmas::bad_template))]
+pub fn sample_of(alloc: Global, written: &[Text], bytes: &[u8]) -> Result<Sample, NoMemory>
+    // The script of a bad directive is never called: Execute answers the fault of that line, or one of the arguments.
+    ensures { IfOk result (λ sample. IfBad sample (IsNeverCalled (lines_of bytes.now))) }
+{
     let key = key_line(written);
     let args = match key {
         Some((_, template)) => sample_args(alloc, template)?,

@@ -16,6 +16,7 @@ mod signs;
 
 pub use findings::{Finding, Problem};
 pub use inspection::inspect;
+pub use jumps::label_in;
 pub use left_out::strike;
 pub use lines::check;
 pub use signs::{mark, mark_printed};
