@@ -66,6 +66,7 @@ impl Trail {
         // Shell 1 begins with no frame, another one with the commands of a Run.
         if self.latest > 1 && self.keep_new(world, self.latest).is_err() {
             self.is_short = true;
+            self.latest = 0;
         }
     }
 
@@ -84,6 +85,16 @@ impl Trail {
             kept.look(shell.frames())?;
         }
         Ok(())
+    }
+
+    /// After an event: the shell that had it runs as many frames as are kept of it.
+    #[inline(always)]
+    pub fn is_as_kept(&self, world: &World) -> bool {
+        let number = self.latest;
+        match (world.shell(number), self.shells.get(usize::from(number))) {
+            (Some(shell), Some(kept)) => shell.frames().len() == kept.frames.len(),
+            _ => false,
+        }
     }
 
     /// After an event: what it did to the shell that had it.
