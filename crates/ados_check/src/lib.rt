@@ -14,6 +14,7 @@ mod release_two;
 mod renames;
 mod signs;
 
+pub use directives::bad_directive;
 pub use findings::{Finding, Problem};
 pub use inspection::inspect;
 pub use jumps::label_in;
