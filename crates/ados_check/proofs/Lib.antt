@@ -1,3 +1,4 @@
+mod DirectiveLemmas
 mod ReadingLemmas
 mod SignLemmas
 mod StrikeLemmas

@@ -1,3 +1,4 @@
+pub mod Directives
 pub mod Jumps
 pub mod LeftOut
 pub mod Readings

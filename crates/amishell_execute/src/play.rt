@@ -175,7 +175,8 @@ impl<R: AllocGlobal + Files + Eprint + Processes + Clone + Drop + Clock, I: Read
     }
 
     // Follows the shell that had the last event: the scripts that ended are told, what began is to be checked, and once shell 1 has
-    // ended it is told which others run.
+    // ended it is told which others run. Mostly nothing changed.
+    #[inline(always)]
     fn follow(
         &mut self,
         world: &World,
@@ -186,8 +187,11 @@ impl<R: AllocGlobal + Files + Eprint + Processes + Clone + Drop + Clock, I: Read
         ensures reader { self.new.reader ≡ self.old.reader }
         ensures fault { IfErr result (λ why. drive_fault_of why ≡ None) }
     {
-        self.teller
-            .tell_ends(self.rt, world, trail, session.reports())?;
+        let ends = session.reports();
+        if ends.is_empty() && trail.is_as_kept(world) {
+            return Ok(());
+        }
+        self.teller.tell_ends(self.rt, world, trail, ends)?;
         match trail.follow(world)? {
             Change::Begun(number) => Ok(self.checks.add_begun(number)?),
             Change::Ended(1) => Ok(self.teller.tell_waiting(self.rt, world, trail)?),
@@ -196,6 +200,7 @@ impl<R: AllocGlobal + Files + Eprint + Processes + Clone + Drop + Clock, I: Read
     }
 
     // Attends to the time, to a script that begins, and to the shared folder, if there is one.
+    #[inline(always)]
     #[tactic(auto, using(crate::proofs::Pairs::lines_stay))]
     fn attend(
         &mut self,

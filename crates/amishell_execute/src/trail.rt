@@ -31,8 +31,10 @@ pub enum Change {
 pub struct Trail {
     // By the shells' numbers.
     shells: Vec<Kept>,
-    // The shell that had the last event; 0 if none had.
+    // The shell that had the last event, while it runs; 0 if none had.
     latest: u8,
+    // How many frames are kept of it.
+    count: usize,
     // There was no memory to keep what began.
     is_short: bool,
 }
@@ -56,17 +58,33 @@ impl Trail {
         Ok(Trail {
             shells,
             latest: 0,
+            count: 0,
             is_short: false,
         })
     }
 
-    /// Before an event: which shell has it.
+    /// Before an event: which shell has it. Mostly it is the one that had the last.
+    #[inline(always)]
     pub fn expect(&mut self, world: &World, next: Next) {
-        self.latest = shell_of(next);
-        // Shell 1 begins with no frame, another one with the commands of a Run.
-        if self.latest > 1 && self.keep_new(world, self.latest).is_err() {
-            self.is_short = true;
+        let number = shell_of(next);
+        if number != self.latest {
+            self.turn_to(world, number);
         }
+    }
+
+    // The next event is that of another shell.
+    #[inline(never)]
+    fn turn_to(&mut self, world: &World, number: u8) {
+        self.latest = number;
+        // Shell 1 begins with no frame, another one with the commands of a Run.
+        if number > 1 && self.keep_new(world, number).is_err() {
+            self.is_short = true;
+            self.latest = 0;
+        }
+        self.count = match self.shells.get(usize::from(number)) {
+            Some(kept) => kept.frames.len(),
+            None => 0,
+        };
     }
 
     /// Keeps the commands of a shell that is new: none of them was taken yet.
@@ -86,6 +104,15 @@ impl Trail {
         Ok(())
     }
 
+    /// After an event: the shell that had it runs as many frames as are kept of it.
+    #[inline(always)]
+    pub fn is_as_kept(&self, world: &World) -> bool {
+        match world.shell(self.latest) {
+            Some(shell) => shell.frames().len() == self.count,
+            None => false,
+        }
+    }
+
     /// After an event: what it did to the shell that had it.
     pub fn follow(&mut self, world: &World) -> Result<Change, NoMemory> {
         if self.is_short {
@@ -94,9 +121,13 @@ impl Trail {
         let number = self.latest;
         let kept = self.shells.get_mut(usize::from(number));
         let (Some(shell), Some(kept)) = (world.shell(number), kept) else {
+            self.latest = 0;
             return Ok(Change::Ended(number));
         };
-        Ok(if kept.look(shell.frames())? {
+        let frames = shell.frames();
+        let begins = kept.look(frames)?;
+        self.count = frames.len();
+        Ok(if begins {
             Change::Begun(number)
         } else {
             Change::Same

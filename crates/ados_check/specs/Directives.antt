@@ -1,0 +1,24 @@
+-- Scripts that are never called, since a directive of theirs has a fault.
+use Rattle.std.specs.Prelude.{◌≡◌, ◌⊎◌, ℕ, List, Result, Err}
+use Rattle.ados_text.specs.Text.{Bytes, Text}
+use Rattle.ados_readargs.specs.declared.errors.ArgFault.{ArgFault}
+use Rattle.ados_subst.specs.declared.faults.SubstFault.{SubstFault}
+use Rattle.ados_subst.specs.declared.faults.SubstFault.TheVariants.{Args, BadDirective}
+use Rattle.ados_subst.specs.Scripts.{script_of}
+use Rattle.ados_check.specs.declared.directives.Sample.{Sample}
+use Rattle.ados_check.specs.declared.directives.Sample.TheVariants.{Lines, Bad, Unknown}
+
+-- the fault of the directive in a line, or one of the arguments
+abbrev pub HasFault : ℕ → Result (List Text) SubstFault → Type 0
+HasFault line result = (result ≡ Err (BadDirective line)) ⊎ ((of_args : ArgFault) × (result ≡ Err (Args of_args)))
+
+-- whatever its arguments and its shell's number are, a script of these lines is not called: the directive in this line has a fault,
+-- unless that of the template is found first
+abbrev pub IsNeverCalled : List Text → ℕ → Type 0
+IsNeverCalled lines line = (args : Bytes) (process : Text) → HasFault line (script_of lines args process)
+
+-- what holds of the line in which a directive is said to be bad
+abbrev pub IfBad : Sample → (ℕ → Type 0) → Type 0
+IfBad (Lines lines) P = Unit {0}
+IfBad (Bad line) P = P line
+IfBad Unknown P = Unit {0}
