@@ -106,7 +106,8 @@ impl Volumes {
 
     /// A path is that of the folder of a volume.
     pub fn is_root(&self, path: &str) -> bool {
-        self.of_path(path).is_some_and(|(_, below)| below.is_empty())
+        self.of_path(path)
+            .is_some_and(|(_, below)| below.is_empty())
     }
 
     /// The path of the folder of the volume in which a path is.
