@@ -1,14 +1,13 @@
 -- The paths of the volumes of a share.
-use Rattle.std.specs.Prelude.{Bool, ◌++◌, ◌==◌, ◌||◌, codes, length, if◌then◌else◌}
+use Rattle.std.specs.Prelude.{◌≡◌, ◌⊎◌, Bool, [], ◌∷◌, ◌++◌, ◌==◌, ◌||◌, codes, length, if◌then◌else◌}
 use Rattle.std.specs.Str.{bytes_eq}
 use Rattle.ados_text.specs.Text.{Bytes}
 use Rattle.ados_transfer.specs.Changes.{is_descendant}
 use Rattle.ados_transfer.specs.Paths.{path_in}
 
--- the path of what is below the folder of a volume with a label; a volume that is the only one has none
-abbrev pub labelled : Bytes → Bytes → Bytes
-labelled label below =
-    if length label == 0 then below else (if length below == 0 then label else (label ++ codes "/") ++ below)
+-- What follows a label in a path: all of it if there is no label, nothing if the path is the label, or what comes after it and a slash.
+abbrev pub Follows : Bytes → Bytes → Bytes → Type 0
+Follows label path below = ((label ≡ []) × (path ≡ below)) ⊎ (((path ≡ label) × (below ≡ [])) ⊎ (path ≡ label ++ 47 ∷ below))
 
 -- the path of this machine by which what is below a folder is used, given that of the folder
 abbrev pub real_path : Bytes → Bytes → Bytes

@@ -1,10 +1,9 @@
 //! The files below the folders of a share. Each folder is open for the whole run, and each one on the way from it to an object is opened:
 //! it is used by its descriptor, which means this folder whatever takes its name, so that no link leads out of it.
-//!
-//! Where there is no `/proc` a folder is used by its name: then a link that takes the name between the look and the call is followed.
 
 use crate::faults::TransferFault;
 use crate::here::Here;
+use crate::open_folders::OpenFolder;
 use crate::paths::last_piece;
 use crate::stamps::Stamp;
 use crate::volumes::{Volume, Volumes};
@@ -12,21 +11,12 @@ use crate::writing::{BESIDE, joined, no_memory};
 use std::alloc::{Alloc, AllocError, Allocator, Global};
 use std::cell::Cell;
 use std::collections::BTreeSet;
-use std::fs::{Metadata, OpenFile, OpenOptions, Permissions};
+use std::fs::{Metadata, OpenOptions, Permissions};
 use std::io::{Error, ErrorKind};
-use std::mem::forget;
 use std::os::unix::fs::MetadataExt;
 use std::rt::Files;
 use std::time::{Clock, Duration};
 use std::{fs, io};
-
-// The folder that lists what this process has open.
-const DESCRIPTORS: &str = "/proc/self/fd";
-
-// Descriptors from here are looked at, and at most so many: those before are the standard ones.
-const FIRST: usize = 3;
-
-const LAST: usize = 1024;
 
 /// The files of this machine by the paths of volumes.
 #[derive(Drop)]
@@ -37,19 +27,11 @@ pub struct Below<'a, R> {
     made: Cell<BTreeSet<String>>,
 }
 
-// A folder that is open, and a path that leads to it.
-#[derive(Drop)]
-struct Folder<F: Drop> {
-    path: String,
-    // The path needs it.
-    _open: F,
-}
-
 // The path of an object, and the folder in which it is, unless that is the folder of a volume.
 #[derive(Drop)]
 struct Way<F: Drop> {
     path: String,
-    _folder: Option<Folder<F>>,
+    _folder: Option<OpenFolder<F>>,
 }
 
 impl<'a, R: AllocGlobal + Files> Below<'a, R> {
@@ -143,77 +125,21 @@ impl<'a, R: AllocGlobal + Files> Below<'a, R> {
         };
         let folder = self.folder(volume, above)?;
         Ok(Way {
-            path: joined(self.rt.alloc(), folder.path.as_str(), name)?,
+            path: joined(self.rt.alloc(), folder.path(), name)?,
             _folder: Some(folder),
         })
     }
 
     // Opens a folder below that of a volume, and for it each one on the way.
-    fn folder(&self, volume: &Volume, below: &str) -> io::Result<Folder<R::File>> {
+    fn folder(&self, volume: &Volume, below: &str) -> io::Result<OpenFolder<R::File>> {
         let mut steps = below.split('/');
         let first = self.real(volume, steps.next().unwrap_or(""))?;
-        let mut folder = open_folder(self.rt, first.as_str())?;
+        let mut folder = OpenFolder::new(self.rt, first.as_str())?;
         for step in steps {
-            folder = step_down(self.rt, &folder, step)?;
+            folder = folder.step_down(self.rt, step)?;
         }
         Ok(folder)
     }
-}
-
-// Opens a folder in an open one.
-fn step_down<R: AllocGlobal + Files>(
-    rt: &R,
-    folder: &Folder<R::File>,
-    name: &str,
-) -> io::Result<Folder<R::File>> {
-    open_folder(rt, joined(rt.alloc(), folder.path.as_str(), name)?.as_str())
-}
-
-// Opens the folder that is at a path; a link to one is refused. The slash refuses a pipe, at which an opening would wait.
-fn open_folder<R: AllocGlobal + Files>(rt: &R, path: &str) -> io::Result<Folder<R::File>> {
-    let found = fs::symlink_metadata(rt, path)?;
-    if !found.is_dir() {
-        return Err(Error::from(ErrorKind::NotADirectory));
-    }
-    let open = fs::open(rt, format!(in rt.alloc(); "{path}/")?.as_str())?;
-    let opened = open.metadata()?;
-    if !is_one(&found, &opened) {
-        return Err(Error::from(ErrorKind::NotADirectory));
-    }
-    Ok(Folder {
-        path: match own_path(rt, &opened)? {
-            Some(own) => own,
-            None => String::from_str(rt.alloc(), path)?,
-        },
-        _open: open,
-    })
-}
-
-// The path by which this process has a folder open: that of the first descriptor that leads to it. `Files` does not give numbers.
-fn own_path<R: AllocGlobal + Files>(rt: &R, opened: &Metadata) -> io::Result<Option<String>> {
-    if !fs::metadata(rt, DESCRIPTORS).is_ok_and(|found| found.is_dir()) {
-        return Ok(None);
-    }
-    for number in FIRST..LAST {
-        let path = format!(in rt.alloc(); "{DESCRIPTORS}/{number}")?;
-        if fs::metadata(rt, path.as_str()).is_ok_and(|found| is_one(&found, opened)) {
-            return Ok(Some(path));
-        }
-    }
-    Ok(None)
-}
-
-/// Opens the folder at a path until this process ends, and gives the path by which it is used.
-pub fn held_folder<R: AllocGlobal + Files>(rt: &R, path: &str) -> io::Result<String> {
-    let Folder { path, _open } = open_folder(rt, path)?;
-    // The path needs it as long as programs start.
-    forget(_open);
-    Ok(path)
-}
-
-// Two looks were at one object.
-fn is_one(found: &Metadata, other: &Metadata) -> bool {
-    found.dev() == other.dev() && found.ino() == other.ino()
 }
 
 impl<R: AllocGlobal + Files> Clone for Below<'_, R> {
@@ -260,7 +186,7 @@ impl<R: AllocGlobal + Files> Files for Below<'_, R> {
             return self.rt.open_dir(self.real(volume, below)?.as_str());
         }
         let folder = self.folder(volume, below)?;
-        let whole = format!(in self.rt.alloc(); "{}/", folder.path.as_str())?;
+        let whole = format!(in self.rt.alloc(); "{}/", folder.path())?;
         self.rt.open_dir(whole.as_str())
     }
 

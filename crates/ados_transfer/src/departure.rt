@@ -108,7 +108,9 @@ impl<'a> Departures<'a> {
 
     /// Leaves out those in the volumes with these labels.
     pub fn leave_out(&mut self, labels: &[String]) {
-        self.by_key.retain(|key, _| !labels.iter().any(|label| is_descendant(label.as_str(), key.as_str())));
+        self.by_key.retain(|key, _| !labels
+            .iter()
+            .any(|label| is_descendant(label.as_str(), key.as_str())));
     }
 
     // An object changes its kind, which is noted, or is below one that does.

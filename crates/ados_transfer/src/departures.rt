@@ -91,10 +91,7 @@ impl Mirror {
         let mut away = Vec::new(self.alloc);
         for volume in rt.volumes().all() {
             let label = volume.label.as_str();
-            if !files
-                .look(&volume.place)
-                .is_some_and(Entry::is_directory)
-            {
+            if !files.look(&volume.place).is_some_and(Entry::is_directory) {
                 self.report_no_directory(volume, account.moment)?;
             } else if rt.is_gone(label) {
                 self.reports.fail(label, "cannot write", label)?;

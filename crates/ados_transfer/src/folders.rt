@@ -24,6 +24,8 @@ use std::{fs, io};
 // A look at a folder goes through no more folders than this.
 const FOLDERS: usize = 65_536;
 
+const BAD_NAME: &str = "bad name for the Shell, left alone";
+
 /// What an object of the folder is.
 #[derive(Clone, Copy, PartialEq, Eq)]
 pub enum Kind {
@@ -154,7 +156,8 @@ impl Look {
             if is_chosen {
                 self.add(rt, named, &mut folders)?;
             } else {
-                self.leave(alloc, "name is taken twice, left alone", named.path.as_str())?;
+                self.left_alone
+                    .push(("name is taken twice, left alone", named.path))?;
             }
         }
         Ok(folders)
@@ -177,8 +180,7 @@ impl Look {
                         return Err(no_memory());
                     };
                     let one = format!(in rt.alloc(); "one in {whole}")?;
-                    self.left_alone
-                        .push(("bad name for the Shell, left alone", one))?;
+                    self.left_alone.push((BAD_NAME, one))?;
                 }
                 Err(error) => return Err(error),
             }
@@ -202,7 +204,7 @@ impl Look {
                     path,
                 })?,
                 Err(TransferFault::NoMemory) => return Err(TransferFault::NoMemory),
-                Err(_) => self.leave(alloc, "bad name for the Shell, left alone", path.as_str())?,
+                Err(_) => self.left_alone.push((BAD_NAME, path))?,
             }
         }
         below.sort_by(|a, b| order(a, b))?;
@@ -226,7 +228,9 @@ impl Look {
         match kind {
             Kind::Directory => folders.push(named.path.clone()?)?,
             Kind::Foreign => {
-                self.leave(alloc, "no file or folder, left alone", named.path.as_str())?;
+                let path = named.path.clone()?;
+                self.left_alone
+                    .push(("no file or folder, left alone", path))?;
             }
             Kind::File { .. } => {}
         }
@@ -236,13 +240,6 @@ impl Look {
             stamp: Stamp::of(&found),
         };
         self.seen.insert(named.key, seen)?;
-        Ok(())
-    }
-
-    // Notes that an object is left alone.
-    fn leave(&mut self, alloc: Global, text: &'static str, path: &str) -> Result<(), TransferFault> {
-        self.left_alone
-            .push((text, String::from_str(alloc, path)?))?;
         Ok(())
     }
 }

@@ -23,6 +23,7 @@ mod last_copies;
 mod lines;
 mod mirror;
 mod moves;
+mod open_folders;
 mod paths;
 mod places;
 mod placing;

@@ -2,10 +2,10 @@
 ghost use Rattle.std.specs.Prelude.{◌≡◌};
 ghost use Rattle.ados_transfer.specs.Volumes.{is_within, meet};
 
-use crate::below::held_folder;
 use crate::bringing::parted;
 use crate::faults::{TransferFault, named};
 use crate::folders::is_descendant;
+use crate::open_folders::OpenFolder;
 use crate::paths::{ascii, is_free, place_in, step_into};
 use crate::places::shell_path;
 use crate::volumes::{Volume, Volumes};
@@ -74,7 +74,7 @@ fn volume_of<R: AllocGlobal + Files>(
     if !is_free(alloc, files, &place)? {
         return Err(named(alloc, directory, TransferFault::NoPlace));
     }
-    let Ok(root) = held_folder(rt, folder.as_str()) else {
+    let Ok(open) = OpenFolder::new(rt, folder.as_str()) else {
         return Err(named(alloc, path, TransferFault::FolderUnread));
     };
     let prefix = match &device {
@@ -85,7 +85,7 @@ fn volume_of<R: AllocGlobal + Files>(
         label: String::new(alloc),
         prefix,
         folder,
-        root,
+        root: open.into_path(),
         place,
         device,
     })
@@ -102,11 +102,7 @@ fn whole_folder<R: AllocGlobal + Files>(rt: &R, path: &str) -> Result<String, Tr
 }
 
 // The device that a path is, if the Shell does not have it yet.
-fn device_of(
-    alloc: Global,
-    path: &str,
-    assigns: &Assigns,
-) -> Result<Option<Name>, TransferFault> {
+fn device_of(alloc: Global, path: &str, assigns: &Assigns) -> Result<Option<Name>, TransferFault> {
     let Some(name) = path.strip_suffix(':') else {
         return Ok(None);
     };

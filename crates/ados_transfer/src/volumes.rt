@@ -4,7 +4,7 @@
 //! One path names an object among all of them. If there are several volumes its first step is the label of one, as in `1:/src/x`, and
 //! otherwise there is no such step; what follows leads down from the folder. A key is such a path in lower case.
 ghost use Rattle.std.specs.Prelude.{◌≡◌, IfOk, IfSome, string_bytes};
-ghost use Rattle.ados_transfer.specs.Volumes.{labelled, real_path};
+ghost use Rattle.ados_transfer.specs.Volumes.{Follows, real_path};
 
 use crate::faults::TransferFault;
 use crate::paths::step_into;
@@ -34,7 +34,7 @@ pub struct Volume {
 impl Volume {
     /// What follows the label in a path or a key; `None` if it is that of an object of another volume.
     pub fn below<'p>(&self, path: &'p str) -> Option<&'p str>
-        ensures { IfSome result (λ below. path.now ≡ labelled (string_bytes self.now.label) below.now) }
+        ensures { IfSome result (λ below. Follows (string_bytes self.now.label) path.now below.now) }
     {
         if self.label.is_empty() {
             return Some(path);
@@ -106,7 +106,8 @@ impl Volumes {
 
     /// A path is that of the folder of a volume.
     pub fn is_root(&self, path: &str) -> bool {
-        self.of_path(path).is_some_and(|(_, below)| below.is_empty())
+        self.of_path(path)
+            .is_some_and(|(_, below)| below.is_empty())
     }
 
     /// The path of the folder of the volume in which a path is.
