@@ -3,12 +3,12 @@ _amishell_execute() {
     local word=${COMP_WORDS[COMP_CWORD]} before=${COMP_WORDS[COMP_CWORD - 1]}
     COMPREPLY=()
     case $before in
-        --hosts | --bring) mapfile -t COMPREPLY < <(compgen -f -- "$word"); return ;;
+        --hosts | --bring | --config) mapfile -t COMPREPLY < <(compgen -f -- "$word"); return ;;
         --share) mapfile -t COMPREPLY < <(compgen -d -- "$word"); return ;;
         --host | --take | --type | --answer | --turns | --seconds | --error | --ok-below) :; return ;;
     esac
     if [[ $word == -* ]]; then
-        mapfile -t COMPREPLY < <(compgen -W '--core --hosts --host --common --bring --take --type --share --all --part --dry --quote --strike --check --ascii-marks --lenient --strict --answer --turns --seconds --error --ok-below --quiet --trace --help --version' -- "$word")
+        mapfile -t COMPREPLY < <(compgen -W '--core --hosts --host --common --bring --take --type --share --all --part --dry --quote --strike --check --ascii-marks --lenient --strict --answer --turns --seconds --error --ok-below --quiet --trace --config --no-config --help --version' -- "$word")
     else
         mapfile -t COMPREPLY < <(compgen -f -- "$word")
     fi

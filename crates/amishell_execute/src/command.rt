@@ -104,9 +104,9 @@ const TRACE: &str =
 each script that runs, and in brackets the shell of a Run";
 
 const CONFIG: &str =
-    "A file of options, one a line as it is typed here but without quoting, as --type Assign DF0: df0; blank
-lines and lines that begin with # are left out. What is typed here comes after it, and wins
-[default: amishell/options in the folder XDG_CONFIG_HOME, or else in .config of HOME, if it is there]";
+    "A file of options, one in each line, as they are typed but without quoting; what is typed comes after
+them, and wins. By default it is amishell/options in the folder XDG_CONFIG_HOME, or else in .config of
+HOME, if it is there";
 
 const NO_CONFIG: &str = "Reads no file of options";
 
