@@ -183,7 +183,7 @@ key-follows one two these those number text alike = by (is_some one.slots) refl 
 
     filled : (found : Option (List TemplateOption))
         → Follows (above_of_slots one (slots_of_args (options_or_none found) (args_for_template these found)))
-            (above_of_slots two (slots_of_args (options_or_none found) (args_for_template those found)))
+        (above_of_slots two (slots_of_args (options_or_none found) (args_for_template those found)))
     filled None = inl refl
     filled (Some options) = parsed options (parsed_args options these) (parsed_args options those) refl refl
 
@@ -212,7 +212,7 @@ default-follows one two number text alike = by one.slots two.slots alike.names
 
     by : (a b : Option (List Slot)) → option_map (map slot_names) a ≡ option_map (map slot_names) b
         → Follows (above_of_default one number (option_and_then (λ slots. with_default slots (first_word text) (default_of (rest_of text))) a))
-            (above_of_default two number (option_and_then (λ slots. with_default slots (first_word text) (default_of (rest_of text))) b))
+        (above_of_default two number (option_and_then (λ slots. with_default slots (first_word text) (default_of (rest_of text))) b))
     by None None e = inl refl
     by None (Some b) e = cc
     by (Some a) None e = cc

@@ -19,6 +19,7 @@ use crate::trail::{Change, Trail};
 use crate::unanswered::question_asked;
 use crate::watched::Watched;
 use ados_launch::{End, Session, Sink};
+use ados_text::NoMemory;
 use ados_transfer::{Lines, Planned};
 use ados_world::World;
 use std::io::{Eprint, Read};
@@ -182,10 +183,9 @@ impl<R: AllocGlobal + Files + Eprint + Processes + Clone + Drop + Clock, I: Read
         world: &World,
         session: &Session<'_>,
         trail: &mut Trail,
-    ) -> Result<(), Fault>
+    ) -> Result<(), NoMemory>
         ensures launcher { self.new.launcher ≡ self.old.launcher }
         ensures reader { self.new.reader ≡ self.old.reader }
-        ensures fault { IfErr result (λ why. drive_fault_of why ≡ None) }
     {
         let ends = session.reports();
         if ends.is_empty() && trail.is_as_kept(world) {
@@ -193,8 +193,8 @@ impl<R: AllocGlobal + Files + Eprint + Processes + Clone + Drop + Clock, I: Read
         }
         self.teller.tell_ends(self.rt, world, trail, ends)?;
         match trail.follow(world)? {
-            Change::Begun(number) => Ok(self.checks.add_begun(number)?),
-            Change::Ended(1) => Ok(self.teller.tell_waiting(self.rt, world, trail)?),
+            Change::Begun(number) => self.checks.add_begun(number),
+            Change::Ended(1) => self.teller.tell_waiting(self.rt, world, trail),
             Change::Same | Change::Ended(_) => Ok(()),
         }
     }

@@ -63,16 +63,16 @@ impl Trail {
         })
     }
 
-    /// Before an event: which shell has it. Mostly it is the one that had the last.
+    /// Before an event: which shell has it. Mostly it is a turn of the one that had the last.
     #[inline(always)]
     pub fn expect(&mut self, world: &World, next: Next) {
-        let number = shell_of(next);
-        if number != self.latest {
-            self.turn_to(world, number);
+        match next {
+            Next::Turn(number) if number == self.latest => {}
+            _ => self.turn_to(world, shell_of(next)),
         }
     }
 
-    // The next event is that of another shell.
+    // The next event is one of this shell.
     #[inline(never)]
     fn turn_to(&mut self, world: &World, number: u8) {
         self.latest = number;
