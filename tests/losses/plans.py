@@ -113,8 +113,8 @@ class Plan:
             if self.is_compared and any(".n" in line for line in lines):
                 # a name that is not shared
                 continue
-            # what a program shows may be changed by the other script before it is destroyed; and with few descriptors it shows nothing
-            steps += [lines] if self.is_alone and self.kind != "few" or not lines[0].startswith("show") else []
+            # what a program shows may be changed by another before it is destroyed; and with few descriptors it shows nothing
+            steps += [lines] if self.kind not in ("two", "links", "meanwhile", "few") or not lines[0].startswith("show") else []
             if self.numbers.random() < 0.06:
                 break
         return [*steps, *self.home()] if self.is_compared else steps

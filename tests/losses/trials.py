@@ -138,6 +138,9 @@ class Room:
         self.shown = set(TOKEN.findall(self.said)) | {token for size, token in self.plan.sizes.items() if str(size).encode() in sizes}
         self.shown |= set(TOKEN.findall(self.read("gone")))
         required = set(TOKEN.findall(b"".join(self.before.values()) + self.read("log"))) - self.shown
+        if re.match(rb"(unlink|rename) ", self.read("call")):
+            # nobody can see what comes in the very moment in which the last name of a file is taken away, or given to another
+            required -= set(TOKEN.findall((self.plan.deed or "").encode()))
         self.stand = {token for what in self.stands.values() for token in TOKEN.findall(what)}
         lost = required - self.stand
         # what a program shows of a folder is not what the Shell has if something could not be written
@@ -176,8 +179,8 @@ class Room:
         return None
 
     def left(self):
-        """A temporary file is left but by a kill, and not told."""
-        left = [path for path in self.stands if TEMPORARY in path and path.encode() not in self.told]
+        """A temporary file is left but by a kill, and not told; its folder may have another name by then."""
+        left = [path for path in self.stands if TEMPORARY in path and os.path.basename(path).encode() not in self.told]
         if self.plan.error and self.plan.is_for_long:
             # it cannot be looked at either
             return None
