@@ -237,8 +237,10 @@ fn tell_gone<R: AllocGlobal + Eprint>(
     share: Option<&Share>,
     mut kept: Kept<'_>,
 ) -> Result<(), Fault> {
-    for volume in share.map_or(&[][..], |share| share.volumes()) {
-        kept.add(&volume.place)?;
+    if let Some(share) = share {
+        for volume in share.volumes() {
+            kept.add(&volume.place)?;
+        }
     }
     for words in &options.take {
         if let Some(place) = taken_place(rt.alloc(), world.files(), world.assigns(), words)? {
