@@ -81,8 +81,8 @@ class Room:
             given |= {"LD_PRELOAD": self.shim, "FAIL_CALL": "path", "FAIL_AT": str(plan.call)}
             given |= {"FAIL_RUN": f"{self.room}/hook"} if plan.deed else {"FAIL_ERRNO": str(plan.error), **({"FAIL_ON": "1"} if plan.is_for_long else {})}
         begin = plan.limits.begin if plan.limits else None
-        return subprocess.Popen(words, cwd=self.room, env=given, stdin=subprocess.DEVNULL, stdout=subprocess.PIPE, stderr=subprocess.PIPE, start_new_session=True,
-                                preexec_fn=begin)
+        pipe = subprocess.PIPE
+        return subprocess.Popen(words, cwd=self.room, env=given, preexec_fn=begin, stdin=subprocess.DEVNULL, stdout=pipe, stderr=pipe, start_new_session=True)
 
     def run_in_memory(self):
         """The script on a copy of the folder in memory alone, where its programs do nothing; what it has at the end is taken."""
