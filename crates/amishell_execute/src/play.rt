@@ -187,11 +187,12 @@ impl<R: AllocGlobal + Files + Eprint + Processes + Clone + Drop + Clock, I: Read
         ensures launcher { self.new.launcher ≡ self.old.launcher }
         ensures reader { self.new.reader ≡ self.old.reader }
     {
-        let ends = session.reports();
-        if ends.is_empty() && trail.is_as_kept(world) {
+        // A script that ended early or broken left one frame fewer: in such an event none begins.
+        if trail.is_as_kept(world) {
             return Ok(());
         }
-        self.teller.tell_ends(self.rt, world, trail, ends)?;
+        self.teller
+            .tell_ends(self.rt, world, trail, session.reports())?;
         match trail.follow(world)? {
             Change::Begun(number) => self.checks.add_begun(number),
             Change::Ended(1) => self.teller.tell_waiting(self.rt, world, trail),
