@@ -1,6 +1,6 @@
 #!/usr/bin/env python3
 """Checks the scripts of all documents and dialogues by amishell-execute --check: it accuses just the lines that are listed here, each
-of which fails in its document or dialogue, and an editor finds each line of which it speaks.
+of which fails in its document or dialogue.
 
 usage: examples/execute/check_scripts.py PROGRAM
 
@@ -46,9 +46,6 @@ WRONG = {
     ("tick_flow.dialogue", "S:known"): [1],
 }
 
-# How editors read the lines of compilers.
-ERROR_FORMAT = re.compile(r"(.+?):([0-9]+): (error|note): (.+)")
-
 
 def unescaped(text):
     """What the text of a quoted word is."""
@@ -81,19 +78,12 @@ def of_dialogue(path):
 
 
 def accused(program, dialect, room, script):
-    """The lines that the program accuses, with these options for the dialect, and what it says that no editor reads."""
+    """The lines that the program accuses, with these options for the dialect."""
     path = os.path.join(room, "script")
     with open(path, "w", encoding="latin-1") as file:
         file.write(script)
     came = subprocess.run([program, *dialect, "--check", path], capture_output=True, timeout=60).stdout.decode("latin-1")
-    lines = []
-    for told in came.splitlines():
-        read = ERROR_FORMAT.fullmatch(told)
-        if not read or read[1] != path or not 1 <= int(read[2]) <= len(script.split("\n")):
-            lines.append(told)
-        elif read[3] == "error":
-            lines.append(int(read[2]))
-    return lines
+    return [int(m[1]) for m in re.finditer(r"^.*?:(\d+): error: ", came, re.M)]
 
 
 def main():
@@ -115,7 +105,7 @@ def main():
                     passed += 1
                 else:
                     failed += 1
-                    print(f"{key[0]}, {name}: FAILED (accused: {came})")
+                    print(f"{key[0]}, {name}: FAILED ({came} are accused)")
     for key in sorted(unseen):
         failed += 1
         print(f"{key[0]}, {key[1]}: FAILED (there is no such script)")

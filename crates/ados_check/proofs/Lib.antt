@@ -1,4 +1,3 @@
-mod DirectiveLemmas
 mod ReadingLemmas
 mod SignLemmas
 mod StrikeLemmas

@@ -1,4 +1,3 @@
-pub mod Directives
 pub mod Jumps
 pub mod LeftOut
 pub mod Readings

@@ -1,15 +1,9 @@
 //! A script with directives: its lines with arguments that fill its template, by which a line that depends on them is told.
 
-ghost use Rattle.std.specs.Prelude.{IfOk, IfSome};
-ghost use Rattle.ados_text.specs.Lines.{lines_of};
-ghost use Rattle.ados_check.specs.Directives.{IfBad, IsNeverCalled};
-
-use crate::findings::{Finding, Problem};
-use crate::signs::is_dotted;
 use ados_items::{first_word, rest_of};
 use ados_readargs::{ArgFault, Template, TemplateOption};
 use ados_subst::{SubstFault, script};
-use ados_text::{NoMemory, Text, Texts, lines_of, same_name};
+use ados_text::{NoMemory, Text, Texts, same_name};
 use std::alloc::Global;
 
 /// What is known of a script's lines before it is called.
@@ -23,30 +17,8 @@ pub enum Sample {
     Unknown,
 }
 
-/// The bad directive of a script of these bytes, if it has one. Such a script is never called: Execute answers the fault of that line,
-/// or one of its arguments.
-pub fn bad_directive(alloc: Global, bytes: &[u8]) -> Result<Option<Finding>, NoMemory>
-    ensures { IfOk result (λ found. IfSome found (λ one. IsNeverCalled (lines_of bytes.now) one.line)) }
-{
-    if !is_dotted(bytes) {
-        return Ok(None);
-    }
-    let written = lines_of(alloc, bytes)?;
-    match sample_of(alloc, written.as_slice(), bytes)? {
-        Sample::Bad(line) => Ok(Some(Finding {
-            line,
-            problem: Problem::BadDirective,
-        })),
-        Sample::Lines(_) | Sample::Unknown => Ok(None),
-    }
-}
-
 /// The lines of a script, as it is written and by its bytes, with some arguments.
-#[tactic(auto, using(crate::proofs::DirectiveLemmas::bad_line, crate::proofs::DirectiveLemmas::bad_template))]
-pub fn sample_of(alloc: Global, written: &[Text], bytes: &[u8]) -> Result<Sample, NoMemory>
-    // The script of a bad directive is never called: Execute answers the fault of that line, or one of the arguments.
-    ensures { IfOk result (λ sample. IfBad sample (IsNeverCalled (lines_of bytes.now))) }
-{
+pub fn sample_of(alloc: Global, written: &[Text], bytes: &[u8]) -> Result<Sample, NoMemory> {
     let key = key_line(written);
     let args = match key {
         Some((_, template)) => sample_args(alloc, template)?,

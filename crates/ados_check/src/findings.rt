@@ -102,7 +102,6 @@ impl fmt::Display for Problem {
                 fault,
             } => write!(f, "{}: {fault} ({})", shown(command), shown(template)),
             Problem::BadDirective => write!(f, "bad directive"),
-            Problem::NoLab(label) if label.as_bytes().is_empty() => write!(f, "no Lab"),
             Problem::NoLab(label) => write!(f, "no Lab {}", shown(label)),
             Problem::ElseWithoutEndIf => write!(f, "Else without EndIf"),
             Problem::IfWithoutEndIf => write!(f, "If without EndIf"),

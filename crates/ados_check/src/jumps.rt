@@ -9,13 +9,9 @@ ghost use Rattle.ados_flow.specs.Rows.{row_of};
 ghost use Rattle.ados_check.specs.Jumps.{leads_nowhere};
 ghost use Rattle.ados_check.specs.Signs.{told_sign};
 
-use crate::commands::template_in;
 use crate::findings::Problem;
-use crate::readings::cut_bytes;
 use ados_flow::{label_sought, skip_from};
-use ados_line::{Expanded, LineFault, without_comment};
-use ados_machine::Builtin;
-use ados_readargs::{ArgFault, Args};
+use ados_readargs::Args;
 use ados_resident::{Dialect, FlowCommand};
 use ados_script::{Jump, Script};
 use ados_text::{NoMemory, Text};
@@ -51,21 +47,4 @@ pub fn jump_problem(
         },
         _ => Ok(None),
     }
-}
-
-/// The label that a line of Skip names in a dialect, with its variables as they are written; empty if it names none.
-#[tactic(auto, using(crate::proofs::ReadingLemmas::text_kept))]
-pub fn label_in(alloc: Global, dialect: Dialect, line: &Text) -> Result<Text, NoMemory> {
-    let args = match cut_bytes(alloc, without_comment(line.as_bytes())) {
-        Ok(Expanded::Ready(line)) => line.args,
-        Err(LineFault::NoMemory) => return Err(NoMemory),
-        Ok(_) | Err(_) => return Ok(Text::new(alloc)),
-    };
-    let skip = Builtin::Flow(FlowCommand::Skip);
-    let label = match template_in(alloc, dialect, skip)?.fill(alloc, args.as_bytes()) {
-        Ok(args) => label_sought(alloc, dialect, &args)?,
-        Err(ArgFault::NoMemory) => return Err(NoMemory),
-        Err(_) => None,
-    };
-    Ok(label.unwrap_or(Text::new(alloc)))
 }

@@ -14,10 +14,8 @@ mod release_two;
 mod renames;
 mod signs;
 
-pub use directives::bad_directive;
 pub use findings::{Finding, Problem};
 pub use inspection::inspect;
-pub use jumps::label_in;
 pub use left_out::strike;
 pub use lines::check;
 pub use signs::{mark, mark_printed};

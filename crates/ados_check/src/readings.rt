@@ -41,8 +41,8 @@ fn is_marked(line: &[u8]) -> bool
     line.contains(&b'$') || line.contains(&b'`')
 }
 
-/// What a line without comment, alias, variables and back-ticks is read as.
-pub fn cut_bytes(alloc: Global, line: &[u8]) -> Result<Expanded, LineFault>
+// What a line without comment, alias, variables and back-ticks is read as.
+fn cut_bytes(alloc: Global, line: &[u8]) -> Result<Expanded, LineFault>
     requires { IsText line.now }
     ensures { Gives result (expanded_of_cut (cut_of line.now)) }
 {

@@ -4,7 +4,7 @@ ghost use Rattle.amishell_execute.specs.Playing.{drive_fault_of};
 
 use crate::faults::{Fault, report, unread_script};
 use crate::request::Options;
-use ados_check::{Finding, bad_directive, check, mark, mark_printed, strike};
+use ados_check::{Finding, check, mark, mark_printed, strike};
 use ados_flow::{Frame, FrameKind};
 use ados_launch::Next;
 use ados_ram::Place;
@@ -31,8 +31,7 @@ pub struct Checks<'a> {
 }
 
 /// The bytes of the script of the command line as it is brought in. Where Echo or Ask prints a byte above 127 it has `_`, which no
-/// pattern has, and the first such line is reported; so is a bad directive. With `--lenient` all that is found is reported, and each
-/// such byte is `_`.
+/// pattern has, and the first such line is reported. With `--lenient` all that is found is reported, and each such byte is `_`.
 pub fn read_checked<R: AllocGlobal + Files + Eprint>(
     rt: &R,
     options: &Options<'_>,
@@ -50,9 +49,6 @@ pub fn read_checked<R: AllocGlobal + Files + Eprint>(
     }
     let printed = mark_printed(alloc, &mut script)?;
     let _ = report_all(rt, options.script, &printed, true)?;
-    if let Some(bad) = bad_directive(alloc, &script)? {
-        let _ = report_all(rt, options.script, &[bad], true)?;
-    }
     if options.lenient {
         let lines = lines_of(alloc, &script)?;
         let aliases = Aliases::new(alloc);

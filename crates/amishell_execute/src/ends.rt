@@ -9,19 +9,19 @@ use ados_trace::shown_bytes;
 use std::alloc::Global;
 
 /// Why the end of a script is told.
-#[derive(Drop)]
-pub enum Cause {
+#[derive(Clone, Copy, PartialEq, Eq, Debug)]
+pub enum Cause<'s> {
     /// It was broken.
     Break,
     /// A jump found nothing.
-    Jump(LostJump),
+    Jump(LostJump<'s>),
     /// The code of its last command reached the limit.
     Limit,
 }
 
 /// Why an end is told: exactly if it was early or broken, or a jump found nothing.
-pub fn cause_of(report: &EndReport, jump: Option<LostJump>) -> Option<Cause>
-    ensures { is_some result ≡ (report.now.early || report.now.broken || is_some jump) }
+pub fn cause_of<'s>(report: &EndReport, jump: Option<LostJump<'s>>) -> Option<Cause<'s>>
+    ensures { is_some result ≡ (report.now.early || report.now.broken || is_some jump.entry) }
 {
     if report.broken {
         return Some(Cause::Break);
@@ -38,7 +38,7 @@ pub fn end_line(
     alloc: Global,
     name: &str,
     report: &EndReport,
-    cause: Cause,
+    cause: Cause<'_>,
     text: Option<&Text>,
 ) -> Result<String, NoMemory> {
     let line = report.last_line;

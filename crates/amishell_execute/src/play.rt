@@ -19,7 +19,6 @@ use crate::trail::{Change, Trail};
 use crate::unanswered::question_asked;
 use crate::watched::Watched;
 use ados_launch::{End, Session, Sink};
-use ados_text::NoMemory;
 use ados_transfer::{Lines, Planned};
 use ados_world::World;
 use std::io::{Eprint, Read};
@@ -176,32 +175,27 @@ impl<R: AllocGlobal + Files + Eprint + Processes + Clone + Drop + Clock, I: Read
     }
 
     // Follows the shell that had the last event: the scripts that ended are told, what began is to be checked, and once shell 1 has
-    // ended it is told which others run. Mostly nothing changed.
-    #[inline(always)]
+    // ended it is told which others run.
     fn follow(
         &mut self,
         world: &World,
         session: &Session<'_>,
         trail: &mut Trail,
-    ) -> Result<(), NoMemory>
+    ) -> Result<(), Fault>
         ensures launcher { self.new.launcher ≡ self.old.launcher }
         ensures reader { self.new.reader ≡ self.old.reader }
+        ensures fault { IfErr result (λ why. drive_fault_of why ≡ None) }
     {
-        // A script that ended early or broken left one frame fewer: in such an event none begins.
-        if trail.is_as_kept(world) {
-            return Ok(());
-        }
         self.teller
             .tell_ends(self.rt, world, trail, session.reports())?;
         match trail.follow(world)? {
-            Change::Begun(number) => self.checks.add_begun(number),
-            Change::Ended(1) => self.teller.tell_waiting(self.rt, world, trail),
+            Change::Begun(number) => Ok(self.checks.add_begun(number)?),
+            Change::Ended(1) => Ok(self.teller.tell_waiting(self.rt, world, trail)?),
             Change::Same | Change::Ended(_) => Ok(()),
         }
     }
 
     // Attends to the time, to a script that begins, and to the shared folder, if there is one.
-    #[inline(always)]
     #[tactic(auto, using(crate::proofs::Pairs::lines_stay))]
     fn attend(
         &mut self,

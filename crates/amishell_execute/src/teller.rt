@@ -54,7 +54,7 @@ impl<'a> Teller<'a> {
         end: &EndReport,
     ) -> Result<(), NoMemory> {
         let jump = match script {
-            Some(script) if is_newest => lost_jump(rt.alloc(), world, end, script)?,
+            Some(script) if is_newest => lost_jump(world, end, script),
             _ => None,
         };
         let Some(cause) = cause_of(end, jump) else {

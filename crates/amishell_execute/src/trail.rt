@@ -31,10 +31,8 @@ pub enum Change {
 pub struct Trail {
     // By the shells' numbers.
     shells: Vec<Kept>,
-    // The shell that had the last event, while it runs; 0 if none had.
+    // The shell that had the last event; 0 if none had.
     latest: u8,
-    // How many frames are kept of it.
-    count: usize,
     // There was no memory to keep what began.
     is_short: bool,
 }
@@ -58,33 +56,17 @@ impl Trail {
         Ok(Trail {
             shells,
             latest: 0,
-            count: 0,
             is_short: false,
         })
     }
 
-    /// Before an event: which shell has it. Mostly it is a turn of the one that had the last.
-    #[inline(always)]
+    /// Before an event: which shell has it.
     pub fn expect(&mut self, world: &World, next: Next) {
-        match next {
-            Next::Turn(number) if number == self.latest => {}
-            _ => self.turn_to(world, shell_of(next)),
-        }
-    }
-
-    // The next event is one of this shell.
-    #[inline(never)]
-    fn turn_to(&mut self, world: &World, number: u8) {
-        self.latest = number;
+        self.latest = shell_of(next);
         // Shell 1 begins with no frame, another one with the commands of a Run.
-        if number > 1 && self.keep_new(world, number).is_err() {
+        if self.latest > 1 && self.keep_new(world, self.latest).is_err() {
             self.is_short = true;
-            self.latest = 0;
         }
-        self.count = match self.shells.get(usize::from(number)) {
-            Some(kept) => kept.frames.len(),
-            None => 0,
-        };
     }
 
     /// Keeps the commands of a shell that is new: none of them was taken yet.
@@ -104,15 +86,6 @@ impl Trail {
         Ok(())
     }
 
-    /// After an event: the shell that had it runs as many frames as are kept of it.
-    #[inline(always)]
-    pub fn is_as_kept(&self, world: &World) -> bool {
-        match world.shell(self.latest) {
-            Some(shell) => shell.frames().len() == self.count,
-            None => false,
-        }
-    }
-
     /// After an event: what it did to the shell that had it.
     pub fn follow(&mut self, world: &World) -> Result<Change, NoMemory> {
         if self.is_short {
@@ -121,13 +94,9 @@ impl Trail {
         let number = self.latest;
         let kept = self.shells.get_mut(usize::from(number));
         let (Some(shell), Some(kept)) = (world.shell(number), kept) else {
-            self.latest = 0;
             return Ok(Change::Ended(number));
         };
-        let frames = shell.frames();
-        let begins = kept.look(frames)?;
-        self.count = frames.len();
-        Ok(if begins {
+        Ok(if kept.look(shell.frames())? {
             Change::Begun(number)
         } else {
             Change::Same

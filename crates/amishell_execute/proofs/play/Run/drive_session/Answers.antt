@@ -1,7 +1,6 @@
 use Rattle.std.proofs.Common.{rules, refl, arith, ap, ◌∙◌, ◌+◌, false, [], Ok, Err}
 use Rattle.ados_launch.proofs.Deeding.{does-any, does-lines, does-none, does-then}
 use Rattle.ados_launch.proofs.Stepping.{ends-nothing, finish-by, finished-over, nothing-by, one-by, stops-by}
-use Rattle.amishell_execute.specs.declared.faults.Fault.TheVariants.{Memory}
 use Rattle.amishell_execute.proofs.Driving.{alone-none, alone-same, alone-step, cut-by, fault-driven, undriven}
 use Rattle.amishell_execute.proofs.Pairs.{nothing_over}
 use Rattle.amishell_execute.proofs.play.Run.drive_session.Goals as goal
@@ -45,7 +44,7 @@ returns-in_err-follow-clause-does g c =
 
 pub returns-in_err-follow-clause-drives : goal.returns-in_err-follow-clause-drives
 returns-in_err-follow-clause-drives g c none =
-    undriven c.from_residual-in_err-follow.result Memory _ c.from_residual-in_err-follow.ensures.1 refl
+    undriven c.from_residual-in_err-follow.result c.in_err-follow.field-0.0 _ c.from_residual-in_err-follow.ensures.1 c.in_err-follow.ensures.fault
 
 pub returns-in_err-attend-clause-does : goal.returns-in_err-attend-clause-does
 returns-in_err-attend-clause-does g c = does-any _ _ _ _ _ (does-then false _ _ _ _ _ _ c.loop.invariant.does (does-lines _ _ _ c.attend.ensures.ran))
