@@ -1,6 +1,6 @@
 #!/usr/bin/env python3
 """Checks the scripts of all documents and dialogues by amishell-execute --check: it accuses just the lines that are listed here, each
-of which fails in its document or dialogue.
+of which fails in its document or dialogue, and an editor finds each line of which it speaks.
 
 usage: examples/execute/check_scripts.py PROGRAM
 
@@ -46,6 +46,9 @@ WRONG = {
     ("tick_flow.dialogue", "S:known"): [1],
 }
 
+# How editors read the lines of compilers.
+ERROR_FORMAT = re.compile(r"(.+?):([0-9]+): (error|note): (.+)")
+
 
 def unescaped(text):
     """What the text of a quoted word is."""
@@ -78,12 +81,19 @@ def of_dialogue(path):
 
 
 def accused(program, dialect, room, script):
-    """The lines that the program accuses, with these options for the dialect."""
+    """The lines that the program accuses, with these options for the dialect, and what it says that no editor reads."""
     path = os.path.join(room, "script")
     with open(path, "w", encoding="latin-1") as file:
         file.write(script)
     came = subprocess.run([program, *dialect, "--check", path], capture_output=True, timeout=60).stdout.decode("latin-1")
-    return [int(m[1]) for m in re.finditer(r"^.*?:(\d+): error: ", came, re.M)]
+    lines = []
+    for told in came.splitlines():
+        read = ERROR_FORMAT.fullmatch(told)
+        if not read or read[1] != path or not 1 <= int(read[2]) <= len(script.split("\n")):
+            lines.append(told)
+        elif read[3] == "error":
+            lines.append(int(read[2]))
+    return lines
 
 
 def main():
@@ -105,7 +115,7 @@ def main():
                     passed += 1
                 else:
                     failed += 1
-                    print(f"{key[0]}, {name}: FAILED ({came} are accused)")
+                    print(f"{key[0]}, {name}: FAILED (accused: {came})")
     for key in sorted(unseen):
         failed += 1
         print(f"{key[0]}, {key[1]}: FAILED (there is no such script)")
