@@ -3,6 +3,8 @@ from names import ALL_PATHS, FOLDERS
 
 # A name is taken only if nothing has it, and no link on the way is followed.
 BEGIN = """set -C
+[ "$(ulimit -S -f)" = unlimited ] || ulimit -S -f unlimited
+[ "$(ulimit -S -n)" -ge 64 ] || ulimit -S -n 64
 log() { echo "$1" >>../log; }
 own() { case $1 in */*) [ ! -L "${1%/*}" ] || return 1 ;; esac; [ ! -L "$1" ]; }
 free() { own "$1" && [ ! -e "$1" ]; }

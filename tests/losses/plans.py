@@ -4,7 +4,8 @@ import errno
 import signal
 
 from deeds import LINKS, MOVES, deed
-from names import ALL_PATHS, EXCHANGED, FOLDERS, NAMES
+from limits import FOR_ALL, FOR_ROOT, Limits
+from names import ALL_PATHS, EXCHANGED, FOLDERS, NAMES, OUT
 from rooms import Link, filled
 from steps import step
 
@@ -13,8 +14,9 @@ MOST_LINES = 16
 MOST_CALLS = 300
 # What is tried: `out` moves to T:; `folders` renames folders, also in a circle; `exchanges` lets files and directories change places, and nothing else;
 # `time` and `call` kill the run at a moment and before a call of a path, before which `meanwhile` lets another program act, and which fails with `error`;
-# `two` runs two scripts at a time. The others are kinds of objects and options.
-KINDS = ["out", "large", "links", "folders", "exchanges", "time", "call", "meanwhile", "error", "two", "dry"]
+# `two` runs two scripts at a time; `memory` compares a folder that nothing else changes with a run in memory alone; limits.py says what the last five are.
+# The others are kinds of objects and options.
+KINDS = ["out", "large", "links", "folders", "exchanges", "time", "call", "meanwhile", "error", "two", "dry", "memory", *FOR_ALL, *FOR_ROOT]
 
 
 class Plan:
@@ -23,11 +25,14 @@ class Plan:
     def __init__(self, kind, numbers):
         self.kind, self.numbers, self.count = kind, numbers, 0
         self.before, self.modes, self.sizes, self.acts = {}, {}, {}, []
-        self.is_alone, self.is_dry = kind != "two", kind == "dry"
-        self.has_large = kind == "large" or numbers.random() < 0.4
-        self.has_exchanges = kind == "exchanges" or kind in ("time", "call") and numbers.random() < 0.5
+        self.is_alone, self.is_dry, self.is_compared = kind != "two", kind == "dry", kind == "memory"
+        self.limits = Limits(kind, numbers) if kind in FOR_ALL + FOR_ROOT else None
+        self.has_large = not self.is_compared and kind != "tight" and (kind == "large" or numbers.random() < 0.4)
+        self.has_exchanges = kind == "exchanges" or kind in ("time", "call", "error", "memory", *FOR_ALL, *FOR_ROOT) and numbers.random() < 0.5
+        # what a program copies there can be torn by itself
+        self.has_large = self.has_large and (self.has_exchanges or kind != "full")
         # one that may not be written: what is added to it and then moved out is documented to be lost, so it is shown
-        self.has_closed = numbers.random() < 0.15
+        self.has_closed = numbers.random() < 0.15 and not self.is_compared
         self.make_before()
         self.scripts = [self.script() for _ in range(1 if self.is_alone else 2)]
         self.killed_at = numbers.random() * 1.2 if kind == "time" else None
@@ -63,7 +68,7 @@ class Plan:
             return numbers.sample(ALL_PATHS, numbers.randint(1, 7))
         paths = []
         for name in EXCHANGED:
-            inner = [f"{name}/{one}" for one in numbers.sample([*NAMES, ".h"], numbers.randint(1, 2))]
+            inner = [f"{name}/{one}" for one in numbers.sample(NAMES if self.is_compared else [*NAMES, ".h"], numbers.randint(1, 2))]
             paths += [name] if numbers.random() < 0.6 else inner
         return paths
 
@@ -79,6 +84,8 @@ class Plan:
             if numbers.random() < 0.3:
                 self.modes[f"f/{path}"] = numbers.choice([0o600, 0o755, 0o444 if self.has_closed else 0o666])
         self.before["out/x"] = b"outside\n"
+        if self.is_compared:
+            return
         for path in ["f/.h", "f/d/.h"]:
             if numbers.random() < 0.2 and "f/d" not in self.before:
                 self.before[path] = f"{self.token()}\n".encode()
@@ -94,7 +101,7 @@ class Plan:
 
     def act(self):
         """The line that starts the next program of this machine."""
-        count = 0 if self.is_dry or self.has_exchanges else self.numbers.randint(0, 3)
+        count = 0 if self.is_dry or self.has_exchanges or self.is_compared else self.numbers.randint(0, 3)
         self.acts.append([deed(self) for _ in range(count)])
         return f"sh ../act{len(self.acts) - 1}"
 
@@ -103,11 +110,20 @@ class Plan:
         steps = [[self.numbers.choice(["FailAt 100"] * 9 + ["FailAt 11"])]]
         while sum(map(len, steps)) < MOST_LINES:
             lines = step(self)
-            # what a program shows may be changed by the other script before it is destroyed
-            steps += [lines] if self.is_alone or not lines[0].startswith("show") else []
+            if self.is_compared and any(".n" in line for line in lines):
+                # a name that is not shared
+                continue
+            # what a program shows may be changed by another before it is destroyed; and with few descriptors it shows nothing
+            steps += [lines] if self.kind not in ("two", "links", "meanwhile", "few") or not lines[0].startswith("show") else []
             if self.numbers.random() < 0.06:
                 break
-        return steps
+        return [*steps, *self.home()] if self.is_compared else steps
+
+    def home(self):
+        """The last steps, in which most of what is outside comes in or is deleted."""
+        numbers = self.numbers
+        return [[numbers.choice([f"Rename {out} new{place}", f"Rename {out} new{place}", f"Delete {out} ALL QUIET"])]
+                for place, out in enumerate([*OUT, "T:t", *(f"T:{name}" for name in EXCHANGED)]) if numbers.random() < 0.9]
 
     def between(self):
         """Before which call something comes, and what: the line of a program."""
@@ -122,12 +138,17 @@ class Plan:
 
     def chosen_options(self):
         numbers = self.numbers
-        options = ["--core"] if self.sizes or numbers.random() < 0.5 else []
-        if not self.is_dry and numbers.random() < 0.15:
+        options = ["--core"] if self.sizes or self.kind == "tight" or numbers.random() < 0.5 else []
+        if not self.is_dry and not self.is_compared and numbers.random() < 0.15:
             options += ["--all"]
-        if numbers.random() < 0.08:
+        options += self.limits.options() if self.limits else []
+        if not self.is_compared and numbers.random() < 0.08:
             options += ["--turns", str(numbers.randint(20, 120))]
-        return options + (["--dry"] if self.is_dry else ["--take", "RAM:Work=taken"] if self.is_alone and not self.sizes else [])
+        return options + (["--dry"] if self.is_dry else ["--take", "RAM:Work=taken"] if self.is_taken() else [])
+
+    def is_taken(self):
+        """Whether what the Shell has at the end can be compared with the folder."""
+        return self.is_alone and not self.sizes and self.kind not in ("few", "short")
 
     def lines(self, number=0):
         return [line for lines in self.scripts[number] for line in lines]
@@ -148,7 +169,7 @@ class Plan:
         if self.modes:
             yield self.changed(modes={})
         for word in ("--all", "--core"):
-            if word in self.options and not (word == "--core" and self.sizes):
+            if word in self.options and not (word == "--core" and (self.sizes or self.kind == "tight")):
                 yield self.changed(options=[one for one in self.options if one != word])
 
     @staticmethod
@@ -174,4 +195,5 @@ class Plan:
         between = [f"    {self.signal.name} at {self.killed_at:.2f} of its time"] if self.killed_at is not None else []
         between += [f"    call {self.call} fails by {errno.errorcode[self.error]}{', and all after it' * self.is_for_long}"] if self.error else []
         between += [f"    before call {self.call}: {self.deed}"] if self.deed else []
-        return "\n".join([*stands, *scripts, *acts, *between, f"    options {self.options}"])
+        limits = [f"    limits {self.limits}"] if self.limits else []
+        return "\n".join([*stands, *scripts, *acts, *between, *limits, f"    options {self.options}"])

@@ -30,26 +30,33 @@ def place(room, objects, modes):
         os.chmod(os.path.join(room, path), mode)
 
 
-def read(whole):
-    """The object at a path."""
-    if os.path.islink(whole):
-        return Link(os.readlink(whole))
-    if os.path.isdir(whole):
+def read(entry):
+    """The object of an entry of a folder."""
+    if entry.is_symlink():
+        return Link(os.readlink(entry.path))
+    if entry.is_dir():
         return FOLDER
-    if not os.path.isfile(whole):
+    if not entry.is_file():
         return PIPE
-    with open(whole, "rb") as file:
+    with open(entry.path, "rb") as file:
         return file.read()
 
 
+def entries(folder, above=""):
+    """The entries of a folder and of those below it, with their paths from it."""
+    with os.scandir(folder) as found:
+        for entry in found:
+            yield above + entry.name, entry
+            if entry.is_dir(follow_symlinks=False):
+                yield from entries(entry.path, f"{above}{entry.name}/")
+
+
 def look(folder, base=None):
-    """All objects below a folder by their paths from a base (by default the folder), and their modes."""
+    """All objects below a folder by their paths from a base (by default the folder), and their modes. None stand below one that is not there."""
     stands, modes = {}, {}
-    for above, folders, files in os.walk(folder):
-        for name in folders + files:
-            whole = os.path.join(above, name)
-            path = os.path.relpath(whole, base or folder)
-            stands[path], modes[path] = read(whole), os.lstat(whole).st_mode & 0o7777
+    for below, entry in entries(folder) if os.path.isdir(folder) else []:
+        path = os.path.relpath(entry.path, base) if base else below
+        stands[path], modes[path] = read(entry), entry.stat(follow_symlinks=False).st_mode & 0o7777
     stands.pop(".", None)
     return stands, modes
 

@@ -10,16 +10,21 @@ from deeds import BEGIN
 from rooms import FOLDER, Link, look, place
 
 SECONDS = 60
+# The signals by which a run may end.
+ENDS = [signal.SIGHUP, signal.SIGINT, signal.SIGKILL, signal.SIGTERM, signal.SIGXFSZ]
 TOKEN = re.compile(rb"[ts]\d+x")
 LARGE = re.compile(rb"(\d{5,}) bytes")
 WRITTEN = re.compile(rb"wrote-(\d+)")
 TEMPORARY = ".amishell-execute."
+# What a run in memory takes.
+MEMORY = ["Work", "Old", "T", "keep"]
 SHOW = b"""#!/bin/sh
 grep -raohE '[ts][0-9]+x' "$1" 2>/dev/null
 true
 """
 # What was not written, or gave way to what this machine has, is told. Where it could not be written, a program sees something else than the Shell.
 TOLD = re.compile(rb"both changed|cannot |is not written|not written, since|left alone|kept, since|kept as|nothing is written")
+NOT_SHARED = re.compile(rb"taken twice|files and folders, left alone from")
 UNWRITTEN = re.compile(rb"both changed|cannot |not written|nothing is written")
 
 
@@ -29,15 +34,23 @@ class Room:
     def __init__(self, program, shim, plan, room):
         self.program, self.shim, self.plan, self.room = program, shim, plan, room
         shutil.rmtree(room, ignore_errors=True)
+        if plan.limits and plan.limits.is_full:
+            os.makedirs(f"{room}/f")
+            plan.limits.mount(f"{room}/f", {path: what for path, what in plan.before.items() if path.startswith("f/")})
         beside = {f"act{number}": "\n".join([f"echo {number} >>../began", BEGIN, *lines]).encode() + b"\n" for number, lines in enumerate(plan.acts)}
         scripts = {f"script{number}": "".join(f"{line}\n" for line in plan.lines(number)).encode() for number in range(len(plan.scripts))}
         hook = f'#!/bin/sh\ncd "{room}/f"\necho "$1" "$2" >../call\n{BEGIN}{plan.deed}\n'.encode() if plan.deed else b""
+        if plan.limits:
+            shared = {path: what for path, what in plan.before.items() if path.startswith("f/") and isinstance(what, bytes)}
+            beside |= plan.limits.rest(shared, scripts["script0"])
         place(room, {"f": FOLDER, **plan.before, **beside, **scripts, "show": SHOW, "hook": hook}, {**plan.modes, "show": 0o755, "hook": 0o755})
+        if plan.limits and plan.limits.is_nobody:
+            plan.limits.give(room)
         self.before, self.states = self.files(), self.look_at_all()
         self.outside = self.beside()
 
     def beside(self):
-        return {path: what for path, what in look(self.room)[0].items() if path.startswith("out")}
+        return look(f"{self.room}/out")[0]
 
     def files(self):
         return {path: what for path, what in look(f"{self.room}/f")[0].items() if isinstance(what, bytes)}
@@ -67,27 +80,36 @@ class Room:
         if plan.call:
             given |= {"LD_PRELOAD": self.shim, "FAIL_CALL": "path", "FAIL_AT": str(plan.call)}
             given |= {"FAIL_RUN": f"{self.room}/hook"} if plan.deed else {"FAIL_ERRNO": str(plan.error), **({"FAIL_ON": "1"} if plan.is_for_long else {})}
-        with open(f"{self.room}/said{number}", "ab") as said:
-            return subprocess.Popen(words, cwd=self.room, env=given, stdin=subprocess.DEVNULL, stdout=said, stderr=subprocess.PIPE, start_new_session=True)
+        begin = plan.limits.begin if plan.limits else None
+        pipe = subprocess.PIPE
+        return subprocess.Popen(words, cwd=self.room, env=given, preexec_fn=begin, stdin=subprocess.DEVNULL, stdout=pipe, stderr=pipe, start_new_session=True)
+
+    def run_in_memory(self):
+        """The script on a copy of the folder in memory alone, where its programs do nothing; what it has at the end is taken."""
+        words = [self.program, "--host", "sh=/bin/true", "--host", "show=/bin/true", "--bring", "f=RAM:Work", "--type", "CD RAM:Work", *self.plan.options]
+        words += [word for name in MEMORY for word in ("--take", f"RAM:{name}=memory/{name}")]
+        subprocess.run([*words, "script0"], cwd=self.room, stdin=subprocess.DEVNULL, stdout=subprocess.DEVNULL, stderr=subprocess.DEVNULL, check=False)
 
     def run(self, seconds_each):
         """Runs the plan; gives the seconds that it took."""
+        if self.plan.is_compared:
+            self.run_in_memory()
         began = time.monotonic()
         children = [self.begin(number) for number in range(len(self.plan.scripts))]
         if self.plan.killed_at is not None:
             time.sleep(self.plan.killed_at * seconds_each)
             children[0].send_signal(self.plan.signal)
-        self.statuses, self.told = [], b""
+        self.statuses, self.said, self.told = [], b"", b""
         for child in children:
             try:
                 # programs of a run that was killed write on; they hold its standard error
-                self.told += child.communicate(timeout=SECONDS)[1]
+                said, told = child.communicate(timeout=SECONDS)
+                self.said, self.told = self.said + said, self.told + told
                 self.statuses.append(child.returncode)
             except subprocess.TimeoutExpired:
                 os.killpg(child.pid, signal.SIGKILL)
                 child.communicate()
                 self.statuses.append(None)
-        self.said = b"".join(self.read(f"said{number}") for number in range(len(children)))
         self.is_killed = any(status is not None and status < 0 for status in self.statuses)
         return time.monotonic() - began
 
@@ -95,14 +117,20 @@ class Room:
         """What is lost, left or changed, or None."""
         if None in self.statuses:
             return "it does not end"
-        if any(status and status < 0 and -status not in (1, 2, 9, 15) for status in self.statuses):
+        if any(status and status < 0 and -status not in ENDS for status in self.statuses):
             return f"it ends badly: {self.statuses}"
         if self.beside() != self.outside:
             return "what is outside is changed"
         if self.plan.is_dry:
             return None if self.look_at_all() == self.states else "a dry run changes the folder"
         self.stands = self.files()
-        return self.loss() or self.torn() or self.left() or self.difference() or self.without_a_line()
+        lost = self.beside_memory() if self.plan.is_compared else self.loss()
+        return lost or self.torn() or self.left() or self.difference() or self.without_a_line()
+
+    def close(self):
+        """Ends what was mounted."""
+        if self.plan.limits and self.plan.limits.is_full:
+            subprocess.run(["umount", "-l", f"{self.room}/f"], check=True)
 
     def loss(self):
         """Tokens of the folder and of programs stand there, unless the script or a program showed them before it destroyed them."""
@@ -110,6 +138,9 @@ class Room:
         self.shown = set(TOKEN.findall(self.said)) | {token for size, token in self.plan.sizes.items() if str(size).encode() in sizes}
         self.shown |= set(TOKEN.findall(self.read("gone")))
         required = set(TOKEN.findall(b"".join(self.before.values()) + self.read("log"))) - self.shown
+        if re.match(rb"(unlink|rename) ", self.read("call")):
+            # nobody can see what comes in the very moment in which the last name of a file is taken away, or given to another
+            required -= set(TOKEN.findall((self.plan.deed or "").encode()))
         self.stand = {token for what in self.stands.values() for token in TOKEN.findall(what)}
         lost = required - self.stand
         # what a program shows of a folder is not what the Shell has if something could not be written
@@ -148,8 +179,8 @@ class Room:
         return None
 
     def left(self):
-        """A temporary file is left but by a kill, and not told."""
-        left = [path for path in self.stands if TEMPORARY in path and path.encode() not in self.told]
+        """A temporary file is left but by a kill, and not told; its folder may have another name by then."""
+        left = [path for path in self.stands if TEMPORARY in path and os.path.basename(path).encode() not in self.told]
         if self.plan.error and self.plan.is_for_long:
             # it cannot be looked at either
             return None
@@ -158,18 +189,39 @@ class Room:
     def difference(self):
         """What the Shell has and the folder has not, or the other way round, with a status that does not say so. Names that begin with a dot and links
         are not shared, and a directory with such a one in it stays. A program may act after the last look, and at the limit of turns. Of two names
-        that differ in case alone one is left alone, with a line."""
-        if "--take" not in self.plan.options or self.plan.call or self.is_killed or {124, 125} & set(self.statuses) or b"taken twice" in self.told:
+        that differ in case alone one is left alone, with a line, and so is what there is no room for."""
+        if "--take" not in self.plan.options or self.plan.call or self.is_killed or {124, 125} & set(self.statuses) or NOT_SHARED.search(self.told):
             return None
         stands = look(f"{self.room}/f")[0]
-        unseen = [path for path, what in stands.items() if isinstance(what, Link) or re.search(r"(^|/)\.", path) and "--all" not in self.plan.options]
+        unseen = [path for path, what in stands.items() if isinstance(what, Link) or TEMPORARY in path or re.search(r"(^|/)\.", path) and "--all" not in self.plan.options]
         came = {path.lower(): what for path, what in stands.items() if path not in unseen}
         wanted = {path.lower(): what for path, what in look(f"{self.room}/taken")[0].items()}
         other = sorted(path for path in came.keys() | wanted.keys() if came.get(path) != wanted.get(path)
                        and not any(one.lower().startswith(path + "/") for one in unseen))
         return f"status {self.statuses[0]}, and the folder is not what the Shell has: {other}" if other else None
 
+    def beside_memory(self):
+        """What the script has in a run in memory alone, the folder has too, and nothing else, unless bytes of the folder are outside at the end: these it
+        has as well, and the status says so."""
+        taken = look(f"{self.room}/memory")[0]
+        if taken.get("Work") is not FOLDER:
+            return None
+        below = "Work/"
+        outside = {token for path, what in taken.items() if not path.startswith(below) and isinstance(what, bytes) for token in TOKEN.findall(what)}
+        before = set(TOKEN.findall(b"".join(self.before.values())))
+        lost = outside & before - set(TOKEN.findall(b"".join(self.stands.values())))
+        if lost:
+            return f"lost: {sorted(lost)}"
+        is_told = 125 in self.statuses
+        came, wanted = ({path.lower(): what for path, what in stands.items()} for stands in
+                        (look(f"{self.room}/f")[0], {path.removeprefix(below): what for path, what in taken.items() if path.startswith(below)}))
+        missing = sorted(path for path, what in wanted.items() if came.get(path) != what)
+        more = sorted(came.keys() - wanted.keys())
+        if missing or more and not (outside and is_told):
+            return f"status {self.statuses[0]}, and the folder is not what a run in memory has: {missing}, {more}"
+        return "status 125, and the folder is what the script has" if is_told and not outside else None
+
     def without_a_line(self):
         """Status 125 has its lines."""
-        is_told = b"cannot take" in self.told or b"not a folder" in self.told or b"Shell's files differ" in self.told and self.told.count(b"\n") > 1
+        is_told = b"cannot take" in self.told or b"not a folder" in self.told or b"does not fit" in self.told or b"Shell's files differ" in self.told and self.told.count(b"\n") > 1
         return "status 125 without its lines" if 125 in self.statuses and not is_told else None
