@@ -8,6 +8,7 @@ from limits import FOR_ALL, FOR_ROOT, Limits
 from names import ALL_PATHS, EXCHANGED, FOLDERS, NAMES, OUT
 from rooms import Link, filled
 from steps import step
+from volumes import EXTRA, FOLDERS as FOLDERS_V, Volumes
 
 SIGNALS = [signal.SIGKILL, signal.SIGTERM, signal.SIGINT, signal.SIGHUP]
 MOST_LINES = 16
@@ -16,19 +17,23 @@ MOST_CALLS = 300
 # `time` and `call` kill the run at a moment and before a call of a path, before which `meanwhile` lets another program act, and which fails with `error`;
 # `two` runs two scripts at a time; `memory` compares a folder that nothing else changes with a run in memory alone; limits.py says what the last five are.
 # The others are kinds of objects and options.
-KINDS = ["out", "large", "links", "folders", "exchanges", "time", "call", "meanwhile", "error", "two", "dry", "memory", *FOR_ALL, *FOR_ROOT]
+KINDS = ["out", "large", "links", "folders", "exchanges", "time", "call", "meanwhile", "error", "two", "dry", "memory", *FOR_ALL, *FOR_ROOT, "volumes", "vmemory", "vcall", "vmeanwhile", "verror", "vtime", "vtwo"]
 
 
 class Plan:
     """A plan by its kind and random numbers. Each token stands in one file, or in copies of it; each large file has a size of its own."""
 
     def __init__(self, kind, numbers):
+        self.volumes = None
+        has_volumes = kind in ("volumes", "vmemory", "vcall", "vmeanwhile", "verror", "vtime", "vtwo")
+        self.has_volumes = has_volumes
+        kind = {"volumes": "out"}.get(kind, kind[1:]) if has_volumes else kind
         self.kind, self.numbers, self.count = kind, numbers, 0
         self.before, self.modes, self.sizes, self.acts = {}, {}, {}, []
         self.is_alone, self.is_dry, self.is_compared = kind != "two", kind == "dry", kind == "memory"
         self.limits = Limits(kind, numbers) if kind in FOR_ALL + FOR_ROOT else None
         self.has_large = not self.is_compared and kind != "tight" and (kind == "large" or numbers.random() < 0.4)
-        self.has_exchanges = kind == "exchanges" or kind in ("time", "call", "error", "memory", *FOR_ALL, *FOR_ROOT) and numbers.random() < 0.5
+        self.has_exchanges = kind == "exchanges" or has_volumes and numbers.random() < 0.3 or kind in ("time", "call", "error", "memory", *FOR_ALL, *FOR_ROOT) and numbers.random() < 0.5
         # what a program copies there can be torn by itself
         self.has_large = self.has_large and (self.has_exchanges or kind != "full")
         # one that may not be written: what is added to it and then moved out is documented to be lost, so it is shown
@@ -41,6 +46,9 @@ class Plan:
         self.error = numbers.choice([errno.ENOSPC, errno.EACCES, errno.EIO]) if kind == "error" else None
         self.is_for_long = numbers.random() < 0.3
         self.options = self.chosen_options()
+        if has_volumes:
+            self.volumes = Volumes(self)
+            self.volumes.spread(self)
 
     def token(self):
         self.count += 1
@@ -109,7 +117,9 @@ class Plan:
         """The steps of a script, each some lines."""
         steps = [[self.numbers.choice(["FailAt 100"] * 9 + ["FailAt 11"])]]
         while sum(map(len, steps)) < MOST_LINES:
-            lines = step(self)
+            lines = step(self) if not self.has_volumes or self.numbers.random() > 0.12 else self.numbers.choice(EXTRA)()
+            if self.has_volumes and lines[0].startswith("show"):
+                continue
             if self.is_compared and any(".n" in line for line in lines):
                 # a name that is not shared
                 continue
@@ -144,7 +154,7 @@ class Plan:
         options += self.limits.options() if self.limits else []
         if not self.is_compared and numbers.random() < 0.08:
             options += ["--turns", str(numbers.randint(20, 120))]
-        return options + (["--dry"] if self.is_dry else ["--take", "RAM:Work=taken"] if self.is_taken() else [])
+        return options + (["--dry"] if self.is_dry else [word for name in (FOLDERS_V if self.has_volumes else ["f"]) for word in ("--take", f"RAM:{FOLDERS_V[name]}=taken/{FOLDERS_V[name]}")] if self.is_taken() else [])
 
     def is_taken(self):
         """Whether what the Shell has at the end can be compared with the folder."""
@@ -196,4 +206,5 @@ class Plan:
         between += [f"    call {self.call} fails by {errno.errorcode[self.error]}{', and all after it' * self.is_for_long}"] if self.error else []
         between += [f"    before call {self.call}: {self.deed}"] if self.deed else []
         limits = [f"    limits {self.limits}"] if self.limits else []
+        limits += [f"    volumes {self.volumes}"] if self.volumes else []
         return "\n".join([*stands, *scripts, *acts, *between, *limits, f"    options {self.options}"])

@@ -7,6 +7,7 @@ import subprocess
 import time
 
 from deeds import BEGIN
+from volumes import FOLDERS
 from rooms import FOLDER, Link, look, place
 
 SECONDS = 60
@@ -17,7 +18,7 @@ LARGE = re.compile(rb"(\d{5,}) bytes")
 WRITTEN = re.compile(rb"wrote-(\d+)")
 TEMPORARY = ".amishell-execute."
 # What a run in memory takes.
-MEMORY = ["Work", "Old", "T", "keep"]
+MEMORY = ["Work", "Two", "Three", "Old", "Old2", "Old3", "T", "keep"]
 SHOW = b"""#!/bin/sh
 grep -raohE '[ts][0-9]+x' "$1" 2>/dev/null
 true
@@ -33,9 +34,13 @@ class Room:
 
     def __init__(self, program, shim, plan, room):
         self.program, self.shim, self.plan, self.room = program, shim, plan, room
+        self.folders = FOLDERS if plan.volumes else {"f": "Work"}
         shutil.rmtree(room, ignore_errors=True)
+        for folder in self.folders:
+            os.makedirs(f"{room}/{folder}")
+        if plan.volumes:
+            plan.volumes.mount(room)
         if plan.limits and plan.limits.is_full:
-            os.makedirs(f"{room}/f")
             plan.limits.mount(f"{room}/f", {path: what for path, what in plan.before.items() if path.startswith("f/")})
         beside = {f"act{number}": "\n".join([f"echo {number} >>../began", BEGIN, *lines]).encode() + b"\n" for number, lines in enumerate(plan.acts)}
         scripts = {f"script{number}": "".join(f"{line}\n" for line in plan.lines(number)).encode() for number in range(len(plan.scripts))}
@@ -46,6 +51,8 @@ class Room:
         place(room, {"f": FOLDER, **plan.before, **beside, **scripts, "show": SHOW, "hook": hook}, {**plan.modes, "show": 0o755, "hook": 0o755})
         if plan.limits and plan.limits.is_nobody:
             plan.limits.give(room)
+        if plan.volumes:
+            plan.volumes.close(room)
         self.before, self.states = self.files(), self.look_at_all()
         self.outside = self.beside()
 
@@ -53,7 +60,14 @@ class Room:
         return look(f"{self.room}/out")[0]
 
     def files(self):
-        return {path: what for path, what in look(f"{self.room}/f")[0].items() if isinstance(what, bytes)}
+        return {path: what for path, what in self.all_stands().items() if isinstance(what, bytes)}
+
+    def all_stands(self):
+        return {f"{name}/{path}" if name != "f" else path: what for name in self.folders for path, what in look(f"{self.room}/{name}")[0].items()}
+
+    def all_taken(self, above):
+        """What was taken, by the paths of all_stands."""
+        return {f"{name}/{path}" if name != "f" else path: what for name, place in self.folders.items() for path, what in look(f"{above}/{place}")[0].items()}
 
     def look_at_all(self):
         """Each object of the folder with what a run without a write leaves as it is."""
@@ -73,7 +87,7 @@ class Room:
 
     def begin(self, number):
         plan = self.plan
-        words = [self.program, "--host", "sh", "--host", "show=./show", "--turns", "20000", "--share", "f", *plan.options, f"script{number}"]
+        words = [self.program, "--host", "sh", "--host", "show=./show", "--turns", "20000", "--share", "f=Work:" if plan.volumes else "f", *(["--share", "f2=Two:", "--share", "f3=Three:"] if plan.volumes else []), *plan.options, f"script{number}"]
         if "--turns" in plan.options:
             words[5:7] = []
         given = {name: value for name, value in os.environ.items() if name != "AMISHELL_HOSTS"}
@@ -86,7 +100,10 @@ class Room:
 
     def run_in_memory(self):
         """The script on a copy of the folder in memory alone, where its programs do nothing; what it has at the end is taken."""
-        words = [self.program, "--host", "sh=/bin/true", "--host", "show=/bin/true", "--bring", "f=RAM:Work", "--type", "CD RAM:Work", *self.plan.options]
+        words = [self.program, "--host", "sh=/bin/true", "--host", "show=/bin/true", *self.plan.options]
+        for name, place in self.folders.items():
+            words += ["--bring", f"{name}=RAM:{place}", "--type", f"Assign {place}: RAM:{place}"]
+        words += ["--type", "CD RAM:Work"]
         words += [word for name in MEMORY for word in ("--take", f"RAM:{name}=memory/{name}")]
         subprocess.run([*words, "script0"], cwd=self.room, stdin=subprocess.DEVNULL, stdout=subprocess.DEVNULL, stderr=subprocess.DEVNULL, check=False)
 
@@ -129,6 +146,8 @@ class Room:
 
     def close(self):
         """Ends what was mounted."""
+        if self.plan.volumes:
+            self.plan.volumes.unmount(self.room)
         if self.plan.limits and self.plan.limits.is_full:
             subprocess.run(["umount", "-l", f"{self.room}/f"], check=True)
 
@@ -192,10 +211,10 @@ class Room:
         that differ in case alone one is left alone, with a line, and so is what there is no room for."""
         if "--take" not in self.plan.options or self.plan.call or self.is_killed or {124, 125} & set(self.statuses) or NOT_SHARED.search(self.told):
             return None
-        stands = look(f"{self.room}/f")[0]
+        stands = self.all_stands()
         unseen = [path for path, what in stands.items() if isinstance(what, Link) or TEMPORARY in path or re.search(r"(^|/)\.", path) and "--all" not in self.plan.options]
         came = {path.lower(): what for path, what in stands.items() if path not in unseen}
-        wanted = {path.lower(): what for path, what in look(f"{self.room}/taken")[0].items()}
+        wanted = {path.lower(): what for path, what in self.all_taken(f"{self.room}/taken").items()}
         other = sorted(path for path in came.keys() | wanted.keys() if came.get(path) != wanted.get(path)
                        and not any(one.lower().startswith(path + "/") for one in unseen))
         return f"status {self.statuses[0]}, and the folder is not what the Shell has: {other}" if other else None
@@ -204,9 +223,9 @@ class Room:
         """What the script has in a run in memory alone, the folder has too, and nothing else, unless bytes of the folder are outside at the end: these it
         has as well, and the status says so."""
         taken = look(f"{self.room}/memory")[0]
-        if taken.get("Work") is not FOLDER:
+        if any(taken.get(place) is not FOLDER for place in self.folders.values()) or any(re.match(r"(Rename|MakeDir) .*RAM:(Two|Three)", line) for line in self.plan.lines()):
             return None
-        below = "Work/"
+        below = tuple(f"{place}/" for place in self.folders.values())
         outside = {token for path, what in taken.items() if not path.startswith(below) and isinstance(what, bytes) for token in TOKEN.findall(what)}
         before = set(TOKEN.findall(b"".join(self.before.values())))
         lost = outside & before - set(TOKEN.findall(b"".join(self.stands.values())))
@@ -214,7 +233,7 @@ class Room:
             return f"lost: {sorted(lost)}"
         is_told = 125 in self.statuses
         came, wanted = ({path.lower(): what for path, what in stands.items()} for stands in
-                        (look(f"{self.room}/f")[0], {path.removeprefix(below): what for path, what in taken.items() if path.startswith(below)}))
+                        (self.all_stands(), self.all_taken(f"{self.room}/memory")))
         missing = sorted(path for path, what in wanted.items() if came.get(path) != what)
         more = sorted(came.keys() - wanted.keys())
         if missing or more and not (outside and is_told):
