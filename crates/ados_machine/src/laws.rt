@@ -183,8 +183,8 @@ pub fn alone_tells_reports()
 {}
 
 /// In every run of a world that is sane, of every script: the place of the first record that reaches its limit is the place at
-/// which the script ended early, or there is neither. And each frame that ends gives back its line, its codes, and the limit of
-/// the command that called it. Together this says that each frame obeys its limit, no more and no less.
+/// which the script ended early, or there is neither. And each frame that ends gives back its line and its codes, and a script the
+/// limit at which it began, or 10 if no script is left. Together this says that each frame obeys its limit, no more and no less.
 pub fn scripts_end_early_at_their_first()
     ensures first { ScriptsEndEarlyAtTheirFirst }
     ensures back { FramesGiveBack }

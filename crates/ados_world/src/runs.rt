@@ -69,7 +69,8 @@ impl World {
     ///
     /// Whatever the events, of every script: the place of the first command whose code reaches the limit in force after it is the
     /// place at which the script ended early, or there is neither (`early`). Each script that ends gives back the line and the codes
-    /// of its last command, and the limit of the command that called it; one that is broken gives back 10 and 304 (`back`).
+    /// of its last command, and the limit at which it began, or 10 if no script is left; one that is broken gives back 10 and 304
+    /// (`back`).
     ///
     /// Each item of `outs` is what the step returns; a refused event keeps the world. If there is no memory for the list
     /// of results, the world is returned unchanged.

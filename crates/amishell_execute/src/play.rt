@@ -51,7 +51,7 @@ pub struct Script<'a> {
 /// brings a file in, and nothing else changes one. In all of these, in every shell, each script ends early exactly at its first
 /// command whose code reaches the limit in force after it, the reports are the ends of scripts, and each frame ends once. What
 /// these events print was written, all of it and in order, except for the lines that bring in a shared folder's files; only some
-/// of it if a write failed.
+/// of it if a write failed, and perhaps if the files were not brought in or a question had no answer.
 #[tactic(auto, using(crate::proofs::Pairs::kept_pair, crate::proofs::Pairs::rule_stays, crate::proofs::Driving::rule_cut))]
 pub fn play<R: AllocGlobal + Files + Input + Eprint + Processes + Clone + Drop + Clock, K: Sink>(
     rt: &R,
