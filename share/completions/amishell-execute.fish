@@ -23,7 +23,7 @@ complete -c amishell-execute -l error -x -d 'Where the command NAME of --host fa
 complete -c amishell-execute -l ok-below -x -d 'A code of the script from 0 to N-1 is exit status 0'
 complete -c amishell-execute -l quiet -d 'Leaves out the lines on standard error of scripts that ended early, of files that are gone with RAM'
 complete -c amishell-execute -l trace -d 'Writes each command that a script takes on standard error before it runs, as + build:12'
-complete -c amishell-execute -l config -r -F -d 'A file of options, one a line as it is typed here but without quoting, as --type Assign DF0'
+complete -c amishell-execute -l config -r -F -d 'A file of options, one in each line, as they are typed but without quoting'
 complete -c amishell-execute -l no-config -d 'Reads no file of options'
 complete -c amishell-execute -s h -l help -d 'Print help'
 complete -c amishell-execute -s V -l version -d 'Print version'
