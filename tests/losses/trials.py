@@ -73,10 +73,10 @@ class Room:
 
     def begin(self, number):
         plan = self.plan
-        words = [self.program, "--host", "sh", "--host", "show=./show", "--turns", "20000", "--share", "f", *plan.options, f"script{number}"]
+        words = [self.program, "--no-config", "--host", "sh", "--host", "show=./show", "--turns", "20000", "--share", "f", *plan.options, f"script{number}"]
         if "--turns" in plan.options:
-            words[5:7] = []
-        given = {name: value for name, value in os.environ.items() if name != "AMISHELL_HOSTS"} | {"XDG_CONFIG_HOME": "/dev/null"}
+            words[6:8] = []
+        given = {name: value for name, value in os.environ.items() if name != "AMISHELL_HOSTS"}
         if plan.call:
             given |= {"LD_PRELOAD": self.shim, "FAIL_CALL": "path", "FAIL_AT": str(plan.call)}
             given |= {"FAIL_RUN": f"{self.room}/hook"} if plan.deed else {"FAIL_ERRNO": str(plan.error), **({"FAIL_ON": "1"} if plan.is_for_long else {})}
@@ -86,7 +86,7 @@ class Room:
 
     def run_in_memory(self):
         """The script on a copy of the folder in memory alone, where its programs do nothing; what it has at the end is taken."""
-        words = [self.program, "--host", "sh=/bin/true", "--host", "show=/bin/true", "--bring", "f=RAM:Work", "--type", "CD RAM:Work", *self.plan.options]
+        words = [self.program, "--no-config", "--host", "sh=/bin/true", "--host", "show=/bin/true", "--bring", "f=RAM:Work", "--type", "CD RAM:Work", *self.plan.options]
         words += [word for name in MEMORY for word in ("--take", f"RAM:{name}=memory/{name}")]
         subprocess.run([*words, "script0"], cwd=self.room, stdin=subprocess.DEVNULL, stdout=subprocess.DEVNULL, stderr=subprocess.DEVNULL, check=False)
 
