@@ -26,7 +26,7 @@ pub struct Backups {
     alloc: Global,
     // Each by its path, which is that of a temporary file.
     by_path: BTreeMap<String, Backup>,
-    /// Files that were deleted or written over while the Shell had their bytes, and another file of the folder or a backup too.
+    /// Files that were deleted while the Shell had their bytes, and another file of the folder too.
     pub deleted: Vec<Backup>,
     /// At the end some of them stay.
     pub have_stayed: bool,

@@ -1,5 +1,5 @@
-//! Files that were deleted or written over in the folder of a share while another file there had their bytes, and the Shell too. Once no
-//! file there has them any longer, as another program deleted that one, a backup is made of what the Shell has.
+//! Files that were deleted in the folder of a share while another file there had their bytes, and the Shell too. Once no file there has
+//! them any longer, as another program deleted that one, a backup is made of what the Shell has.
 
 use crate::account::Moment;
 use crate::backups::Backup;
@@ -15,7 +15,7 @@ use std::mem;
 use std::rt::Files;
 
 impl Mirror {
-    // Notes that a file is deleted or written over, if the Shell has its bytes elsewhere. It still has its record.
+    // Notes that a file is deleted, if the Shell has its bytes elsewhere. It still has its record.
     pub(crate) fn note_gone(
         &mut self,
         key: &str,

@@ -57,7 +57,6 @@ impl Mirror {
             }
             Decision::Write if self.options.dry => self.reports.report_once("would write", path),
             Decision::Write => {
-                self.note_gone(key, departure, &here)?;
                 let mode = self.mode_of(rt, files, entry, account)?;
                 let is_last = self.is_lost_below(rt, files, key, departure)?;
                 self.write(rt, (key, path), &Draft::new(entry, &here, mode, is_last), account)
