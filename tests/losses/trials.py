@@ -25,6 +25,9 @@ true
 # What was not written, or gave way to what this machine has, is told. Where it could not be written, a program sees something else than the Shell.
 TOLD = re.compile(rb"both changed|cannot |is not written|not written, since|left alone|kept, since|kept as|nothing is written")
 NOT_SHARED = re.compile(rb"taken twice|files and folders, left alone from")
+# The folder, or the script beside what fills the Shell, is not there or too large.
+NOT_RUN = re.compile(rb"not a folder|does not fit|more than \d+ bytes in all, with script")
+NOT_STARTED = re.compile(rb"^show: ", re.M)
 UNWRITTEN = re.compile(rb"both changed|cannot |not written|nothing is written")
 
 
@@ -143,8 +146,8 @@ class Room:
             required -= set(TOKEN.findall((self.plan.deed or "").encode()))
         self.stand = {token for what in self.stands.values() for token in TOKEN.findall(what)}
         lost = required - self.stand
-        # what a program shows of a folder is not what the Shell has if something could not be written
-        is_unsure = UNWRITTEN.search(self.told) and any("ALL" in line for number in range(len(self.plan.scripts)) for line in self.plan.lines(number))
+        # what a program shows of a folder is not what the Shell has if something could not be written; one that could not start shows nothing
+        is_unsure = (UNWRITTEN.search(self.told) or NOT_STARTED.search(self.said)) and any("ALL" in line for number in range(len(self.plan.scripts)) for line in self.plan.lines(number))
         if lost and not is_unsure:
             return f"lost: {sorted(lost)}"
         lost = self.of_scripts() - self.stand - self.shown
@@ -223,5 +226,5 @@ class Room:
 
     def without_a_line(self):
         """Status 125 has its lines."""
-        is_told = b"cannot take" in self.told or b"not a folder" in self.told or b"does not fit" in self.told or b"Shell's files differ" in self.told and self.told.count(b"\n") > 1
+        is_told = NOT_RUN.search(self.told) or b"cannot take" in self.told or b"Shell's files differ" in self.told and self.told.count(b"\n") > 1
         return "status 125 without its lines" if 125 in self.statuses and not is_told else None

@@ -26,17 +26,23 @@ pub struct Backups {
     alloc: Global,
     // Each by its path, which is that of a temporary file.
     by_path: BTreeMap<String, Backup>,
+    /// Files that were deleted while the Shell had their bytes, and another file of the folder too.
+    pub deleted: Vec<Backup>,
     /// At the end some of them stay.
     pub have_stayed: bool,
 }
 
-// What it is a copy of: the path of the file, what that held, its mode, and where the script moved it, if it did.
+/// What a backup is a copy of.
 #[derive(Drop)]
-struct Backup {
-    original: String,
-    bytes: FileBytes,
-    mode: u32,
-    moved: Option<Destination>,
+pub struct Backup {
+    /// The path of the file.
+    pub original: String,
+    /// What it held.
+    pub bytes: FileBytes,
+    /// Its mode.
+    pub mode: u32,
+    /// Where the script moved it, if it did.
+    pub moved: Option<Destination>,
 }
 
 /// What becomes of a backup after an update.
@@ -56,6 +62,7 @@ impl Backups {
         Backups {
             alloc,
             by_path: BTreeMap::new(alloc),
+            deleted: Vec::new(alloc),
             have_stayed: false,
         }
     }
@@ -84,31 +91,50 @@ impl Backups {
     /// What the script deleted is followed no longer.
     pub fn forget_deleted(&mut self, files: &Ram) {
         for backup in self.by_path.values_mut() {
-            if backup
-                .moved
-                .as_ref()
-                .is_some_and(|moved| moved.is_deleted(files))
-            {
-                backup.moved = None;
-            }
+            backup.forget_deleted(files);
+        }
+        for backup in &mut self.deleted {
+            backup.forget_deleted(files);
         }
     }
 
     /// An object of the Shell's files was renamed: what was moved before moves along.
     pub fn carry(&mut self, from: &Place, to: &Place) -> Result<(), NoMemory> {
         for backup in self.by_path.values_mut() {
-            if let Some(moved) = &mut backup.moved {
-                moved.carry(from, to)?;
-            }
+            backup.carry(from, to)?;
+        }
+        for backup in &mut self.deleted {
+            backup.carry(from, to)?;
         }
         Ok(())
     }
 
-    // Keeps the path of a backup.
-    fn add(&mut self, path: &str, backup: Backup) -> Result<(), TransferFault> {
+    /// Keeps the path of a backup.
+    pub fn add(&mut self, path: &str, backup: Backup) -> Result<(), TransferFault> {
         self.by_path
             .insert(String::from_str(self.alloc, path)?, backup)?;
         Ok(())
+    }
+}
+
+impl Backup {
+    // What the script deleted is followed no longer.
+    fn forget_deleted(&mut self, files: &Ram) {
+        if self
+            .moved
+            .as_ref()
+            .is_some_and(|moved| moved.is_deleted(files))
+        {
+            self.moved = None;
+        }
+    }
+
+    // It moves along with an object that was renamed.
+    fn carry(&mut self, from: &Place, to: &Place) -> Result<(), NoMemory> {
+        match &mut self.moved {
+            Some(moved) => moved.carry(from, to),
+            None => Ok(()),
+        }
     }
 }
 
@@ -158,6 +184,7 @@ impl Mirror {
         files: &Ram,
         moment: Moment,
     ) -> Result<(), TransferFault> {
+        self.restore_deleted(rt, files, moment)?;
         if self.backups.by_path.is_empty() {
             return Ok(());
         }
@@ -186,8 +213,8 @@ impl Mirror {
         self.keep_remainders(rt, remainders.as_slice())
     }
 
-    // Where the Shell has the file of a backup: one of the same bytes, or where it was moved.
-    fn elsewhere(
+    // Where the Shell has the file of a backup: one of the same bytes, or where it was moved if that is not written.
+    pub(crate) fn elsewhere(
         &self,
         files: &Ram,
         holders: &Holders<'_>,
@@ -196,11 +223,11 @@ impl Mirror {
         if let Some(holder) = holders.first_with(&backup.bytes) {
             return Ok(Some(Elsewhere::Copy(self.copy_path(files, holder.place())?)));
         }
-        self.destined_elsewhere(files, backup.moved.as_ref())
+        self.unwritten_elsewhere(files, backup.moved.as_ref())
     }
 
     // A file of the folder has the bytes of a backup.
-    fn is_in_folder<R: AllocGlobal + Files>(
+    pub(crate) fn is_in_folder<R: AllocGlobal + Files>(
         &self,
         rt: &R,
         backup: &Backup,

@@ -11,6 +11,7 @@ mod bringing;
 mod changes;
 mod choice;
 mod decision;
+mod deleted_copies;
 mod departure;
 mod departures;
 mod faults;

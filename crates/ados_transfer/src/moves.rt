@@ -230,6 +230,32 @@ impl Mirror {
         }
     }
 
+    // The same, or where it is in a directory of the share, if the folder does not have it there as it is now.
+    pub(crate) fn unwritten_elsewhere(
+        &self,
+        files: &Ram,
+        destination: Option<&Destination>,
+    ) -> Result<Option<Elsewhere>, TransferFault> {
+        match destination {
+            Some(Destination::At(place)) if self.is_unwritten(files, place)? => {
+                Ok(Some(Elsewhere::Moved(self.copy_path(files, place)?)))
+            }
+            _ => self.destined_elsewhere(files, destination),
+        }
+    }
+
+    // A file is at a place that is in a directory of the share, and it is not what was there at the last comparison.
+    pub(crate) fn is_unwritten(&self, files: &Ram, place: &Place) -> Result<bool, TransferFault> {
+        let Some(key) = self.key_of(place)? else {
+            return Ok(false);
+        };
+        let is_written = self
+            .records
+            .get(key.as_str())
+            .is_some_and(|record| record.is_kept(files.look(place)));
+        Ok(is_file(files, place) && !is_written)
+    }
+
     // A file is at a place that is in no directory of the share.
     fn is_out(&self, files: &Ram, place: &Place) -> bool {
         self.volumes.of_place(place).is_none() && is_file(files, place)

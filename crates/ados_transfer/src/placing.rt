@@ -187,7 +187,21 @@ pub fn holds<R: AllocGlobal + Files>(rt: &R, path: &str, bytes: &FileBytes) -> b
     }
 }
 
-// Two names are those of one file.
+/// Two paths are those of one name of a file, as in a folder that is mounted twice: it is deleted with either. A second name of
+/// the file (a hard link) is not the same one.
+pub fn is_one_name<R: Files>(rt: &R, path: &str, other: &str) -> bool {
+    if !is_one_file(rt, path, other) {
+        return false;
+    }
+    if fs::symlink_metadata(rt, path).is_ok_and(|found| found.nlink() == 1) {
+        return true;
+    }
+    let (folder, name) = path.rsplit_once('/').unwrap_or(("", path));
+    let (other_folder, other_name) = other.rsplit_once('/').unwrap_or(("", other));
+    name == other_name && is_one_file(rt, folder, other_folder)
+}
+
+// Two paths are those of one file or folder.
 fn is_one_file<R: Files>(rt: &R, path: &str, other: &str) -> bool {
     match (
         fs::symlink_metadata(rt, path),
