@@ -152,7 +152,7 @@ impl Mirror {
 
     // After an update the backups go that are not needed any longer. At the end the others get names of their own, and one line names the
     // first.
-    pub(crate) fn finish_backups<R: AllocGlobal + Files>(
+    pub(crate) fn finish_backups<R: AllocGlobal + Files + Clone + Drop>(
         &mut self,
         rt: &R,
         files: &Ram,

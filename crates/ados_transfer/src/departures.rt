@@ -23,7 +23,7 @@ impl Mirror {
     /// one line reports it, unless the script goes on meanwhile. With `dry` the changes are only reported.
     ///
     /// What can't be written or deleted is reported and left. The only error is that an allocation fails.
-    pub fn write_out<R: AllocGlobal + Files + Clock>(
+    pub fn write_out<R: AllocGlobal + Files + Clock + Clone + Drop>(
         &mut self,
         rt: &R,
         files: &Ram,
