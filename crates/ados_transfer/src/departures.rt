@@ -51,7 +51,7 @@ impl Mirror {
             return Ok(());
         }
         if account.moment == Moment::End {
-            self.forgive_deleted(files)?;
+            self.forgive_undone(files)?;
         }
         self.watch(files)?;
         self.settle_moves(files)?;
@@ -142,13 +142,20 @@ impl Mirror {
         Ok(())
     }
 
-    // What was not written, and what the script deleted since, is no longer missed.
-    fn forgive_deleted(&mut self, files: &Ram) -> Result<(), TransferFault> {
+    // What was not written, and what the script deleted since, is no longer missed. If it has there what it had at the last comparison,
+    // only a change that is lost is.
+    fn forgive_undone(&mut self, files: &Ram) -> Result<(), TransferFault> {
         for key in &self.reports.missed()? {
-            let is_there = files.look(&self.place_of(key.as_str())?).is_some();
-            if !is_there && !self.records.contains_key(key.as_str()) {
-                self.reports.settle(key.as_str());
-                self.reports.agree(key.as_str());
+            let place = self.place_of(key.as_str())?;
+            match self.records.get(key.as_str()) {
+                Some(record) if record.is_kept(files.look(&record.place)) => {
+                    self.reports.settle(key.as_str());
+                }
+                None if files.look(&place).is_none() => {
+                    self.reports.settle(key.as_str());
+                    self.reports.agree(key.as_str());
+                }
+                _ => {}
             }
         }
         Ok(())
