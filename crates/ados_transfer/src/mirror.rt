@@ -14,7 +14,7 @@ use crate::stamps::Stamp;
 use crate::stand_ins::StandIns;
 use crate::volumes::{Volume, Volumes};
 use crate::watches::Watch;
-use ados_ram::Limits;
+use ados_ram::{Limits, Ram};
 use std::alloc::Global;
 use std::collections::BTreeMap;
 use std::time::{Clock, SystemTime};
@@ -149,6 +149,7 @@ impl Mirror {
     // Notes that an object gives way to this machine's, if the Shell has one.
     pub(crate) fn overrule(
         &mut self,
+        files: &Ram,
         key: &str,
         path: &str,
         is_there: bool,
@@ -157,7 +158,7 @@ impl Mirror {
             self.reports.add_lost(key)?;
             let place = self.place_of(key)?;
             self.moves.note_replaced(&place);
-            self.backups.note_replaced();
+            self.backups.note_replaced(files, &place)?;
         }
         if is_there && self.overruled.is_none() {
             self.overruled = Some(String::from_str(self.alloc, path)?);
