@@ -231,7 +231,7 @@ impl Mirror {
     fn let_go<R: Files>(&mut self, rt: &R, path: &str) -> Result<(), TransferFault> {
         self.backups.by_path.remove(path);
         if fs::remove_file(rt, path).is_err() && fs::symlink_metadata(rt, path).is_ok() {
-            return self.reports.report_once("temporary file left", path);
+            return self.report_temporary(String::from_str(self.alloc, path)?);
         }
         Ok(())
     }

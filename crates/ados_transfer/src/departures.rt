@@ -258,21 +258,6 @@ impl Mirror {
         Ok(())
     }
 
-    // Reports each temporary file that could not be removed.
-    fn report_temporaries<R: AllocGlobal + Files>(
-        &mut self,
-        rt: &Below<'_, R>,
-        account: &Account,
-    ) -> Result<(), TransferFault> {
-        for path in &rt.temporaries()? {
-            if !account.kept.contains(path) && !self.backups.has(path.as_str()) {
-                self.reports
-                    .report_once("temporary file left", path.as_str())?;
-            }
-        }
-        Ok(())
-    }
-
     // Reports what is not deleted.
     pub(crate) fn report_account(&mut self, account: &Account) -> Result<(), TransferFault> {
         if account.is_meanwhile() {

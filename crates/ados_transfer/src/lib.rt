@@ -42,6 +42,7 @@ mod stamps;
 mod stand_ins;
 mod start_place;
 mod taking;
+mod temporaries;
 mod volumes;
 mod watches;
 mod words;
