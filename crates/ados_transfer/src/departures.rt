@@ -212,6 +212,7 @@ impl Mirror {
         for volume in self.volumes.all() {
             let places = files.contents(&volume.place)?;
             self.add_new(files, &places, &mut departures, account)?;
+            self.note_copies(files, &places, account)?;
         }
         Ok(departures)
     }
@@ -269,6 +270,10 @@ impl Mirror {
             for path in &account.left_out {
                 self.reports
                     .report_once("not written, since its name is not shared", path.as_str())?;
+            }
+            for path in &account.copies {
+                self.reports
+                    .report_once("not written, since the Shell can't hold it", path.as_str())?;
             }
         }
         match account.line(&self.volumes)? {

@@ -18,6 +18,7 @@ mod fit;
 mod folders;
 mod here;
 mod large_asides;
+mod large_copies;
 mod large_moves;
 mod last_copies;
 mod lines;
