@@ -55,6 +55,7 @@ impl Mirror {
         }
         self.watch(files)?;
         self.settle_moves(files)?;
+        self.note_copies(files, account)?;
         let asides = self.begin_moves(rt, files, account)?;
         let mut departures = self.departures(files, account)?;
         departures.leave_out(away.as_slice());
@@ -212,7 +213,6 @@ impl Mirror {
         for volume in self.volumes.all() {
             let places = files.contents(&volume.place)?;
             self.add_new(files, &places, &mut departures, account)?;
-            self.note_copies(files, &places, account)?;
         }
         Ok(departures)
     }

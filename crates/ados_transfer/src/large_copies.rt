@@ -7,8 +7,21 @@ use crate::stand_ins::is_stand_in;
 use ados_ram::{Place, Ram};
 
 impl Mirror {
-    // Notes those of these places at which the Shell has a copy of a stand-in.
+    // Notes the Shell's copies of stand-ins. This is before large files are moved aside: those have no records then.
     pub(crate) fn note_copies(
+        &self,
+        files: &Ram,
+        account: &mut Account,
+    ) -> Result<(), TransferFault> {
+        for volume in self.volumes.all() {
+            let places = files.contents(&volume.place)?;
+            self.note_copies_at(files, &places, account)?;
+        }
+        Ok(())
+    }
+
+    // Notes those at these places.
+    fn note_copies_at(
         &self,
         files: &Ram,
         places: &[Place],
