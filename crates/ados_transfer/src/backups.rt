@@ -13,7 +13,7 @@ use crate::placing::{Draft, holds};
 use crate::records::Last;
 use crate::remainders::Remainder;
 use crate::writing::{Manner, no_memory, write_beside};
-use ados_ram::{FileBytes, Place, Ram};
+use ados_ram::{Entry, FileBytes, Place, Ram};
 use ados_text::NoMemory;
 use std::alloc::Global;
 use std::collections::BTreeMap;
@@ -80,12 +80,17 @@ impl Backups {
             .map(|backup| backup.mode)
     }
 
-    /// Something of the Shell's files gives way to what comes in, which may be the other copy of any of them: that is no deletion by the
-    /// script.
-    pub fn note_replaced(&mut self) {
+    /// What is at or below a place of the Shell's files gives way to what comes in: if it is the other copy of one of them, that is no
+    /// deletion by the script.
+    pub fn note_replaced(&mut self, files: &Ram, place: &Place) -> Result<(), NoMemory> {
+        let mut replaced = files.contents(place)?;
+        replaced.push(place.copy()?)?;
         for backup in self.by_path.values_mut() {
-            backup.moved = Some(Destination::Replaced);
+            if replaced.iter().any(|place| backup.is_at(files, place)) {
+                backup.moved = Some(Destination::Replaced);
+            }
         }
+        Ok(())
     }
 
     /// What the script deleted is followed no longer.
@@ -136,6 +141,15 @@ impl Backup {
             None => Ok(()),
         }
     }
+
+    // Its file was moved to a place, or a file with its bytes is there.
+    fn is_at(&self, files: &Ram, place: &Place) -> bool {
+        matches!(&self.moved, Some(Destination::At(other)) if other == place)
+            || files
+                .look(place)
+                .and_then(Entry::bytes)
+                .is_some_and(|bytes| *bytes == self.bytes)
+    }
 }
 
 impl Mirror {
@@ -178,7 +192,7 @@ impl Mirror {
 
     // After an update the backups go that are not needed any longer. At the end the others get names of their own, and one line names the
     // first.
-    pub(crate) fn finish_backups<R: AllocGlobal + Files>(
+    pub(crate) fn finish_backups<R: AllocGlobal + Files + Clone + Drop>(
         &mut self,
         rt: &R,
         files: &Ram,
@@ -242,7 +256,7 @@ impl Mirror {
     fn let_go<R: Files>(&mut self, rt: &R, path: &str) -> Result<(), TransferFault> {
         self.backups.by_path.remove(path);
         if fs::remove_file(rt, path).is_err() && fs::symlink_metadata(rt, path).is_ok() {
-            return self.reports.report_once("temporary file left", path);
+            return self.report_temporary(String::from_str(self.alloc, path)?);
         }
         Ok(())
     }

@@ -66,7 +66,11 @@ impl<'a, R: AllocGlobal + Files> Below<'a, R> {
         };
         for volume in self.volumes.all() {
             let is_other = volume.label.as_str() != own.label.as_str();
-            if is_other && self.metadata(volume.label.as_str()).is_ok_and(|root| is_one(&root, found)) {
+            if is_other
+                && self
+                    .metadata(volume.label.as_str())
+                    .is_ok_and(|root| is_one(&root, found))
+            {
                 return Err(TransferFault::FoldersMeet(own.folder.clone()?, volume.folder.clone()?));
             }
         }

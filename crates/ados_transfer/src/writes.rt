@@ -59,7 +59,12 @@ impl Mirror {
             Decision::Write => {
                 let mode = self.mode_of(rt, files, entry, account)?;
                 let is_last = self.is_lost_below(rt, files, key, departure)?;
-                self.write(rt, (key, path), &Draft::new(entry, &here, mode, is_last), account)
+                self.write(
+                    rt,
+                    (key, path),
+                    &Draft::new(entry, &here, mode, is_last),
+                    account,
+                )
             }
         }
     }
