@@ -59,12 +59,8 @@ impl Mirror {
             Decision::Write => {
                 let mode = self.mode_of(rt, files, entry, account)?;
                 let is_last = self.is_lost_below(rt, files, key, departure)?;
-                self.write(
-                    rt,
-                    (key, path),
-                    &Draft::new(entry, &here, mode, is_last),
-                    account,
-                )
+                let draft = Draft::new(entry, &here, mode, is_last);
+                self.write(rt, (key, path), &draft, account)
             }
         }
     }
