@@ -31,7 +31,7 @@ use Rattle.ados_subst.specs.declared.marks.Marks.{Marks}
 use Rattle.ados_subst.specs.declared.slots.Slot.{Slot}
 use Rattle.ados_subst.specs.Above.{initial_above}
 use Rattle.ados_subst.specs.Directives.{above_of_default, above_of_slots, default_of, default_result, directive_named, directive_result, is_remark, key_result, mark_result, named_directive_result, slots_of_args}
-use Rattle.ados_subst.specs.Faults.{args_fault}
+use Rattle.ados_subst.specs.Faults.{Gives, args_fault}
 use Rattle.ados_subst.specs.Lines.{substituted_line}
 use Rattle.ados_subst.specs.Marks.{with_mark}
 use Rattle.ados_subst.specs.References.{reference_value}
@@ -318,3 +318,9 @@ template-at line (Err why) (inr is) = let found = of-template why is in inr (fou
 pub bad_template : (lines : List Text) (args : Bytes) (process : Text) (line : ℕ) → script_of lines args process ≡ Err (fault.Args arg.BadTemplate) → IsNeverCalled lines line
 bad_template lines args process line e others other =
     template-at line (script_of lines others other) (never-called lines args process (fault.Args arg.BadTemplate) refl e others other)
+
+pub told_template : (lines : List Text) (args : Bytes) (process : Text) (line : ℕ) (result : Result (List Text) SubstFault) (why : SubstFault) (of_args : ArgFault)
+    → Gives result (script_of lines args process) → result ≡ Err why → why ≡ fault.Args of_args → of_args ≡ arg.BadTemplate → IsNeverCalled lines line
+told_template lines args process line result why of_args (inl none) is args-is bad = cc
+told_template lines args process line result why of_args (inr gives) is args-is bad =
+    bad_template lines args process line (sym gives ∙ is ∙ ap Err (args-is ∙ ap fault.Args bad))
