@@ -55,7 +55,8 @@ impl Mirror {
         let holders = self.holders(files)?;
         let deleted = mem::replace(&mut self.backups.deleted, Vec::new(self.alloc));
         for backup in deleted {
-            if self.elsewhere(files, &holders, &backup)?.is_none() {
+            let moved = self.unwritten_elsewhere(files, backup.moved.as_ref())?;
+            if moved.is_none() && !holders.has_outside(&backup.bytes) {
                 continue;
             }
             if self.is_in_folder(rt, &backup)? || self.backups.mode_of(&backup.bytes).is_some() {

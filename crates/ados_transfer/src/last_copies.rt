@@ -89,6 +89,11 @@ impl<'a> Holders<'a> {
         }
     }
 
+    /// A file outside of the directory has these bytes.
+    pub fn has_outside(&self, bytes: &FileBytes) -> bool {
+        first_with(self.outside.as_slice(), bytes).is_some()
+    }
+
     // The file whose bytes would be lost with memory if those of a file of the folder are deleted or written over. For one that gives
     // way to what is written in its place (`is_moved`) there is none if a file in the directory has them.
     fn copy_of(
