@@ -6,7 +6,7 @@ use crate::folders::lower;
 use crate::here::is_nothing;
 use crate::mirror::Mirror;
 use crate::moves::Elsewhere;
-use crate::paths::{last_piece, step_into};
+use crate::paths::{folder_of, last_piece, step_into};
 use crate::placing::place_new;
 use crate::volumes::Volumes;
 use std::alloc::Global;
@@ -129,8 +129,7 @@ fn names_beside<R: AllocGlobal + Files + Clone + Drop>(
     path: &str,
 ) -> io::Result<BTreeSet<String>> {
     let mut names = BTreeSet::new(rt.alloc());
-    let folder = path.rsplit_once('/').map_or("", |(folder, _)| folder);
-    let entries = match fs::read_dir(rt, folder) {
+    let entries = match fs::read_dir(rt, folder_of(path)) {
         Ok(entries) => entries,
         Err(error) if is_nothing(error.kind()) => return Ok(names),
         Err(error) => return Err(error),
