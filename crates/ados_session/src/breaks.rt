@@ -1,5 +1,5 @@
 // The breaks that a recording writes.
-ghost use Rattle.std.specs.Prelude.{◌≡◌, ◌++◌, ◌∷◌, [], true, IfOk};
+ghost use Rattle.std.specs.Prelude.{◌≡◌, ◌++◌, ◌∷◌, [], true, IfOk, OnErr};
 ghost use Rattle.ados_text.specs.Text.{IsText};
 ghost use Rattle.ados_session.specs.Breaks.{are_rising, break_of, kind_of, last_event, bounded_number};
 
@@ -28,11 +28,12 @@ pub fn break_of(text: &[u8]) -> Option<BreakAt>
     })
 }
 
-/// Adds a break; `false` if it names an earlier event than the one before it.
+/// Adds a break; `false` if it names an earlier event than the one before it. At `NoMemory` the list is unchanged.
 pub fn add_break(breaks: &mut Vec<BreakAt>, at: BreakAt) -> Result<bool, NoMemory>
     requires { are_rising breaks.old.items ≡ true }
     ensures rising { IfOk result (λ is_rising. is_rising ≡ are_rising (breaks.old.items ++ at ∷ [])) }
     ensures breaks { IfOk result (λ _. breaks.new.items ≡ breaks.old.items ++ at ∷ []) }
+    ensures err { OnErr result (breaks.new.items ≡ breaks.old.items) }
 {
     let is_rising = last_event(breaks.as_slice()) <= at.event;
     breaks.push(at)?;
