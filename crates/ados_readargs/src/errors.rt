@@ -1,3 +1,4 @@
+// Why a text is not a template, or a line does not fill one.
 ghost use Rattle.std.specs.Prelude.{◌≡◌};
 ghost use Rattle.ados_readargs.specs.Faults.{result2_of};
 ghost use Rattle.ados_readargs.specs.declared.errors.ArgFault.TheVariants.{NoMemory as OutOfMemory};

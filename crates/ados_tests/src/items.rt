@@ -1,3 +1,4 @@
+// Words of lines.
 use crate::wrong::{Wrong, expect};
 use ados_items::words;
 use ados_text::{NoMemory, Texts};
