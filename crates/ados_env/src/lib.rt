@@ -26,7 +26,6 @@ mod operators;
 mod options;
 mod pairs;
 mod path;
-mod pieces;
 mod reads;
 mod resident;
 mod resident_lines;

@@ -1,3 +1,4 @@
+// Dir: what is shown, and of which directories.
 ghost use Rattle.std.specs.Prelude.{◌≡◌, IfOk};
 ghost use Rattle.std.specs.Option.{option_copied};
 ghost use Rattle.ados_find.specs.Effects.{effect_of};

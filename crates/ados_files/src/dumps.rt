@@ -3,8 +3,7 @@ ghost use Rattle.std.specs.Prelude.{◌≡◌, ◌<◌, ◌+◌, ◌^◌, ◌++�
 ghost use Rattle.std.specs.Option.{option_copied};
 ghost use Rattle.ados_files.specs.Dumps.{hex_digit, hex_byte, hex_place, hex_or_blanks, hex_group, character_of, hex_line, hex_lines, hex_text, line_number, numbered_text};
 
-use crate::lines::{at_most, without};
-use ados_text::{NoMemory, Text, push_right};
+use ados_text::{NoMemory, Text, at_most, push_right, without};
 use std::alloc::Global;
 
 /// Appends the bytes of a file by HEX.

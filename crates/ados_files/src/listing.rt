@@ -1,3 +1,4 @@
+// List: lines of objects, and of what is in directories.
 ghost use Rattle.std.specs.Prelude.{◌≡◌, ◌++◌, IfOk, OnOk, option_map};
 ghost use Rattle.std.specs.Option.{option_copied};
 ghost use Rattle.ados_readargs.specs.Args.{option_text};

@@ -8,12 +8,7 @@ ghost use Rattle.ados_machine.specs.Broken.{BreaksByCMark, BreaksByDFlag, Breaks
 ghost use Rattle.ados_machine.specs.Called.{ScriptsBeginWithTheirLines, CalledScriptsBeginWithTheirLines, FramesGoOn, JumpsLeadToTheirLine, FramesKeepTheirLines};
 ghost use Rattle.ados_machine.specs.Codes.{UnknownCommandsFail, UnknownCommandsAreTold, FaultyLinesFail, ExitStatusesAreReturned, FaultsAreReturned, FailedStartsAreReturned};
 ghost use Rattle.ados_machine.specs.Early.{ScriptsEndEarlyAtTheirFirst, FramesGiveBack, EarlyAndBackIsToObey};
-ghost use Rattle.ados_machine.specs.Given.{
-  EventsGiveWhatIsPending,
-  FurtherLinesWait,
-  ReadyShellsAreTurned,
-  TypedLinesAreTakenInOrder,
-};
+ghost use Rattle.ados_machine.specs.Given.{EventsGiveWhatIsPending, FurtherLinesWait, ReadyShellsAreTurned, TypedLinesAreTakenInOrder};
 ghost use Rattle.ados_machine.specs.InUse.{EntriesStayInUse, IdleShellsUseNoEntry, OutputsStayOpen, StartsOpenOutputs};
 ghost use Rattle.ados_machine.specs.Kept.{EventsKeepAllCodes, FreshWorldsHaveAllCodes, LastCodesStay};
 ghost use Rattle.ados_machine.specs.Manual.{ElsesLeadPastTheirBlock, IfsLeadPastTheirBlock, SkipsLeadPastTheirLabel, WordsAreLookedUpInOrder};
@@ -21,21 +16,7 @@ ghost use Rattle.ados_machine.specs.Plain.{EnabledCommandsAreFound, EffectsAreRe
 ghost use Rattle.ados_machine.specs.Programs.{StartsAskForTheirProgram, StartsUseTheirEntry, FirstFaultsStay, PiecesArePrinted};
 ghost use Rattle.ados_machine.specs.Redirected.{OpenOutputsAreInUse};
 ghost use Rattle.ados_machine.specs.Reports.{ReportsTellLastRecords};
-ghost use Rattle.ados_machine.specs.Laws.{
-  ScriptsEndWhereTheRuleSays,
-  EventsKeepWorldsSane,
-  ReportsAreTheEnds,
-  EachFrameEndsOnce,
-  BreaksEndScripts,
-  BreaksKeepWhatComes,
-  FreshWorldsHaveNoChild,
-  TurnsKeepChildren,
-  AnswersMoveChildren,
-  RequestsAreOfChildren,
-  FittingAnswersAreAccepted,
-  AcceptedAnswersFit,
-  RequestsNameTheirShells,
-};
+ghost use Rattle.ados_machine.specs.Laws.{ScriptsEndWhereTheRuleSays, EventsKeepWorldsSane, ReportsAreTheEnds, EachFrameEndsOnce, BreaksEndScripts, BreaksKeepWhatComes, FreshWorldsHaveNoChild, TurnsKeepChildren, AnswersMoveChildren, RequestsAreOfChildren, FittingAnswersAreAccepted, AcceptedAnswersFit, RequestsNameTheirShells};
 ghost use Rattle.ados_machine.specs.Limits.{IsSane};
 ghost use Rattle.ados_machine.specs.Quiet.{QuietShellsAreInvisible};
 ghost use Rattle.ados_machine.specs.Starts.{FailedStartsChangeTheCodes, FailedStartsLeaveNothing};
