@@ -42,6 +42,7 @@ pub enum FilesCommand {
     MakeDir,
     Protect,
     Rename,
+    Search,
     Sort,
     Type,
 }
@@ -195,7 +196,7 @@ impl InternalCommand {
     }
 }
 
-/// The disk commands: each is a program file in C:. Sort is one in the dialect Full alone.
+/// The disk commands: each is a program file in C:. Search and Sort are two in the dialect Full alone.
 #[derive(Clone, Copy)]
 pub enum DiskCommand {
     Assign,
@@ -211,6 +212,7 @@ pub enum DiskCommand {
     MakeDir,
     Protect,
     Rename,
+    Search,
     Sort,
     Status,
     Type,
@@ -239,7 +241,7 @@ impl DiskCommand {
     ];
 
     /// All disk commands, which are those of Full, in the order of their names.
-    pub const ALL: [DiskCommand; 17] = [
+    pub const ALL: [DiskCommand; 18] = [
         DiskCommand::Assign,
         DiskCommand::Break,
         DiskCommand::Copy,
@@ -253,6 +255,7 @@ impl DiskCommand {
         DiskCommand::MakeDir,
         DiskCommand::Protect,
         DiskCommand::Rename,
+        DiskCommand::Search,
         DiskCommand::Sort,
         DiskCommand::Status,
         DiskCommand::Type,
@@ -287,6 +290,7 @@ impl DiskCommand {
             DiskCommand::MakeDir => "MakeDir",
             DiskCommand::Protect => "Protect",
             DiskCommand::Rename => "Rename",
+            DiskCommand::Search => "Search",
             DiskCommand::Sort => "Sort",
             DiskCommand::Status => "Status",
             DiskCommand::Type => "Type",
@@ -312,6 +316,7 @@ impl DiskCommand {
             DiskCommand::MakeDir => Builtin::Files(FilesCommand::MakeDir),
             DiskCommand::Protect => Builtin::Files(FilesCommand::Protect),
             DiskCommand::Rename => Builtin::Files(FilesCommand::Rename),
+            DiskCommand::Search => Builtin::Files(FilesCommand::Search),
             DiskCommand::Sort => Builtin::Files(FilesCommand::Sort),
             DiskCommand::Status => Builtin::Env(EnvCommand::Status),
             DiskCommand::Type => Builtin::Files(FilesCommand::Type),
