@@ -87,15 +87,16 @@ fn search_name(
     ensures { OnOk result (hits_of found.new ≡ search_name searching.now (full_path ram.now place.now) (hits_of found.old) (finite.get ram.now (key_of place.now))) }
 {
     let alloc = *found.output.allocator();
-    match ram.look(place) {
-        Some(entry) if searching.wanted.is_in(alloc, entry.name.text().as_bytes())? => {
-            found.output.extend_from_slice(ram.full_path(place)?.as_bytes())?;
-            found.output.push(b'\n')?;
-            found.any = true;
-            Ok(())
-        }
-        _ => Ok(()),
+    let Some(entry) = ram.look(place) else {
+        return Ok(());
+    };
+    if !searching.wanted.is_in(alloc, entry.name.text().as_bytes())? {
+        return Ok(());
     }
+    found.output.extend_from_slice(ram.full_path(place)?.as_bytes())?;
+    found.output.push(b'\n')?;
+    found.any = true;
+    Ok(())
 }
 
 fn search_bytes(
@@ -217,6 +218,7 @@ fn matches_line(alloc: Global, pattern: &Pattern, line: &[u8]) -> Result<bool, N
 }
 
 // Whether a text stands in a line, however long it is; case is ignored.
+#[tactic(auto, using(crate::proofs::HitLemmas::stands_next, crate::proofs::HitLemmas::stands_here, crate::proofs::HitLemmas::stands_end))]
 fn stands_anywhere(text: &[u8], line: &[u8]) -> bool
     ensures { result ≡ stands_in text.now line.now }
 {

@@ -94,7 +94,7 @@ fn rename_sources(
     match texts {
         [] => Err(Refusal::Stopped(Codes::failed(Result2::ARGUMENT_MISSING))),
         [text] => source_of(alloc, shared, directory, text),
-        [_, _, ..] => Ok(Sources::Several(sources_of(alloc, shared, directory, texts)?)),
+        _ => Ok(Sources::Several(sources_of(alloc, shared, directory, texts)?)),
     }
 }
 

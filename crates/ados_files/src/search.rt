@@ -1,13 +1,13 @@
 // Search: the lines of files in which a text stands.
-ghost use Rattle.std.specs.Prelude.{◌≡◌, IfOk};
+ghost use Rattle.std.specs.Prelude.{◌≡◌, map, IfOk};
 ghost use Rattle.ados_find.specs.Effects.{effect_of};
 ghost use Rattle.ados_find.specs.Paths.{Gives};
-ghost use Rattle.ados_files.specs.Search.{hits_effect, no_hits, search_row, search_sources, search_wanted, searched_places, searching_of, wanted_of};
+ghost use Rattle.ados_files.specs.Search.{hits_effect, no_hits, search_row, search_sources, search_wanted, searched_places, searching_of, source_place, wanted_of};
 ghost use Rattle.ados_files.specs.Hits.{hits_of, search_files};
 ghost use Rattle.ados_find.specs.Shared.{SharedState};
 
 use crate::hits::{self, Searching, Wanted, search_files};
-use crate::jobs::{all_jobs, sources_of};
+use crate::jobs::{Job, all_jobs, sources_of};
 use crate::names::{Found, only, pattern_of};
 use crate::options::{
     SEARCH_ALL, SEARCH_FILE, SEARCH_FROM, SEARCH_NONUM, SEARCH_PATTERN, SEARCH_QUIET, SEARCH_TEXT,
@@ -77,7 +77,7 @@ fn search_sources(
 {
     match texts {
         [] => Ok(Found::several(only(alloc, directory)?)),
-        [_, ..] => sources_of(alloc, shared, directory, texts),
+        _ => sources_of(alloc, shared, directory, texts),
     }
 }
 
@@ -90,11 +90,17 @@ fn searched_places(
 ) -> Result<Vec<Place>, NoMemory>
     ensures { IfOk result (λ files. files.items ≡ searched_places all ram.now places.now) }
 {
-    let mut files = Vec::new(alloc);
-    for job in all_jobs(alloc, all, ram, places)? {
-        files.push(job.source)?;
+    sources_in(alloc, &all_jobs(alloc, all, ram, places)?)
+}
+
+fn sources_in(alloc: Global, jobs: &[Job]) -> Result<Vec<Place>, NoMemory>
+    ensures { IfOk result (λ places. places.items ≡ map source_place jobs.now) }
+{
+    let mut places = Vec::new(alloc);
+    for job in jobs {
+        places.push(job.source.copy()?)?;
     }
-    Ok(files)
+    Ok(places)
 }
 
 fn searching_of(args: &Args, wanted: Wanted) -> Searching

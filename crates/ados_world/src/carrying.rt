@@ -21,9 +21,19 @@ pub fn moved_by(
 ) -> Result<Vec<Renamed>, NoMemory>
     ensures { IfOk result (λ moved. moved.items ≡ moved_objects old.now (version old.now (option_copied new.entry)) (renames_in (option_copied renamed.entry))) }
 {
-    match (new, renamed) {
-        (Some(new), Some(renamed)) => moved_of(alloc, old, new, renamed.as_slice()),
-        _ => Ok(Vec::new(alloc)),
+    match renamed {
+        None => Ok(Vec::new(alloc)),
+        Some(renamed) => moved_of(alloc, old, version(old, new), renamed.as_slice()),
+    }
+}
+
+// The shared state after the turn.
+fn version<'a>(old: &'a Shared, new: Option<&'a Shared>) -> &'a Shared
+    ensures { result.now ≡ version old.now (option_copied new.entry) }
+{
+    match new {
+        None => old,
+        Some(new) => new,
     }
 }
 

@@ -97,7 +97,7 @@ pub fn change_shell(
 {
     match moved {
         [] => shells.commit(number, draft),
-        [_, ..] => carry_in(shells, number, draft, moved),
+        _ => carry_in(shells, number, draft, moved),
     }
 }
 
