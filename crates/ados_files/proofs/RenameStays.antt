@@ -12,12 +12,12 @@ use Rattle.ados_ram.specs.Place.{Place, Key, key_of, last_name, is_same_key, is_
 use Rattle.ados_ram.specs.Entry.{is_directory}
 use Rattle.ados_ram.specs.InUse.{InUse}
 use Rattle.ados_ram.specs.Files.{Files, OthersStay, is_some_directory}
-use Rattle.ados_ram.specs.FileOperations.{rename_fault}
+use Rattle.ados_ram.specs.FileOperations.{rename_fault, rename_of}
 use Rattle.ados_ram.proofs.StayLemmas.{neither, none-below, rename-stays}
 use Rattle.ados_find.specs.declared.codes.Codes.{Codes}
 use Rattle.ados_find.specs.declared.outcomes.Renamed.{Renamed}
 use Rattle.ados_find.specs.Codes.{error_codes}
-use Rattle.ados_find.specs.Shared.{SharedState, after_rename}
+use Rattle.ados_find.specs.Shared.{SharedState}
 use Rattle.ados_find.specs.Views.{View}
 use Rattle.ados_find.specs.Effects.{codes_effect, if_found, if_given, unless_refused}
 use Rattle.ados_find.specs.Paths.{place_of}
@@ -27,7 +27,7 @@ use Rattle.ados_files.specs.declared.rename.Sources.TheVariants.{Alone, Several}
 use Rattle.ados_files.specs.Gather.{Gathered, gather_each, gather_moves, gather_one, gather_there, move_into, moves_into, nothing_gathered, stop_gathering, unless_gathering_stopped}
 use Rattle.ados_files.specs.Rename.{destination, rename_by_texts, rename_effect, rename_entry, rename_row, rename_sources, rename_to, rename_to_text}
 use Rattle.ados_files.specs.MayChange.{is_under, is_under_any, is_under_path, is_under_sources, rename_may_change}
-use Rattle.ados_files.proofs.Stays.{Stay}
+use Rattle.ados_files.proofs.Stays.{Stay, stay-kept}
 
 abbrev Both : Place → Place → Key → Bool
 Both from to key = is_at_or_below (key_of from) key || is_at_or_below (key_of to) key
@@ -64,54 +64,59 @@ record IsMove (places : List Place) (to : Place) (move : Renamed) : Type 0 where
   from : (key : Key) → is_under_any places key ≡ false → is_at_or_below (key_of move.from) key ≡ false
   into : (key : Key) → is_at_or_below (key_of to) key ≡ false → is_at_or_below (key_of move.to) key ≡ false
 
-moved-stays : (busy : InUse) (places : List Place) (to : Place) (gathered : Gathered) (move : Renamed) → IsMove places to move →
+after-fault : (may_change : Key → Bool) (fault : Option Result2) (gathered next : Gathered) → Stay may_change gathered.done.shared next.done.shared →
+    Stay may_change gathered.done.shared (unless_refused (stop_gathering gathered) fault next).done.shared
+after-fault may_change None gathered next h = h
+after-fault may_change (Some fault) gathered next h = λ key out. refl
+
+after-stop : (may_change : Key → Bool) (stopped : Option Codes) (gathered next : Gathered) → Stay may_change gathered.done.shared next.done.shared →
+    Stay may_change gathered.done.shared (unless_gathering_stopped stopped gathered next).done.shared
+after-stop may_change None gathered next h = h
+after-stop may_change (Some codes) gathered next h = λ key out. refl
+
+move-stays : (places : List Place) (to : Place) (files : Files) (move : Renamed) → IsMove places to move →
+    OthersStay (These places to) files (rename_of files (key_of move.from) (key_of move.to) (last_name move.to))
+move-stays places to files move is key out =
+    let apart = neither (is_under_any places key) (is_at_or_below (key_of to) key) out in
+    rename-stays files (key_of move.from) (key_of move.to) (last_name move.to) key
+    (or-neither (is_at_or_below (key_of move.from) key) (is_at_or_below (key_of move.to) key) (is.from key apart.0) (is.into key apart.1))
+
+one-stays : (busy : InUse) (places : List Place) (to : Place) (gathered : Gathered) (move : Renamed) → IsMove places to move →
     Stay (These places to) gathered.done.shared (gather_one busy gathered move).done.shared
-moved-stays busy places to gathered move is =
-    by (rename_fault busy gathered.done.shared.files (key_of move.from) (key_of move.to))
-  where
-    next : Gathered
-    next = record {
-      done = record gathered.done { shared = after_rename gathered.done.shared move.from move.to };
-      moves = gathered.moves ++ move ∷ [];
-    }
-    by : (fault : Option Result2) → Stay (These places to) gathered.done.shared (unless_refused (stop_gathering gathered) fault next).done.shared
-    by None key out =
-        let apart = neither (is_under_any places key) (is_at_or_below (key_of to) key) out in
-        rename-stays gathered.done.shared.files (key_of move.from) (key_of move.to) (last_name move.to) key
-        (or-neither (is_at_or_below (key_of move.from) key) (is_at_or_below (key_of move.to) key) (is.from key apart.0) (is.into key apart.1))
-    by (Some fault) key out = refl
+one-stays busy places to gathered move is =
+    after-fault (These places to) (rename_fault busy gathered.done.shared.files (key_of move.from) (key_of move.to)) gathered _
+    (move-stays places to gathered.done.shared.files move is)
 
 all-stay : (busy : InUse) (places : List Place) (to : Place) (gathered : Gathered) (moves : List Renamed) → AllByRecursion (IsMove places to) moves →
     Stay (These places to) gathered.done.shared (gather_each busy gathered moves).done.shared
-all-stay busy places to gathered [] all key out = refl
-all-stay busy places to gathered (move ∷ moves) all = by gathered.done.stopped
-  where
-    by : (stopped : Option Codes) →
-        Stay (These places to) gathered.done.shared (unless_gathering_stopped stopped gathered (gather_each busy (gather_one busy gathered move) moves)).done.shared
-    by None key out =
-        all-stay busy places to (gather_one busy gathered move) moves all.1 key out ∙ moved-stays busy places to gathered move all.0 key out
-    by (Some codes) key out = refl
+all-stay busy places to gathered [] all = λ key out. refl
+all-stay busy places to gathered (move ∷ moves) all =
+    let next = gather_one busy gathered move in
+    after-stop (These places to) gathered.done.stopped gathered (gather_each busy next moves)
+    ((stay-kept (These places to)).joined gathered.done.shared next.done.shared (gather_each busy next moves).done.shared
+    (one-stays busy places to gathered move all.0) (all-stay busy places to next moves all.1))
 
 -- each move that is planned is one of these
-planned : (files : Files) (to : Place) (places more : List Place) →
+one-planned : (places : List Place) (to place : Place) (there : Option Entry) (moves : List Renamed) →
+    ((key : Key) → is_under_any places key ≡ false → is_at_or_below (key_of place) key ≡ false) → AllByRecursion (IsMove places to) moves →
+    AllByRecursion (IsMove places to) (move_into to place there ++ moves)
+one-planned places to place None moves apart all = all
+one-planned places to place (Some e) moves apart all = (record { from = apart; into = λ key out. none-below to (e.name ∷ []) key out }, all)
+
+all-planned : (files : Files) (to : Place) (places more : List Place) →
     ((key : Key) → is_under_any places key ≡ false → is_under_any more key ≡ false) → AllByRecursion (IsMove places to) (moves_into files to more)
-planned files to places [] among = tt
-planned files to places (place ∷ more) among = put (map.get files (key_of place))
-  where
-    apart : (key : Key) → is_under_any places key ≡ false → (is_at_or_below (key_of place) key ≡ false) × (is_under_any more key ≡ false)
-    apart key out = neither (is_at_or_below (key_of place) key) (is_under_any more key) (among key out)
-    rest : AllByRecursion (IsMove places to) (moves_into files to more)
-    rest = planned files to places more (λ key out. (apart key out).1)
-    put : (there : Option Entry) → AllByRecursion (IsMove places to) (move_into to place there ++ moves_into files to more)
-    put None = rest
-    put (Some e) = (record { from = λ key out. (apart key out).0; into = λ key out. none-below to (e.name ∷ []) key out }, rest)
+all-planned files to places [] among = tt
+all-planned files to places (place ∷ more) among =
+    one-planned places to place (map.get files (key_of place)) (moves_into files to more)
+    (λ key out. (neither (is_at_or_below (key_of place) key) (is_under_any more key) (among key out)).0)
+    (all-planned files to places more (λ key out. (neither (is_at_or_below (key_of place) key) (is_under_any more key) (among key out)).1))
 
 gather-stays : (shared : SharedState) (view : View) (places : List Place) (to : Place) (there : Option Entry) →
     OthersStay (These places to) shared.files (gather_there shared view places to there).shared.files
 gather-stays shared view places to None key out = refl
 gather-stays shared view places to (Some e) =
     elim (is_directory e) as (λ b. OthersStay (These places to) shared.files (cond b (gather_moves shared view (moves_into shared.files to places)) (codes_effect shared (error_codes WRONG_TYPE))).shared.files) [
-      | true ↦ all-stay view.busy places to (nothing_gathered shared) (moves_into shared.files to places) (planned shared.files to places places (λ key out. out))
+      | true ↦ all-stay view.busy places to (nothing_gathered shared) (moves_into shared.files to places) (all-planned shared.files to places places (λ key out. out))
       | false ↦ λ key out. refl
     ]
 
