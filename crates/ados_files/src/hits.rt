@@ -93,7 +93,9 @@ fn search_name(
     if !searching.wanted.is_in(alloc, entry.name.text().as_bytes())? {
         return Ok(());
     }
-    found.output.extend_from_slice(ram.full_path(place)?.as_bytes())?;
+    found
+        .output
+        .extend_from_slice(ram.full_path(place)?.as_bytes())?;
     found.output.push(b'\n')?;
     found.any = true;
     Ok(())
@@ -111,19 +113,20 @@ fn search_bytes(
     match shared.ram.read(&view.busy, place) {
         Err(fault) => say_unread(found, &shared.ram, place, fault),
         Ok(bytes) => {
-            say_path(searching.quiet, &mut found.output, &shared.ram, place, b"..\n")?;
+            say_path(
+                searching.quiet,
+                &mut found.output,
+                &shared.ram,
+                place,
+                b"..\n",
+            )?;
             search_text(searching, found, bytes)
         }
     }
 }
 
 // A file that cannot be read is reported.
-fn say_unread(
-    found: &mut Found,
-    ram: &Ram,
-    place: &Place,
-    fault: Result2,
-) -> Result<(), NoMemory>
+fn say_unread(found: &mut Found, ram: &Ram, place: &Place, fault: Result2) -> Result<(), NoMemory>
     ensures { OnOk result (hits_of found.new ≡ record (hits_of found.old) { output = found.old.output.items ++ unread_line (full_path ram.now place.now) fault }) }
 {
     let path = ram.full_path(place)?;
@@ -138,11 +141,7 @@ fn say_unread(
 }
 
 // Looks in the lines of a file.
-fn search_text(
-    searching: &Searching,
-    found: &mut Found,
-    bytes: &FileBytes,
-) -> Result<(), NoMemory>
+fn search_text(searching: &Searching, found: &mut Found, bytes: &FileBytes) -> Result<(), NoMemory>
     ensures { OnOk result (hits_of found.new ≡ search_lines searching.now 1 (hits_of found.old) (plain_lines bytes.now)) }
 {
     let alloc = *found.output.allocator();
@@ -151,11 +150,7 @@ fn search_text(
     search_lines(searching, found, lines.as_slice())
 }
 
-fn search_lines(
-    searching: &Searching,
-    found: &mut Found,
-    lines: &[Octets],
-) -> Result<(), NoMemory>
+fn search_lines(searching: &Searching, found: &mut Found, lines: &[Octets]) -> Result<(), NoMemory>
     ensures { OnOk result (hits_of found.new ≡ search_lines searching.now 1 (hits_of found.old) lines.now) }
 {
     let alloc = *found.output.allocator();
@@ -169,12 +164,7 @@ fn search_lines(
     Ok(())
 }
 
-fn push_hit(
-    found: &mut Found,
-    numbered: bool,
-    number: usize,
-    line: &[u8],
-) -> Result<(), NoMemory>
+fn push_hit(found: &mut Found, numbered: bool, number: usize, line: &[u8]) -> Result<(), NoMemory>
     ensures { OnOk result (hits_of found.new ≡ with_hit (hit_line numbered number line.now) (hits_of found.old)) }
 {
     push_line_start(&mut found.output, numbered, number)?;
