@@ -1,5 +1,5 @@
 -- What a break sets, and when it is used up.
-use Rattle.std.proofs.Common.{[], ◌∷◌, ◌≡◌, ◌≢◌, ◌∙◌, sym, ℕ, Bool, true, false, ◌||◌, Option, Some, None, refl, ap, inl, inr}
+use Rattle.std.proofs.Common.{[], ◌∷◌, ◌≡◌, ◌≢◌, ◌∙◌, sym, ℕ, Bool, true, false, ◌||◌, Option, Some, None, refl, ap, inl, inr, List}
 use Rattle.std.proofs.lemmas.Bool.{cases_Bool, eq-eqb, ne_eqb}
 use Rattle.ados_text.specs.Text.{Bytes}
 use Rattle.ados_ram.specs.Files.{Files}

@@ -160,7 +160,7 @@ answer-printed : (word : Text) (answered : Codes) (course : Course) (frames : Li
     (further : Bytes) × ((turn_of_completion (Answers word answered false course) frames).course.printed ≡ bytes ++ further)
 answer-printed word answered course frames bytes is =
     let after : RuleState = record (rule_state_of course) { printed = [] } in
-    let same : front bytes None after ≡ rule_state_of course = rw (append-nil bytes, is) refl in (
+    let same : front bytes [] after ≡ rule_state_of course = rw (append-nil bytes, is) refl in (
       (code_rule_of (Answers word answered false course) frames after).rule_state.printed,
       ap (λ s. (code_rule_of (Answers word answered false course) frames s).rule_state.printed) (sym same)
           ∙ ap (λ r. r.rule_state.printed) (ruled-front bytes None (Answers word answered false course) frames after),

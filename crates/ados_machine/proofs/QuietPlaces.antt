@@ -58,7 +58,7 @@ there-or-not (Some x) = refl
 
 pub still : (old new : SharedState) (renamed : List Renamed) → new ≡ old → moved_objects old new renamed ≡ []
 still old new [] e = refl
-still old new (renamed ∷ more) e = rw (e, there-or-not (finite.get old.files (key_of renamed.from))) (still old old more refl)
+still old new (renamed ∷ more) e = rw (e, there-or-not (finite.get old.files (key_of renamed.from))) (still old new more e)
 
 apart : (xs : List (Option ShellState)) (n j : ℕ) (shell : ShellState) → found xs n ≡ None → found xs j ≡ Some shell → n ≢ j
 apart xs n j shell none is = λ e. cc
