@@ -163,7 +163,7 @@ answer-printed word answered course frames bytes is =
     let same : front bytes [] after ≡ rule_state_of course = rw (append-nil bytes, is) refl in (
       (code_rule_of (Answers word answered false course) frames after).rule_state.printed,
       ap (λ s. (code_rule_of (Answers word answered false course) frames s).rule_state.printed) (sym same)
-          ∙ ap (λ r. r.rule_state.printed) (ruled-front bytes None (Answers word answered false course) frames after),
+          ∙ ap (λ r. r.rule_state.printed) (ruled-front bytes [] (Answers word answered false course) frames after),
     )
 
 pub effects-printed : EffectsArePrinted
