@@ -2,7 +2,7 @@
 complete -c amishell-execute -l core -d 'Leaves out the further options of Release 2 that commands have without it, as CLONE of Copy and LFORMAT of List, and a ? at the end of a line, which asks for its last word'
 complete -c amishell-execute -l hosts -r -F -d 'A file of the programs of the host that are commands, a line for each'
 complete -c amishell-execute -l host -x -d 'One more command that is a program of the host'
-complete -c amishell-execute -l common -d 'Adds stand-ins for commands of Release 2 that the Shell leaves out, as Date, Wait and Search'
+complete -c amishell-execute -l common -d 'Adds stand-ins for commands of Release 2 that the Shell leaves out, as Date, Wait and More'
 complete -c amishell-execute -l bring -r -F -d 'Brings a file or a folder of this machine into the files'
 complete -c amishell-execute -l take -x -d 'Writes a file or a directory of the files out at the end'
 complete -c amishell-execute -l type -x -d 'A line that is typed before the script'

@@ -10,3 +10,4 @@ mod ShapeLemmas
 mod DumpLemmas
 mod LineLemmas
 mod OrderLemmas
+pub mod HitLemmas

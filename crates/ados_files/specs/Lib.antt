@@ -16,11 +16,14 @@ pub mod Shapes
 pub mod Spellings
 pub mod Listing
 pub mod Dir
+pub mod Gather
 pub mod Rename
 pub mod MayChange
 pub mod Join
 pub mod Jobs
 pub mod Copy
+pub mod Hits
+pub mod Search
 pub mod SortOrder
 pub mod Sort
 pub mod Rows

@@ -11,7 +11,7 @@ ghost use Rattle.ados_files.specs.MayChange.{copy_may_change, delete_may_change,
 
 /// Copy, Delete and Rename leave other places unchanged, each with its entry: Copy all that are not TO or below it;
 /// Delete all that are not at or below an object that one of its arguments names when that argument's turn comes; Rename
-/// all that are not FROM or TO, or below one of them.
+/// all that are neither what FROM names nor TO, nor below one of them.
 pub fn others_stay()
     ensures copy { (shared : SharedState) (view : View) (args : List Arg) → OthersStay (copy_may_change shared view args) shared.files (copy_row shared view args).shared.files }
     ensures delete { (shared : SharedState) (view : View) (args : List Arg) → OthersStay (delete_may_change shared view args) shared.files (delete_row shared view args).shared.files }

@@ -1,5 +1,5 @@
 #![tactic(auto)]
-//! The commands on files: MakeDir, Delete, Rename, Copy, Type, Join, List, Dir, Protect, Filenote and Sort.
+//! The commands on files: MakeDir, Delete, Rename, Copy, Type, Join, List, Dir, Protect, Filenote, Search and Sort.
 
 mod acts;
 mod bases;
@@ -13,6 +13,8 @@ mod dir_lines;
 mod dumps;
 mod filenote;
 mod formats;
+mod gather;
+mod hits;
 mod jobs;
 mod join;
 mod laws;
@@ -24,6 +26,7 @@ mod options;
 mod protect;
 mod rename;
 mod rows;
+mod search;
 mod shapes;
 mod sort;
 mod sort_order;

@@ -159,7 +159,8 @@ fn stands_in(part: &[u8], text: &[u8]) -> bool
     }
 }
 
-fn begins_with(part: &[u8], text: &[u8]) -> bool
+/// Whether a text begins with another; case is ignored.
+pub fn begins_with(part: &[u8], text: &[u8]) -> bool
     ensures { result ≡ begins_with part.now text.now }
 {
     same_name(part, text.get(..part.len()).unwrap_or(text))

@@ -21,6 +21,7 @@ use Rattle.ados_find.specs.declared.search.Found.TheVariants as found
 use Rattle.ados_find.specs.declared.targets.Target.TheVariants.{Nil, At}
 use Rattle.ados_find.specs.Changes.{parts_after_command}
 use Rattle.ados_find.specs.Effects.{Effect, change_effect}
+use Rattle.ados_find.specs.Renames.{renames_of}
 use Rattle.ados_find.specs.Parts.{Parts}
 use Rattle.ados_flow.specs.Actions as flow
 use Rattle.ados_flow.specs.declared.kinds.FrameKind.TheVariants.{Tick}
@@ -159,10 +160,10 @@ answer-printed : (word : Text) (answered : Codes) (course : Course) (frames : Li
     (further : Bytes) × ((turn_of_completion (Answers word answered false course) frames).course.printed ≡ bytes ++ further)
 answer-printed word answered course frames bytes is =
     let after : RuleState = record (rule_state_of course) { printed = [] } in
-    let same : front bytes None after ≡ rule_state_of course = rw (append-nil bytes, is) refl in (
+    let same : front bytes [] after ≡ rule_state_of course = rw (append-nil bytes, is) refl in (
       (code_rule_of (Answers word answered false course) frames after).rule_state.printed,
       ap (λ s. (code_rule_of (Answers word answered false course) frames s).rule_state.printed) (sym same)
-          ∙ ap (λ r. r.rule_state.printed) (ruled-front bytes None (Answers word answered false course) frames after),
+          ∙ ap (λ r. r.rule_state.printed) (ruled-front bytes [] (Answers word answered false course) frames after),
     )
 
 pub effects-printed : EffectsArePrinted
@@ -193,16 +194,16 @@ fail-at-sets w k shell line args n takes filled is =
     (record { builtin = Env env.FailAt; command = takes; does = limit-set w shell line args n filled is }) (inl refl)
 
 -- what a turn leaves of its shell
-left-phase : (k : ℕ) (moved : Option Renamed) (t : TurnResult) (now : ShellState) → shell_after_turn k moved t ≡ Some now → now.phase ≡ t.phase
+left-phase : (k : ℕ) (moved : List Renamed) (t : TurnResult) (now : ShellState) → shell_after_turn k moved t ≡ Some now → now.phase ≡ t.phase
 left-phase k moved t now is =
     elim (cases_Bool (is_done k t.frames)) [
       | inl d ↦ (let none = rw d at is in cc)
       | inr d ↦ (let some : Some (carried_or_same moved (shell_of_turn t)) ≡ Some now = rw d at is in carried-phase moved (shell_of_turn t) now some)
     ]
   where
-    carried-phase : (moved : Option Renamed) (shell now : ShellState) → Some (carried_or_same moved shell) ≡ Some now → now.phase ≡ shell.phase
-    carried-phase None shell now e = cc
-    carried-phase (Some renamed) shell now e = cc
+    carried-phase : (moved : List Renamed) (shell now : ShellState) → Some (carried_or_same moved shell) ≡ Some now → now.phase ≡ shell.phase
+    carried-phase [] shell now e = cc
+    carried-phase (renamed ∷ more) shell now e = cc
 
 -- the end of a command substitution
 tick-ends : (word : Text) (answered : Codes) (before after : Text) (frame : FrameState) (frames : List FrameState) (rule_state : RuleState) (output : Bytes) (kept : List Bytes) →
@@ -249,7 +250,7 @@ put-renamed (To (At place)) (byte ∷ bytes) answered course =
 abbrev directory_of : Option ShellState → Option Place
 directory_of o = option_map (λ shell. shell.parts.directory) o
 
-others-directory : (shells : List (Option ShellState)) (k : ℕ) (shell : ShellState) (moved : Option Renamed) (t : TurnResult) (j : ℕ) (other : ShellState) →
+others-directory : (shells : List (Option ShellState)) (k : ℕ) (shell : ShellState) (moved : List Renamed) (t : TurnResult) (j : ℕ) (other : ShellState) →
     found shells k ≡ Some shell → j ≢ k → found shells j ≡ Some other →
     directory_of (found (shells_after shells k moved t) j) ≡ Some (carried_or_same moved other).parts.directory
 others-directory shells k shell moved t j other is differ there =
@@ -275,8 +276,8 @@ directories-carried w k shell line effect renamed world out items j place takes 
     let same : turn_taken w k turn.queue t ≡ Accepted world out items = sym turn.does ∙ accepted in
     let shells : world.shells ≡ shells_after w.shells k (moved_at_turn w t) t = cc in
     let shared : world.shared ≡ shared_after_event t.course = cc in
-    let is_renamed : t.course.renamed ≡ Some renamed = put-renamed (newest_sink (frames_at shell)) effect.output effect.codes course ∙ is in
-    let is_moved : moved_at_turn w t ≡ Some renamed = rw (is_renamed, sym shared, gone.was, gone.gone) refl in
+    let is_renamed : t.course.renamed ≡ renamed ∷ [] = put-renamed (newest_sink (frames_at shell)) effect.output effect.codes course ∙ ap (λ r. renames_of r effect.gathered) is in
+    let is_moved : moved_at_turn w t ≡ renamed ∷ [] = rw (is_renamed, sym shared, gone.was, gone.gone) refl in
     let other = runs-there (numbered_shell w j) place there in
     ap (λ s. directory_of (found s j)) shells
     ∙ (others-directory w.shells k shell (moved_at_turn w t) t j other.0 takes.command.takes.runs differ other.1

@@ -38,6 +38,7 @@ pub enum FilesCommand {
     MakeDir,
     Protect,
     Rename,
+    Search,
     Sort,
     Type,
 }

@@ -24,7 +24,7 @@ syntax match amigascriptRedirection '\(^\|\s\)\zs[<>]\{1,2}\ze\S'
 syntax match amigascriptDevice '\(^\|\s\|["=>]\)\zs[A-Za-z0-9_.-]\+:'
 syntax keyword amigascriptFlow Ask Else EndIf EndSkip Execute FailAt If Lab Quit Run Skip
 syntax keyword amigascriptCommand Alias Assign Break CD Copy Delete Dir Echo Eval Fault Filenote Get GetEnv Join List MakeDir Path
-syntax keyword amigascriptCommand Protect Rename Resident Set SetEnv Sort Status Type Unalias Unset UnsetEnv Which Why
+syntax keyword amigascriptCommand Protect Rename Resident Search Set SetEnv Sort Status Type Unalias Unset UnsetEnv Which Why
 syntax keyword amigascriptCondition NOT WARN ERROR FAIL EQ GT GE VAL EXISTS
 
 highlight default link amigascriptFirst PreProc
