@@ -6,13 +6,13 @@ ghost use Rattle.ados_ram.specs.Place.{key_of};
 ghost use Rattle.ados_ram.specs.Written.{full_path};
 ghost use Rattle.ados_files.specs.Shapes.{stands_in};
 
-use crate::lines::{put_between, say_path, without};
+use crate::lines::{put_between, say_path};
 use crate::shapes::begins_with;
 use crate::sort_order::plain_lines;
 use ados_find::{Shared, ShellView};
 use ados_pattern::Pattern;
 use ados_ram::{Entry, FileBytes, Place, Ram};
-use ados_text::{LINE_BYTES, NoMemory, Octets, Result2, Text, fault_text, push_right};
+use ados_text::{LINE_BYTES, NoMemory, Octets, Result2, Text, fault_text, push_right, without};
 use std::alloc::Global;
 
 /// What Search looks for.
