@@ -26,7 +26,7 @@ true
 TOLD = re.compile(rb"both changed|cannot |is not written|not written, since|left alone|kept, since|kept as|nothing is written")
 NOT_SHARED = re.compile(rb"taken twice|files and folders, left alone from")
 # The folder, or the script beside what fills the Shell, is not there or too large.
-NOT_RUN = re.compile(rb"not a folder|does not fit|more than \d+ bytes in all, with script")
+NOT_RUN = re.compile(rb"not a folder|cannot read f\n|does not fit|more than \d+ bytes in all, with script")
 NOT_STARTED = re.compile(rb"^show: ", re.M)
 UNWRITTEN = re.compile(rb"both changed|cannot |not written|nothing is written")
 
