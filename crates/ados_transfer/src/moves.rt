@@ -1,11 +1,12 @@
 //! Where files of the folder went in the Shell's files: each Rename is followed, so that a file that was moved out of the directory is
 //! known there, whatever its bytes are by then.
-ghost use Rattle.std.specs.Prelude.{◌≡◌, IfOk, OnOk};
+ghost use Rattle.std.specs.Prelude.{◌≡◌, IfOk, None, OnOk};
 ghost use Rattle.std.specs.Option.{option_copied};
 ghost use Rattle.std.specs.BTreeMap.{get_by_text};
 ghost use Rattle.std.specs.FinMap as map;
 ghost use Rattle.ados_ram.specs.Place.{key_of};
 ghost use Rattle.ados_transfer.specs.Moves.{destination_after, is_deleted, is_file};
+ghost use Rattle.ados_transfer.specs.Records.{Sets};
 
 use crate::faults::TransferFault;
 use crate::mirror::Mirror;
@@ -58,7 +59,10 @@ impl Moves {
     }
 
     /// Where the file of this key went, which is followed no longer.
-    pub fn take(&mut self, key: &str) -> Option<Destination> {
+    pub fn take(&mut self, key: &str) -> Option<Destination>
+        ensures value { result ≡ get_by_text self.old.by_key key.now }
+        ensures taken { Sets self.old.by_key self.new.by_key key.now None }
+    {
         self.by_key.remove(key)
     }
 
