@@ -1,8 +1,8 @@
 //! Where files of the folder went in the Shell's files: each Rename is followed, so that a file that was moved out of the directory is
 //! known there, whatever its bytes are by then.
-ghost use Rattle.std.specs.Prelude.{◌≡◌, IfOk, None, OnOk};
+ghost use Rattle.std.specs.Prelude.{◌≡◌, IfOk, None, OnErr, OnOk, Some, string_bytes};
 ghost use Rattle.std.specs.Option.{option_copied};
-ghost use Rattle.std.specs.BTreeMap.{get_by_text};
+ghost use Rattle.std.specs.BTreeMap.{IsUnchanged, get_by_text};
 ghost use Rattle.std.specs.FinMap as map;
 ghost use Rattle.ados_ram.specs.Place.{key_of};
 ghost use Rattle.ados_transfer.specs.Moves.{destination_after, is_deleted, is_file};
@@ -66,8 +66,11 @@ impl Moves {
         self.by_key.remove(key)
     }
 
-    /// The file of this key went there.
-    pub fn add(&mut self, key: String, destination: Destination) -> Result<(), TransferFault> {
+    /// The file of this key went there. If there was no memory, nothing changed.
+    pub fn add(&mut self, key: String, destination: Destination) -> Result<(), TransferFault>
+        ensures added { OnOk result (Sets self.old.by_key self.new.by_key (string_bytes key) (Some destination)) }
+        ensures unchanged { OnErr result (IsUnchanged self.old.by_key self.new.by_key) }
+    {
         self.by_key.insert(key, destination)?;
         Ok(())
     }
