@@ -1,4 +1,5 @@
 mod Driving
+mod GivenLemmas
 mod OptionLineLemmas
 mod Pairs
 mod Ran

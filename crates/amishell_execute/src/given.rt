@@ -1,8 +1,9 @@
 //! What the command line and a file of options give together.
-ghost use Rattle.std.specs.Prelude.{◌≡◌, ◌++◌, IfOk, map};
+ghost use Rattle.std.specs.Prelude.{◌≡◌, ◌++◌, ◌&&◌, ◌||◌, Bool, IfOk, codes, map, not};
 ghost use Rattle.std.specs.Option.{option_map, option_or};
 ghost use Rattle.clap.specs.Matches.{first_value, found_of};
-ghost use Rattle.amishell_execute.specs.Given.{values_of};
+ghost use Rattle.amishell_execute.specs.Given.{SaysFlag, host_name, hosts_of, shares_of, values_of};
+ghost use Rattle.ados_text.specs.Text.{is_same};
 
 use ados_text::same_name;
 use clap::ArgMatches;
@@ -19,7 +20,9 @@ pub struct Given<'a> {
 
 impl<'a> Given<'a> {
     /// Whether an option without a value is given.
-    pub fn get_flag(&self, name: &str) -> bool {
+    pub fn get_flag(&self, name: &str) -> bool
+        ensures { (typed : Bool) (file : Bool) → SaysFlag (found_of self.now.typed) name.now typed → SaysFlag (found_of self.now.file) name.now file → result ≡ (typed || file) }
+    {
         self.typed.get_flag(name) || self.file.get_flag(name)
     }
 
@@ -43,7 +46,9 @@ impl<'a> Given<'a> {
     }
 
     /// The commands of `--host`. One of the file gives way to one of that name of the command line.
-    pub fn hosts(&self, alloc: Global) -> Result<Vec<&'a str>, AllocError> {
+    pub fn hosts(&self, alloc: Global) -> Result<Vec<&'a str>, AllocError>
+        ensures { IfOk result (λ hosts. map (λ words. words.now) hosts.items ≡ hosts_of (values_of (found_of self.now.file) (codes "host")) (values_of (found_of self.now.typed) (codes "host"))) }
+    {
         let typed = self.typed.get_strs("host").unwrap_or(&[]);
         let mut hosts = Vec::new(alloc);
         for words in self.file.get_strs("host").unwrap_or(&[]) {
@@ -56,7 +61,9 @@ impl<'a> Given<'a> {
     }
 
     /// The words of `--share`: those of the command line, if it has any. Whoever names a folder there wants no other one changed.
-    pub fn shares(&self) -> &[&'a str] {
+    pub fn shares(&self) -> &[&'a str]
+        ensures { map (λ words. words.now) result.now ≡ shares_of (found_of self.now.typed) (found_of self.now.file) }
+    {
         match self.typed.get_strs("share") {
             Some(words) => words,
             None => self.file.get_strs("share").unwrap_or(&[]),
@@ -64,19 +71,25 @@ impl<'a> Given<'a> {
     }
 
     /// Whether lines that must not be run as they are run all the same: `--strict` of the command line undoes `--lenient` of the file.
-    pub fn is_lenient(&self) -> bool {
+    pub fn is_lenient(&self) -> bool
+        ensures { (typed : Bool) (file : Bool) (strict : Bool) → SaysFlag (found_of self.now.typed) (codes "lenient") typed → SaysFlag (found_of self.now.file) (codes "lenient") file → SaysFlag (found_of self.now.typed) (codes "strict") strict → result ≡ (typed || (file && not strict)) }
+    {
         self.typed.get_flag("lenient")
             || self.file.get_flag("lenient") && !self.typed.get_flag("strict")
     }
 }
 
 // Words of `--host` are of the same command.
-fn are_of_one_name(words: &str, other: &str) -> bool {
+fn are_of_one_name(words: &str, other: &str) -> bool
+    ensures { result ≡ is_same (host_name words.now) (host_name other.now) }
+{
     same_name(host_name(words).as_bytes(), host_name(other).as_bytes())
 }
 
 // The command's name in words of `--host`.
-fn host_name(words: &str) -> &str {
+fn host_name(words: &str) -> &str
+    ensures { result.now ≡ host_name words.now }
+{
     match words.split_once('=') {
         Some((name, _)) => name,
         None => words,
