@@ -5,3 +5,4 @@ pub mod OptionLines
 pub mod Playing
 pub mod Prompting
 pub mod Status
+pub mod Numbers

@@ -1,6 +1,8 @@
 //! The options whose values are numbers.
-ghost use Rattle.std.specs.Prelude.{◌≡◌, ◌≤◌, IfSome};
+ghost use Rattle.std.specs.Prelude.{◌≡◌, IfOk, IfSome, codes};
 ghost use Rattle.std.specs.Option.{option_or};
+ghost use Rattle.clap.specs.Matches.{found_of};
+ghost use Rattle.amishell_execute.specs.Numbers.{GivesNumber, Writes};
 
 use crate::mistakes::bad_line;
 use crate::request::Refused;
@@ -24,7 +26,11 @@ pub struct Numbers {
 
 impl Numbers {
     /// Those that are given. `BadLine` if one is not in its range.
-    pub fn of(alloc: Global, matches: &ArgMatches<'_>) -> Result<Numbers, Refused> {
+    pub fn of(alloc: Global, matches: &ArgMatches<'_>) -> Result<Numbers, Refused>
+        ensures turns { IfOk result (λ numbers. GivesNumber (found_of matches.now) (codes "turns") 1000000000 numbers.turns) }
+        ensures seconds { IfOk result (λ numbers. GivesNumber (found_of matches.now) (codes "seconds") 1000000000 numbers.seconds) }
+        ensures least { IfOk result (λ numbers. GivesNumber (found_of matches.now) (codes "ok-below") 255 numbers.least) }
+    {
         Ok(Numbers {
             turns: given(alloc, matches, "turns", MOST)?,
             seconds: given(alloc, matches, "seconds", MOST)?,
@@ -53,7 +59,9 @@ fn given(
     matches: &ArgMatches<'_>,
     name: &str,
     most: u64,
-) -> Result<Option<u64>, Refused> {
+) -> Result<Option<u64>, Refused>
+    ensures { IfOk result (λ number. GivesNumber (found_of matches.now) name.now most number) }
+{
     let Some(word) = matches.get_str(name) else {
         return Ok(None);
     };
@@ -65,7 +73,7 @@ fn given(
 
 // The number that a word writes, if it is from 1 to the most that it may be.
 fn number_written(word: &str, most: u64) -> Option<u64>
-    ensures { IfSome result (λ number. number ≤ most) }
+    ensures { IfSome result (λ number. Writes word.now most number) }
 {
     match number(word.as_bytes()) {
         Ok(number) => match u64::try_from(number) {
