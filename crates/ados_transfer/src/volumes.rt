@@ -3,8 +3,8 @@
 //!
 //! One path names an object among all of them. If there are several volumes its first step is the label of one, as in `1:/src/x`, and
 //! otherwise there is no such step; what follows leads down from the folder. A key is such a path in lower case.
-ghost use Rattle.std.specs.Prelude.{◌≡◌, IfOk, IfSome, string_bytes};
-ghost use Rattle.std.specs.List.{Contains};
+ghost use Rattle.std.specs.Prelude.{◌≡◌, [], true, IfOk, IfSome, string_bytes};
+ghost use Rattle.std.specs.List.{Any, Contains};
 ghost use Rattle.ados_ram.specs.Place.{is_at_or_below, key_of};
 ghost use Rattle.ados_transfer.specs.Volumes.{Follows, real_path};
 
@@ -113,9 +113,14 @@ impl Volumes {
     }
 
     /// A path is that of the folder of a volume.
-    pub fn is_root(&self, path: &str) -> bool {
-        self.of_path(path)
-            .is_some_and(|(_, below)| below.is_empty())
+    #[tactic(auto, using(crate::proofs::VolumeLemmas::root_found))]
+    pub fn is_root(&self, path: &str) -> bool
+        ensures { result ≡ true → Any (λ volume. Follows (string_bytes volume.label) path.now []) self.now.all.value.items }
+    {
+        match self.of_path(path) {
+            Some((_, below)) => below.is_empty(),
+            None => false,
+        }
     }
 
     /// The path of the folder of the volume in which a path is.
