@@ -32,7 +32,7 @@ class Model:
 
     def __init__(self):
         self.shell, self.machine, self.last, self.out = {}, {}, {}, {}
-        self.told = set()
+        self.told, self.let_go = set(), set()
 
     def of(self, path):
         return (side.get(path, GONE) for side in (self.shell, self.machine, self.last))
@@ -102,6 +102,8 @@ class Model:
                     self.put(self.last, path, GONE)
                 unwritten.append(shell)
             elif machine in (last, shell, GONE):
+                if shell == GONE and machine == last in self.out.values():
+                    self.let_go.add(last)
                 # a folder that was deleted on this machine is made again for what is in it
                 for one in (path.split('/')[0], path):
                     if shell != GONE or one == path:
@@ -111,6 +113,9 @@ class Model:
                 self.told.add(path)
                 owes = owes or shell != GONE
                 unwritten.append(shell)
+        if any(text in self.let_go and text not in self.machine.values() for text in self.out.values()):
+            # it is written back under a name of its own
+            raise Unsure
 
     def come_in(self):
         paths = sorted(set(self.machine) | set(self.last))
@@ -295,6 +300,9 @@ def run(program, room, random_, count):
         child.wait()
     for number, stands in enumerate(wanted):
         came = tree(os.path.join(room, 'seen', str(number)) if number < len(acts) else folder)
+        if number < len(acts):
+            # a copy of what was written over waits there
+            came = {path: text for path, text in came.items() if not os.path.basename(path).startswith('.amishell-execute.')}
         if came != stands:
             for path in sorted(set(came) | set(stands)):
                 if came.get(path) != stands.get(path):

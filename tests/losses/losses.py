@@ -23,6 +23,7 @@ A file NAME.losses has lines of comment, which begin with `#`, and cases. `== NA
     blocks N             no file may have more than N blocks of 1,024 bytes; `blocks N ignored`: SIGXFSZ is ignored
     closed N             the descriptor is closed
     nobody               the user is nobody; needs root
+    mount PATH PATH      the first folder is mounted at the second too; needs root
 
 PATH is followed by nothing (its lines follow, each after `| `), `of N` (so many bytes), `as PATH` (the bytes that this has before), `-> TARGET` (a link) or `pipe`;
 it ends in `/` if it is a folder. `before PATH to N of M` makes N files PATH1, PATH2 .. of M bytes. All paths are those of the folder in which the program runs.
@@ -47,7 +48,7 @@ class Case:
     def __init__(self, name):
         self.name, self.words, self.arguments, self.script, self.answers = name, list(DEFAULT), [], b"", b""
         self.before, self.after, self.modes, self.modes_after = {"f": FOLDER}, {}, {}, {}
-        self.anywhere, self.says, self.prints, self.signals = [], [], [], []
+        self.anywhere, self.says, self.prints, self.signals, self.mounts = [], [], [], [], []
         self.status, self.most, self.waits, self.seconds, self.blocks, self.closed = "0", None, 0.0, 60.0, None, None
         self.is_silent = self.ignores_size = self.is_nobody = False
 
@@ -69,6 +70,8 @@ class Case:
             self.after[rest] = None
         elif key in ("mode", "mode-after"):
             (self.modes if key == "mode" else self.modes_after)[words[0]] = int(words[1], 8)
+        elif key == "mount":
+            self.mounts.append(words)
         elif key == "kill":
             self.signals = words
         elif key == "at":
@@ -104,6 +107,9 @@ class Case:
             stands[path] = PIPE
         else:
             raise BadCase(f"{self.name}: {' '.join(words)}")
+
+    def needs_root(self):
+        return self.is_nobody or bool(self.mounts)
 
     def wanted(self):
         """What has to stand afterwards, with the folders on the way to it. One that stood before stays, unless it is gone by name."""

@@ -178,7 +178,19 @@ def moved_stands(trial):
     return None if any(what == b"a\n" for path, what in trial.stands.items() if path.startswith("f/")) else "the bytes of a are lost"
 
 
+def lengthened_stands(trial):
+    """What the script moved and lengthened stands, and so does what it had changed places with."""
+    stand = [what for path, what in trial.stands.items() if path.startswith("f/") and isinstance(what, bytes)]
+    lost = [token for token in (b"a\n", b"n1\n") if not any(what.startswith(token) for what in stand)]
+    return f"the bytes {lost} are lost" if lost else line_is_there(trial)
+
+
+EXCHANGED_AND_LENGTHENED = {"f/a": b"a\n", "f/n1": b"n1\n"}
 MOVED = [
+    Race("a file changes places with another and is lengthened, and so is the other", EXCHANGED_AND_LENGTHENED,
+         started("Rename a t", "Rename n1 a", "Rename t n1", "Echo >>n1 more"), f'echo "{LINE}" >>f/n1', lengthened_stands),
+    Race("a directory changes places with another, a file in it is lengthened, and so is one in the other", {"f/d/a": b"a\n", "f/e/a": b"n1\n"},
+         started("Rename d t", "Rename e d", "Rename t e", "Echo >>e/a more"), f'echo "{LINE}" >>f/e/a', lengthened_stands),
     Race("a file that was moved out comes in where another program makes one", A,
          started("Rename a T:a", "Echo >a new", "sh -c true", "Rename T:a b", "sh -c true"), "[ -e f/b ] || echo theirs >f/b", moved_stands),
     Race("a file that is renamed is moved back", A, started("Rename a b", "Rename n0 m0", "Rename n1 m1"), "[ -f f/b ] && mv f/b f/a", moved_stands, most=1,

@@ -1,3 +1,4 @@
+mod AlikeLemmas
 mod DirectiveLemmas
 mod ReadingLemmas
 mod SignLemmas

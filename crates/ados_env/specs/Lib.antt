@@ -30,5 +30,6 @@ pub mod Status
 pub mod Resident
 pub mod Breaks
 pub mod Rows
+pub mod Options
 pub mod Reads
 pub mod Devices

@@ -4,8 +4,7 @@ ghost use Rattle.std.proofs.Math.ListN.{replicate};
 ghost use Rattle.ados_env.specs.EvalFormat.{field_bytes, field_len, formatted_from, formatted_value, padded_digits, piece_bytes, piece_len, width_digits, width_in};
 
 use crate::numerals::Base;
-use crate::pieces::at_most;
-use ados_text::{NoMemory, fold, push_number};
+use ados_text::{NoMemory, at_most, fold, push_number};
 use std::alloc::Global;
 
 /// What is put in for a `%` and a letter.

@@ -3,8 +3,7 @@ ghost use Rattle.std.specs.Prelude.{◌≡◌};
 ghost use Rattle.std.specs.List.{prefix_len};
 ghost use Rattle.ados_env.specs.Numerals.{based_sum, bits_checked, digit_value, digits_in, digits_value, is_digit_in, number_written};
 
-use crate::pieces::at_most;
-use ados_text::fold;
+use ados_text::{at_most, fold};
 
 /// A number's base.
 #[derive(Clone, Copy)]

@@ -6,9 +6,8 @@ ghost use Rattle.ados_env.specs.Tokens.{bits_token, character_cut, decimal_cut, 
 
 use crate::numerals::Base;
 use crate::operators::Operator;
-use crate::pieces::{at_most, without};
 use ados_items::is_blank;
-use ados_text::{NoMemory, fold, same_name};
+use ados_text::{NoMemory, at_most, fold, same_name, without};
 use std::alloc::Global;
 
 /// A token of an expression.

@@ -10,3 +10,8 @@ mod ShapeLemmas
 mod DumpLemmas
 mod LineLemmas
 mod OrderLemmas
+pub mod PlainLines
+pub mod HitLemmas
+pub mod HitLaws
+pub mod PartLemmas
+pub mod SourceLemmas

@@ -1,8 +1,8 @@
 -- Dir: what is in a directory, with its directories first, with ALL each with what is in it.
 use Rattle.std.specs.Prelude.{ℕ, zero, suc, Bool, cond, not, ◌||◌, List, [], ◌∷◌, ◌++◌, codes, Option, Some, None, Result, Ok, Err, if◌then◌else◌}
-use Rattle.std.specs.List.{flat_map, list_all}
+use Rattle.std.specs.List.{flat_map}
 use Rattle.std.specs.FinMap as map
-use Rattle.ados_text.specs.Text.{Bytes, Text, fold_of}
+use Rattle.ados_text.specs.Text.{Bytes, Text}
 use Rattle.ados_text.specs.declared.codes.TheConstants.Result2.{BAD_NUMBER, NOT_IMPLEMENTED}
 use Rattle.ados_readargs.specs.declared.args.Arg.{Arg}
 use Rattle.ados_readargs.specs.Args.{option_text, has_switch}
@@ -20,7 +20,7 @@ use Rattle.ados_find.specs.Paths.{bases_of}
 use Rattle.ados_files.specs.Bases.{all_children, entry_at}
 use Rattle.ados_files.specs.Below.{object_count, objects_in}
 use Rattle.ados_files.specs.Lines.{keeps, entry_lines}
-use Rattle.ados_files.specs.Protect.{has_letter}
+use Rattle.ados_files.specs.Letters.{are_letters_of, has_letter}
 use Rattle.ados_files.specs.Texts.{text_or_empty}
 use Rattle.ados_files.specs.declared.options.TheConstants.{DIR_DIR, DIR_DIRS, DIR_FILES, DIR_ALL, DIR_OPT, DIR_INTER}
 use Rattle.ados_files.specs.declared.dir_lines.Choice.{Choice}
@@ -72,12 +72,6 @@ abbrev pub dir_by : SharedState → View → Option Text → Choice → Effect
 dir_by shared view text choice = if_found (codes_effect shared) (directories_given shared view text) (dir_effect shared choice)
 
 -- OPT's letters a, d and f, in either case, are the switches ALL, DIRS and FILES
-abbrev pub is_dir_letter : ℕ → Bool
-is_dir_letter c = has_letter (fold_of c) (codes "adf")
-
-abbrev pub are_dir_letters : Text → Bool
-are_dir_letters letters = list_all is_dir_letter letters
-
 abbrev pub choice_by : List Arg → Text → Choice
 choice_by args letters =
     record {
@@ -90,7 +84,7 @@ choice_by args letters =
 abbrev pub choice_of : List Arg → Text → Result Choice Codes
 choice_of args letters =
     if has_switch args DIR_INTER || has_letter 105 letters then Err (error_codes NOT_IMPLEMENTED)
-    else (if are_dir_letters letters then Ok (choice_by args letters) else Err (fail_codes BAD_NUMBER))
+    else (if are_letters_of (codes "adf") letters then Ok (choice_by args letters) else Err (fail_codes BAD_NUMBER))
 
 abbrev pub dir_row : SharedState → View → List Arg → Effect
 dir_row shared view args =

@@ -1,5 +1,7 @@
 -- How Type shows bytes: HEX and NUMBER.
-use Rattle.std.specs.Prelude.{ℕ, zero, suc, ◌+◌, ◌*◌, ◌/◌, ◌%◌, Bool, true, false, ◌&&◌, nat_lt, nat_le, [], ◌∷◌, ◌++◌, map, take, drop, length, codes, decimal, slice_get, Option, Some, None, if◌then◌else◌}
+use Rattle.std.specs.Prelude.{ℕ, zero, suc, ◌+◌, ◌-◌, ◌*◌, ◌/◌, ◌%◌, Bool, true, false, ◌&&◌, nat_lt, nat_le, [], ◌∷◌, ◌++◌, map, take, drop, length, codes, decimal, slice_get, Option, Some, None, if◌then◌else◌}
+use Rattle.std.specs.Fmt.{digits}
+use Rattle.std.proofs.Math.ListN.{replicate}
 use Rattle.ados_text.specs.Text.{Bytes}
 use Rattle.ados_text.specs.Columns.{right_aligned_text}
 use Rattle.ados_text.specs.Lines.{is_newline}
@@ -11,10 +13,13 @@ hex_digit number = if nat_lt number 10 then 48 + number else 55 + number
 abbrev pub hex_byte : ℕ → Bytes
 hex_byte byte = hex_digit (byte / 16) ∷ hex_digit (byte % 16) ∷ []
 
--- a place in a file: four digits, as files have at most 65,536 bytes
+-- digits, with zeros before them up to four
+unfoldable pub four_digits : Bytes → Bytes
+four_digits text = replicate (4 - length text) 48 ++ text
+
+-- a place in a file, in hexadecimal: of four digits, or of more if it takes more
 abbrev pub hex_place : ℕ → Bytes
-hex_place place =
-    hex_digit (place / 4096 % 16) ∷ hex_digit (place / 256 % 16) ∷ hex_digit (place / 16 % 16) ∷ hex_digit (place % 16) ∷ []
+hex_place place = four_digits (digits 16 true place)
 
 -- a missing byte is two blanks
 abbrev pub hex_or_blanks : Option ℕ → Bytes
@@ -30,11 +35,13 @@ hex_group bytes =
 abbrev pub character_of : ℕ → ℕ
 character_of byte = if nat_le 32 byte && nat_le byte 126 then byte else 46
 
--- the line of up to 16 bytes: their place, four groups of four, and the bytes as characters
+-- up to 16 bytes, as four groups
+unfoldable pub hex_groups : Bytes → Bytes
+hex_groups bytes = hex_group bytes ++ (hex_group (drop 4 bytes) ++ (hex_group (drop 8 bytes) ++ hex_group (drop 12 bytes)))
+
+-- the line of up to 16 bytes: their place, their groups, and the bytes as characters
 abbrev pub hex_line : ℕ → Bytes → Bytes
-hex_line place bytes =
-    hex_place place ++ (codes ": " ++ (hex_group bytes ++ (hex_group (drop 4 bytes) ++ (hex_group (drop 8 bytes) ++ (hex_group (drop 12 bytes)
-    ++ (codes "    " ++ (map character_of bytes ++ 10 ∷ [])))))))
+hex_line place bytes = hex_place place ++ (codes ": " ++ (hex_groups bytes ++ (codes "    " ++ (map character_of bytes ++ 10 ∷ []))))
 
 -- so many lines, of 16 bytes each, from the one with a number on
 abbrev pub hex_lines : ℕ → ℕ → Bytes → Bytes

@@ -1,4 +1,4 @@
--- The files that Copy copies: each with the names of its copy below TO.
+-- What FROM of Copy, Rename and Search names; the files that Copy copies of that, with their paths below TO.
 use Rattle.std.specs.Prelude.{Bool, false, cond, List, [], ◌∷◌, ◌++◌, drop, length, Option, Some, None, Result, Ok, Err}
 use Rattle.std.specs.FinMap as map
 use Rattle.ados_text.specs.Text.{Text}

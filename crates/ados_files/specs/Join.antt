@@ -12,6 +12,7 @@ use Rattle.ados_find.specs.Effects.{Effect, codes_effect, if_given}
 use Rattle.ados_find.specs.Done.{Done, fresh_work, refused_or, unless_stopped, act_on_each, end_effect}
 use Rattle.ados_files.specs.Acts.{at_path}
 use Rattle.ados_files.specs.TypeFiles.{type_one}
+use Rattle.ados_files.specs.declared.options.TheConstants.{JOIN_FILE, JOIN_TO}
 use Rattle.ados_files.specs.declared.type_files.Printing.TheVariants.{Plain}
 
 -- bytes are written to a file
@@ -37,4 +38,4 @@ abbrev pub join_by_texts : SharedState → View → List Text → Text → Effec
 join_by_texts shared view texts to = end_effect (join_to_target view texts (fresh_work shared) to)
 
 abbrev pub join_row : SharedState → View → List Arg → Effect
-join_row shared view args = if_given (codes_effect shared) (option_text args 1) (join_by_texts shared view (option_texts args 0))
+join_row shared view args = if_given (codes_effect shared) (option_text args JOIN_TO) (join_by_texts shared view (option_texts args JOIN_FILE))

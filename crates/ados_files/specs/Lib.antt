@@ -2,6 +2,7 @@ pub mod Bases
 pub mod Below
 pub mod Names
 pub mod Acts
+pub mod Letters
 pub mod Texts
 pub mod MakeDir
 pub mod Delete
@@ -12,15 +13,19 @@ pub mod Protect
 pub mod Lines
 pub mod Options
 pub mod Formats
+pub mod Parts
 pub mod Shapes
 pub mod Spellings
 pub mod Listing
 pub mod Dir
+pub mod Gather
 pub mod Rename
 pub mod MayChange
 pub mod Join
 pub mod Jobs
 pub mod Copy
+pub mod Hits
+pub mod Search
 pub mod SortOrder
 pub mod Sort
 pub mod Rows

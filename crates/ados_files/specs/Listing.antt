@@ -1,5 +1,5 @@
 -- List: objects, and what is in directories.
-use Rattle.std.specs.Prelude.{ℕ, Bool, true, false, ◌||◌, cond, List, [], ◌∷◌, ◌++◌, Option, Some, None, Result, Ok, Err, option_map, if◌then◌else◌}
+use Rattle.std.specs.Prelude.{ℕ, Bool, ◌||◌, cond, List, [], ◌∷◌, ◌++◌, Option, Some, None, Result, Ok, Err, option_map, if◌then◌else◌}
 use Rattle.std.specs.FinMap as map
 use Rattle.ados_text.specs.Text.{Text}
 use Rattle.ados_text.specs.declared.codes.Result2.{Result2}
@@ -20,6 +20,7 @@ use Rattle.ados_find.specs.Effects.{Effect, codes_effect, if_found, unless_refus
 use Rattle.ados_find.specs.Done.{Done, fresh_work, stop_with_codes, refused_or, act_on_each, end_effect}
 use Rattle.ados_find.specs.OutputFile.{output_to}
 use Rattle.ados_files.specs.Bases.{all_children, entry_at}
+use Rattle.ados_files.specs.Below.{object_count}
 use Rattle.ados_files.specs.Formats.{format_of}
 use Rattle.ados_files.specs.Names.{FoundPlaces, pattern_of, named_bases}
 use Rattle.ados_files.specs.Options.{is_given}
@@ -27,7 +28,6 @@ use Rattle.ados_files.specs.Shapes.{group_lines}
 use Rattle.ados_files.specs.Spellings.{spelled_path}
 use Rattle.ados_files.specs.declared.options.TheConstants.{LIST_DIR, LIST_PAT, LIST_QUICK, LIST_FILES, LIST_DIRS, LIST_TO, LIST_SUB, LIST_LFORMAT, LIST_ALL, LIST_SINCE, LIST_UPTO}
 use Rattle.ados_files.specs.declared.shapes.Shape.{Shape}
-use Rattle.ados_files.specs.declared.shapes.TheConstants.{DEEPEST}
 
 -- what places that are named by a path stand for: directories for the objects in them
 abbrev pub entries_of : Files → List Place → Option Entry → List Place
@@ -70,24 +70,23 @@ pattern_given None = Ok None
 pattern_given (Some text) = some_pattern (pattern_of text)
 
 -- ALL looks as far below as there are objects
-abbrev pub depth_of : Bool → ℕ
-depth_of true = DEEPEST
-depth_of false = 0
+abbrev pub depth_of : Bool → Files → ℕ
+depth_of all files = if all then object_count files else 0
 
 -- what is shown
-abbrev pub shape_of : List Arg → Option Meaning → Shape
-shape_of args pattern = record {
+abbrev pub shape_of : Files → List Arg → Option Meaning → Shape
+shape_of files args pattern = record {
   pattern = pattern;
   part = option_text args LIST_SUB;
   quick = has_switch args LIST_QUICK;
   files = has_switch args LIST_FILES;
   dirs = has_switch args LIST_DIRS;
   format = option_map format_of (option_text args LIST_LFORMAT);
-  depth = depth_of (has_switch args LIST_ALL);
+  depth = depth_of (has_switch args LIST_ALL) files;
 }
 
 abbrev pub list_by : SharedState → View → List Arg → Option Meaning → Effect
-list_by shared view args pattern = end_effect (list_texts (shape_of args pattern) view (fresh_work shared) (option_texts args LIST_DIR))
+list_by shared view args pattern = end_effect (list_texts (shape_of shared.files args pattern) view (fresh_work shared) (option_texts args LIST_DIR))
 
 abbrev pub list_printed : SharedState → View → List Arg → Effect
 list_printed shared view args = if_found (codes_effect shared) (pattern_given (option_text args LIST_PAT)) (list_by shared view args)

@@ -12,6 +12,7 @@ use Rattle.ados_find.specs.Views.{View}
 use Rattle.ados_find.specs.Effects.{Effect, codes_effect}
 use Rattle.ados_find.specs.Done.{Done, fresh_work, refused_or, act_on_each, end_effect}
 use Rattle.ados_files.specs.Acts.{at_path}
+use Rattle.ados_files.specs.declared.options.TheConstants.{MAKE_DIR_NAME}
 
 -- one directory is created
 abbrev pub make_one : Done → Place → Done
@@ -25,4 +26,4 @@ make_all shared view [] = codes_effect shared (fail_codes ARGUMENT_MISSING)
 make_all shared view (text ∷ texts) = end_effect (act_on_each (at_path make_one view) (fresh_work shared) (text ∷ texts))
 
 abbrev pub make_dir_row : SharedState → View → List Arg → Effect
-make_dir_row shared view args = make_all shared view (option_texts args 0)
+make_dir_row shared view args = make_all shared view (option_texts args MAKE_DIR_NAME)

@@ -12,7 +12,10 @@ use Rattle.ados_find.specs.Paths.{place_of}
 use Rattle.ados_files.specs.Acts.{at_names}
 use Rattle.ados_files.specs.Delete.{delete_place, delete_manner}
 use Rattle.ados_files.specs.Names.{FoundPlaces, named_places}
-use Rattle.ados_files.specs.declared.options.TheConstants.{COPY_TO, DELETE_FILE, DELETE_ALL}
+use Rattle.ados_files.specs.Rename.{rename_sources}
+use Rattle.ados_files.specs.declared.options.TheConstants.{COPY_TO, DELETE_FILE, DELETE_ALL, RENAME_FROM, RENAME_TO}
+use Rattle.ados_files.specs.declared.rename.Sources.{Sources}
+use Rattle.ados_files.specs.declared.rename.Sources.TheVariants.{Alone, Several}
 
 -- the key is at a place or below it, if there is one
 abbrev pub is_under : Result Place Codes → Key → Bool
@@ -49,6 +52,13 @@ abbrev pub delete_may_change : SharedState → View → List Arg → Key → Boo
 delete_may_change shared view args key =
     is_under_worked (at_names (delete_place view (has_switch args DELETE_ALL) (delete_manner args)) view) view (fresh_work shared) (option_texts args DELETE_FILE) key
 
--- Rename: FROM and TO, and what is below them
+-- the key is at or below what FROM of Rename names
+abbrev pub is_under_sources : Result Sources Codes → Key → Bool
+is_under_sources (Err codes) key = false
+is_under_sources (Ok (Alone place)) key = is_at_or_below (key_of place) key
+is_under_sources (Ok (Several found)) key = is_under_any found.places key
+
+-- Rename: what FROM names, and TO, and what is below them
 abbrev pub rename_may_change : SharedState → View → List Arg → Key → Bool
-rename_may_change shared view args key = is_under_path shared view (option_text args 0) key || is_under_path shared view (option_text args 1) key
+rename_may_change shared view args key =
+    is_under_sources (rename_sources shared view.parts.directory (option_texts args RENAME_FROM)) key || is_under_path shared view (option_text args RENAME_TO) key

@@ -1,8 +1,7 @@
 -- Protect: the bits of objects, with ALL of all that is below them too.
 use Rattle.std.specs.Prelude.{ℕ, List, [], ◌∷◌, drop, codes, Bool, true, false, not, ◌&&◌, ◌||◌, ◌==◌, Option, Some, None, Result, Ok, Err, if◌then◌else◌}
-use Rattle.std.specs.List.{list_all, list_any}
 use Rattle.std.specs.FinMap as map
-use Rattle.ados_text.specs.Text.{Text, fold_of}
+use Rattle.ados_text.specs.Text.{Text}
 use Rattle.ados_text.specs.declared.codes.Result2.{Result2}
 use Rattle.ados_text.specs.declared.codes.TheConstants.Result2.{BAD_NUMBER, TOO_MANY_ARGUMENTS}
 use Rattle.ados_readargs.specs.declared.args.Arg.{Arg}
@@ -17,6 +16,7 @@ use Rattle.ados_find.specs.Shared.{SharedState, with_files}
 use Rattle.ados_find.specs.Views.{View}
 use Rattle.ados_find.specs.Effects.{Effect, codes_effect}
 use Rattle.ados_find.specs.Done.{Done, fresh_work, refused_or, act_on_each, end_effect}
+use Rattle.ados_files.specs.Letters.{are_letters_of, has_letter}
 use Rattle.ados_files.specs.Texts.{text_or_empty}
 use Rattle.ados_files.specs.Acts.{at_names}
 use Rattle.ados_files.specs.Below.{objects_of}
@@ -34,10 +34,6 @@ begins_with sign (c ∷ cs) = c == sign
 abbrev pub flag_letters : Text → Text
 flag_letters flags = if begins_with 43 flags || begins_with 45 flags then drop 1 flags else flags
 
--- the letter is among them, with case ignored
-abbrev pub has_letter : ℕ → Text → Bool
-has_letter letter letters = list_any (λ c. fold_of c == letter) letters
-
 -- the bits of letters: h s p a r w e d
 abbrev pub bits_of : Text → Bits
 bits_of letters =
@@ -51,13 +47,6 @@ bits_of letters =
       execute = has_letter 101 letters;
       delete = has_letter 100 letters;
     }
-
--- each is the letter of a bit, with case ignored
-abbrev pub is_letter : ℕ → Bool
-is_letter c = has_letter (fold_of c) (codes "hsparwed")
-
-abbrev pub are_letters : Text → Bool
-are_letters letters = list_all is_letter letters
 
 -- whether bits are added, removed or set: they cannot be added and removed at once
 abbrev pub way_of : Bool → Bool → Result Way Result2
@@ -73,7 +62,7 @@ change_by (Ok way) letters = Ok (record { way = way; bits = bits_of letters })
 -- the change that the flags and the switches ask for
 abbrev pub change_of : Text → Bool → Bool → Result Change Result2
 change_of flags add sub =
-    if are_letters (flag_letters flags) then change_by (way_of (add || begins_with 43 flags) (sub || begins_with 45 flags)) (flag_letters flags)
+    if are_letters_of (codes "hsparwed") (flag_letters flags) then change_by (way_of (add || begins_with 43 flags) (sub || begins_with 45 flags)) (flag_letters flags)
     else Err BAD_NUMBER
 
 -- one bit after a change

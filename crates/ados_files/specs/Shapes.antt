@@ -1,8 +1,8 @@
 -- What List shows of objects, and of what is below them.
-use Rattle.std.specs.Prelude.{ℕ, zero, suc, Bool, true, false, cond, ◌&&◌, ◌||◌, List, [], ◌∷◌, ◌++◌, take, length, Option, Some, None, if◌then◌else◌}
+use Rattle.std.specs.Prelude.{ℕ, zero, suc, Bool, true, false, cond, ◌&&◌, List, [], ◌∷◌, ◌++◌, Option, Some, None, if◌then◌else◌}
 use Rattle.std.specs.List.{flat_map}
 use Rattle.std.specs.FinMap as map
-use Rattle.ados_text.specs.Text.{Bytes, Text, is_same}
+use Rattle.ados_text.specs.Text.{Bytes, Text}
 use Rattle.ados_pattern.specs.Meaning.{Meaning}
 use Rattle.ados_pattern.specs.Matching.{is_match}
 use Rattle.ados_ram.specs.Place.{Place, key_of}
@@ -12,6 +12,7 @@ use Rattle.ados_ram.specs.Contents.{children}
 use Rattle.ados_ram.specs.declared.entries.Entry.{Entry}
 use Rattle.ados_files.specs.Lines.{keeps, entry_lines, list_line}
 use Rattle.ados_files.specs.Formats.{format_line}
+use Rattle.ados_files.specs.Parts.{stands_in}
 use Rattle.ados_files.specs.declared.formats.Part.{Part}
 use Rattle.ados_files.specs.declared.shapes.Shape.{Shape}
 
@@ -19,14 +20,6 @@ use Rattle.ados_files.specs.declared.shapes.Shape.{Shape}
 abbrev pub passes : Option Meaning → Entry → Bool
 passes None e = true
 passes (Some pattern) e = is_match pattern.form e.name
-
--- a text stands in another, with case ignored
-abbrev pub begins_with : Text → Text → Bool
-begins_with part text = is_same part (take (length part) text)
-
-abbrev pub stands_in : Text → Text → Bool
-stands_in part [] = begins_with part []
-stands_in part (c ∷ cs) = begins_with part (c ∷ cs) || stands_in part cs
 
 -- SUB keeps names in which its text stands
 abbrev pub has_part : Option Text → Entry → Bool

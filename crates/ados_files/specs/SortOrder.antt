@@ -1,5 +1,5 @@
 -- The lines of a file, and the order in which Sort puts them.
-use Rattle.std.specs.Prelude.{ℕ, ℤ, pos, ◌+◌, Bool, not, List, [], ◌∷◌, drop, take, length, position, if◌then◌else◌}
+use Rattle.std.specs.Prelude.{ℕ, suc, ℤ, pos, ◌+◌, Bool, not, List, [], ◌∷◌, drop, take, length, position, if◌then◌else◌}
 use Rattle.std.specs.Option.{unwrap_or}
 use Rattle.std.specs.Char.{is_ascii_digit}
 use Rattle.std.specs.Cmp.Lexicographic.{slice_cmp}
@@ -14,6 +14,11 @@ use Rattle.ados_files.specs.declared.sort_order.SortOrder.{SortOrder}
 abbrev pub plain_lines : Bytes → List Bytes
 plain_lines [] = []
 plain_lines (byte ∷ bytes) = if is_newline byte then [] ∷ plain_lines bytes else lines_with_byte byte (plain_lines bytes)
+
+-- how many bytes the first of them has
+abbrev pub line_len : Bytes → ℕ
+line_len [] = 0
+line_len (byte ∷ bytes) = if is_newline byte then 0 else suc (line_len bytes)
 
 -- the part of a line that counts: from the column on
 abbrev pub part_of : SortOrder → Bytes → Bytes

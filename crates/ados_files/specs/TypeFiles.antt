@@ -1,8 +1,7 @@
 -- Type: the bytes of files, unchanged or by HEX or NUMBER.
-use Rattle.std.specs.Prelude.{ℕ, Bool, true, false, ◌||◌, ◌==◌, List, ◌++◌, Result, Ok, Err, if◌then◌else◌}
-use Rattle.std.specs.List.{list_all, list_any}
+use Rattle.std.specs.Prelude.{ℕ, Bool, true, false, ◌||◌, List, ◌++◌, codes, Result, Ok, Err, if◌then◌else◌}
 use Rattle.std.specs.FinMap as map
-use Rattle.ados_text.specs.Text.{Bytes, Text, fold_of}
+use Rattle.ados_text.specs.Text.{Bytes, Text}
 use Rattle.ados_text.specs.declared.codes.TheConstants.Result2.{BAD_NUMBER, TOO_MANY_ARGUMENTS}
 use Rattle.ados_readargs.specs.declared.args.Arg.{Arg}
 use Rattle.ados_readargs.specs.Args.{option_texts, option_text, has_switch}
@@ -19,6 +18,7 @@ use Rattle.ados_find.specs.Done.{Done, fresh_work, refused_or, act_on_each, end_
 use Rattle.ados_find.specs.OutputFile.{output_to}
 use Rattle.ados_files.specs.Acts.{at_names}
 use Rattle.ados_files.specs.Dumps.{hex_text, numbered_text}
+use Rattle.ados_files.specs.Letters.{are_letters_of, has_letter}
 use Rattle.ados_files.specs.Texts.{text_or_empty}
 use Rattle.ados_files.specs.declared.options.TheConstants.{TYPE_FROM, TYPE_TO, TYPE_HEX, TYPE_NUMBER, TYPE_OPT}
 use Rattle.ados_files.specs.declared.type_files.Printing.{Printing}
@@ -48,16 +48,9 @@ printed_work printing done = record done { output = all_text printing done.outpu
 abbrev pub type_printed : SharedState → View → List Text → Printing → Effect
 type_printed shared view texts printing = end_effect (printed_work printing (act_on_each (at_names (type_one printing view) view) (fresh_work shared) texts))
 
--- the letters of OPT, in either case: H for HEX, N for NUMBER
-abbrev pub is_letter : ℕ → ℕ → Bool
-is_letter letter byte = fold_of byte == letter
-
-abbrev pub is_type_letter : ℕ → Bool
-is_type_letter byte = is_letter 104 byte || is_letter 110 byte
-
--- a switch is given, or its letter in OPT
+-- a switch is given, or its letter in OPT, in either case: H for HEX, N for NUMBER
 abbrev pub is_asked : List Arg → ℕ → Text → ℕ → Bool
-is_asked args place letters letter = has_switch args place || list_any (is_letter letter) letters
+is_asked args place letters letter = has_switch args place || has_letter letter letters
 
 abbrev pub printing_by : Bool → Bool → Result Printing Codes
 printing_by false false = Ok Plain
@@ -67,7 +60,7 @@ printing_by true true = Err (fail_codes TOO_MANY_ARGUMENTS)
 
 abbrev pub printing_of : List Arg → Text → Result Printing Codes
 printing_of args letters =
-    if list_all is_type_letter letters then printing_by (is_asked args TYPE_HEX letters 104) (is_asked args TYPE_NUMBER letters 110)
+    if are_letters_of (codes "hn") letters then printing_by (is_asked args TYPE_HEX letters 104) (is_asked args TYPE_NUMBER letters 110)
     else Err (fail_codes BAD_NUMBER)
 
 abbrev pub type_by_options : SharedState → View → List Arg → Effect

@@ -19,7 +19,6 @@ use std::alloc::Global;
 pub fn done_with<X, A: Act<X>>(
     alloc: Global,
     shared: &Shared,
-    view: &ShellView,
     act: &A,
     items: &[X],
 ) -> CommandResult
@@ -40,7 +39,7 @@ pub fn done_with_named<A: Act<Place>>(
 ) -> CommandResult
     ensures { IfOk result (λ outcome. effect_of shared.now outcome ≡ end_effect (act_on_each (at_names (A.act act.now) view.now) (fresh_work shared.now) texts.now)) }
 {
-    done_with(alloc, shared, view, &Names { act, view }, texts)
+    done_with(alloc, shared, &Names { act, view }, texts)
 }
 
 /// Continues with the changed files, or stops if the change is refused.

@@ -1,6 +1,7 @@
-// The objects in the directories for which a path stands.
+// The objects in the directories for which a path stands; whether there is a directory or a file.
 ghost use Rattle.std.specs.Prelude.{◌≡◌, ◌≤◌, ◌++◌, take, drop, length, IfOk, OnOk};
 ghost use Rattle.std.specs.Option.{option_copied};
+ghost use Rattle.ados_ram.specs.Files.{is_some_directory, is_some_file};
 ghost use Rattle.ados_files.specs.Bases.{all_children, entry_at, further_children, has_object, new_places};
 
 use ados_ram::{Entry, Place, Ram};
@@ -74,4 +75,24 @@ fn has_object(ram: &Ram, bases: &[Place], name: &Name) -> Result<bool, NoMemory>
         }
     }
     Ok(false)
+}
+
+/// Whether there is a directory.
+pub fn is_directory(there: Option<&Entry>) -> bool
+    ensures { result ≡ is_some_directory (option_copied there.entry) }
+{
+    match there {
+        None => false,
+        Some(entry) => entry.is_directory(),
+    }
+}
+
+/// Whether there is a file.
+pub fn is_file(there: Option<&Entry>) -> bool
+    ensures { result ≡ is_some_file (option_copied there.entry) }
+{
+    match there {
+        None => false,
+        Some(entry) => !entry.is_directory(),
+    }
 }

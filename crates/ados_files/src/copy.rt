@@ -1,19 +1,19 @@
+// Copy: which files are copied, and to which places.
 ghost use Rattle.std.specs.Prelude.{◌≡◌, IfOk, OnOk};
 ghost use Rattle.std.specs.FinMap as map;
 ghost use Rattle.std.specs.Option.{option_copied};
 ghost use Rattle.ados_ram.specs.Place.{key_of};
-ghost use Rattle.ados_ram.specs.Files.{is_some_file};
 ghost use Rattle.ados_find.specs.Done.{done_of};
 ghost use Rattle.ados_find.specs.Shared.{version};
 ghost use Rattle.ados_find.specs.Effects.{effect_of};
 ghost use Rattle.ados_files.specs.Copy.{manner_of, target_directory, copy_to_directory, is_onto, one_entry, copy_found, copy_into_target, copy_row};
 
 use crate::acts::done_with;
+use crate::bases::{is_directory, is_file};
 use crate::copy_one::{Copying, MakingMissing, Manner};
 use crate::jobs::{all_jobs, jobs_onto, sources_of};
-use crate::names::Found;
+use crate::names::NamedObjects;
 use crate::options::{COPY_ALL, COPY_CLONE, COPY_COM, COPY_FROM, COPY_NOPRO, COPY_QUIET, COPY_TO};
-use crate::rename::is_directory;
 use ados_find::{
     Act, Codes, CommandResult, Outcome, Shared, ShellView, Work, current, each, place_of,
 };
@@ -69,7 +69,7 @@ pub struct Copy<'a> {
     pub view: &'a ShellView<'a>,
     pub all: bool,
     pub manner: Manner,
-    pub found: Found,
+    pub found: NamedObjects,
 }
 
 impl<'a> Act<Place> for Copy<'a> {
@@ -97,29 +97,19 @@ fn copied_to(alloc: Global, shared: &Shared, copy: &Copy, to: &Text) -> CommandR
     let view = copy.view;
     match place_of(alloc, shared, view.directory, to) {
         Err(refusal) => Ok(Outcome::answering(alloc, refusal.codes()?)),
-        Ok(to) => done_with(alloc, shared, view, copy, slice::from_ref(&to)),
+        Ok(to) => done_with(alloc, shared, copy, slice::from_ref(&to)),
     }
 }
 
 // Whether the source is just one file, and TO is not a directory.
-fn is_onto(ram: &Ram, found: &Found, to: &Place) -> bool
+fn is_onto(ram: &Ram, found: &NamedObjects, to: &Place) -> bool
     ensures { result ≡ is_onto ram.now found.now to.now }
 {
     is_file(one_entry(ram, found)) && !is_directory(ram.look(to))
 }
 
-// Whether there is an entry, and it is that of a file.
-fn is_file(there: Option<&Entry>) -> bool
-    ensures { result ≡ is_some_file (option_copied there.entry) }
-{
-    match there {
-        None => false,
-        Some(entry) => !entry.is_directory(),
-    }
-}
-
 // The entry at the source, if there is just one.
-fn one_entry<'a>(ram: &'a Ram, found: &Found) -> Option<&'a Entry>
+fn one_entry<'a>(ram: &'a Ram, found: &NamedObjects) -> Option<&'a Entry>
     ensures { option_copied result ≡ one_entry ram.now found.now }
 {
     if !found.is_literal() {

@@ -1,3 +1,4 @@
+// Delete: objects, and with ALL what is below them.
 ghost use Rattle.std.specs.Prelude.{◌≡◌, IfOk};
 ghost use Rattle.ados_find.specs.Effects.{effect_of};
 ghost use Rattle.ados_files.specs.Delete.{delete_manner, delete_one, targets, delete_place, delete_row};

@@ -2,9 +2,9 @@
 ghost use Rattle.std.specs.Prelude.{◌≡◌, ◌++◌, OnOk};
 ghost use Rattle.std.specs.List.{flat_map};
 ghost use Rattle.ados_assign.specs.Uses.{reached_devices};
-ghost use Rattle.ados_files.specs.Devices.{devices_of};
+ghost use Rattle.ados_files.specs.Devices.{devices_of, to_place};
 
-use crate::options::{LIST_TO, TYPE_TO};
+use crate::options::{COPY_TO, JOIN_TO, LIST_TO, RENAME_TO, SORT_TO, TYPE_TO};
 use ados_find::Shared;
 use ados_readargs::Args;
 use ados_resident::FilesCommand;
@@ -24,16 +24,23 @@ pub fn push_devices(
     ensures { OnOk result (used.new.items ≡ used.old.items ++ flat_map (reached_devices shared.now.assigns) (devices_of command args.now)) }
 {
     shared.push_devices_of(used, args.made_texts(alloc, 0)?.as_slice())?;
+    match to_place(command) {
+        None => Ok(()),
+        Some(place) => shared.push_devices_of(used, args.made_texts(alloc, place)?.as_slice()),
+    }
+}
+
+// The place of TO, if the command has it.
+fn to_place(command: FilesCommand) -> Option<usize>
+    ensures { result ≡ to_place command }
+{
     match command {
-        FilesCommand::Copy | FilesCommand::Join | FilesCommand::Rename | FilesCommand::Sort => {
-            shared.push_devices_of(used, args.made_texts(alloc, 1)?.as_slice())
-        }
-        FilesCommand::List => {
-            shared.push_devices_of(used, args.made_texts(alloc, LIST_TO)?.as_slice())
-        }
-        FilesCommand::Type => {
-            shared.push_devices_of(used, args.made_texts(alloc, TYPE_TO)?.as_slice())
-        }
-        _ => Ok(()),
+        FilesCommand::Copy => Some(COPY_TO),
+        FilesCommand::Join => Some(JOIN_TO),
+        FilesCommand::List => Some(LIST_TO),
+        FilesCommand::Rename => Some(RENAME_TO),
+        FilesCommand::Sort => Some(SORT_TO),
+        FilesCommand::Type => Some(TYPE_TO),
+        _ => None,
     }
 }

@@ -1,18 +1,19 @@
+// Dir: what is shown, and of which directories.
 ghost use Rattle.std.specs.Prelude.{◌≡◌, IfOk};
 ghost use Rattle.std.specs.Option.{option_copied};
 ghost use Rattle.ados_find.specs.Effects.{effect_of};
 ghost use Rattle.ados_find.specs.Paths.{Gives};
-ghost use Rattle.ados_files.specs.Dir.{choice_by, choice_of, dir_by, dir_effect, directories_given, dir_row, is_dir_letter, are_dir_letters};
+ghost use Rattle.ados_files.specs.Dir.{choice_by, choice_of, dir_by, dir_effect, directories_given, dir_row};
 
 use crate::bases::{all_children, entry_at};
 use crate::dir_lines::{Choice, dir_text};
+use crate::letters::{are_letters_of, has_letter, text_or_empty};
 use crate::options::{DIR_ALL, DIR_DIR, DIR_DIRS, DIR_FILES, DIR_INTER, DIR_OPT};
-use crate::protect::{has_letter, text_or_empty};
 use ados_assign::Places;
 use ados_find::{Codes, CommandResult, Outcome, Refusal, Shared, ShellView, bases_of};
 use ados_ram::{Place, list_refusal};
 use ados_readargs::Args;
-use ados_text::{Result2, Text, fold};
+use ados_text::{Result2, Text};
 use std::alloc::Global;
 
 /// Dir shows what is in a directory.
@@ -38,23 +39,10 @@ fn choice_of(args: &Args, letters: &[u8]) -> Result<Choice, Codes>
     if args.has_switch(DIR_INTER) || has_letter(b'i', letters) {
         return Err(Codes::erred(Result2::NOT_IMPLEMENTED));
     }
-    if !are_dir_letters(letters) {
+    if !are_letters_of(b"adf", letters) {
         return Err(Codes::failed(Result2::BAD_NUMBER));
     }
     Ok(choice_by(args, letters))
-}
-
-// Whether each is a letter of OPT.
-fn are_dir_letters(letters: &[u8]) -> bool
-    ensures { result ≡ are_dir_letters letters.now }
-{
-    letters.iter().all(|letter| is_dir_letter(*letter))
-}
-
-fn is_dir_letter(letter: u8) -> bool
-    ensures { result ≡ is_dir_letter letter }
-{
-    has_letter(fold(letter), b"adf")
 }
 
 fn choice_by(args: &Args, letters: &[u8]) -> Choice

@@ -1,10 +1,10 @@
 // How Type shows bytes: HEX and NUMBER.
 ghost use Rattle.std.specs.Prelude.{◌≡◌, ◌<◌, ◌+◌, ◌^◌, ◌++◌, map as each, IfOk, OnOk};
 ghost use Rattle.std.specs.Option.{option_copied};
-ghost use Rattle.ados_files.specs.Dumps.{hex_digit, hex_byte, hex_place, hex_or_blanks, hex_group, character_of, hex_line, hex_lines, hex_text, line_number, numbered_text};
+ghost use Rattle.std.proofs.Math.ListN.{replicate};
+ghost use Rattle.ados_files.specs.Dumps.{four_digits, hex_digit, hex_byte, hex_place, hex_or_blanks, hex_group, hex_groups, character_of, hex_line, hex_lines, hex_text, line_number, numbered_text};
 
-use crate::lines::{at_most, without};
-use ados_text::{NoMemory, Text, push_right};
+use ados_text::{NoMemory, Text, at_most, push_right, without};
 use std::alloc::Global;
 
 /// Appends the bytes of a file by HEX.
@@ -36,28 +36,52 @@ fn push_hex_lines(
 fn push_hex_line(output: &mut Vec<u8>, place: usize, bytes: &[u8]) -> Result<(), NoMemory>
     ensures { OnOk result (output.new.items ≡ output.old.items ++ hex_line place bytes.now) }
 {
-    output.extend_from_slice(&hex_place(place))?;
+    push_place(output, place)?;
     output.extend_from_slice(b": ")?;
-    push_group(output, bytes)?;
-    push_group(output, without(bytes, 4))?;
-    push_group(output, without(bytes, 8))?;
-    push_group(output, without(bytes, 12))?;
+    push_groups(output, bytes)?;
     output.extend_from_slice(b"    ")?;
     push_characters(output, bytes)?;
     output.push(b'\n')?;
     Ok(())
 }
 
-// The digits of a place in a file.
-fn hex_place(place: usize) -> [u8; 4]
-    ensures { result ≡ hex_place place }
+// Appends up to 16 bytes as four groups.
+#[tactic(auto, unfolding(crate::specs::Dumps::hex_groups))]
+fn push_groups(output: &mut Vec<u8>, bytes: &[u8]) -> Result<(), NoMemory>
+    ensures { OnOk result (output.new.items ≡ output.old.items ++ hex_groups bytes.now) }
 {
-    [
-        hex_digit(place / 4096 % 16),
-        hex_digit(place / 256 % 16),
-        hex_digit(place / 16 % 16),
-        hex_digit(place % 16),
-    ]
+    push_group(output, bytes)?;
+    push_group(output, without(bytes, 4))?;
+    push_group(output, without(bytes, 8))?;
+    push_group(output, without(bytes, 12))?;
+    Ok(())
+}
+
+// Appends a place in a file.
+fn push_place(output: &mut Vec<u8>, place: usize) -> Result<(), NoMemory>
+    ensures { OnOk result (output.new.items ≡ output.old.items ++ hex_place place) }
+{
+    let digits = format!(in *output.allocator(); "{place:X}")?;
+    push_four_digits(output, digits.as_bytes())
+}
+
+// Appends digits, with zeros before them up to four.
+#[tactic(auto, unfolding(crate::specs::Dumps::four_digits))]
+fn push_four_digits(output: &mut Vec<u8>, digits: &[u8]) -> Result<(), NoMemory>
+    ensures { OnOk result (output.new.items ≡ output.old.items ++ four_digits digits.now) }
+{
+    push_zeros(output, 4usize.saturating_sub(digits.len()))?;
+    output.extend_from_slice(digits)?;
+    Ok(())
+}
+
+fn push_zeros(output: &mut Vec<u8>, count: usize) -> Result<(), NoMemory>
+    ensures { OnOk result (output.new.items ≡ output.old.items ++ replicate count 48) }
+{
+    for _ in 0..count {
+        output.push(b'0')?;
+    }
+    Ok(())
 }
 
 // A number below 16 as a digit, in capitals.

@@ -1,3 +1,4 @@
+// Filenote: the comment of objects.
 ghost use Rattle.std.specs.Prelude.{◌≡◌, IfOk};
 ghost use Rattle.ados_find.specs.Effects.{effect_of};
 ghost use Rattle.ados_files.specs.Filenote.{comment_given, note_one, note_place, filenote_row};

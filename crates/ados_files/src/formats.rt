@@ -5,9 +5,8 @@ ghost use Rattle.ados_text.specs.Text.{fold_of};
 ghost use Rattle.ados_ram.specs.Entry.{size_of};
 ghost use Rattle.ados_files.specs.Formats.{part_named, parts_behind_sign, parts_from, slot_count, slot_part, without_slots, format_of, is_no_dot, behind_dot, stem_of, extension_of, part_text, format_line};
 
-use crate::lines::at_most;
 use ados_ram::Entry;
-use ados_text::{LINE_BYTES, NoMemory, Text, fold};
+use ados_text::{LINE_BYTES, NoMemory, Text, at_most, fold};
 use std::alloc::Global;
 use std::marker::Model;
 

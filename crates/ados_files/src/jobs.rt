@@ -1,11 +1,11 @@
-// The files that Copy copies.
+// What FROM of Copy, Rename and Search names; the files that Copy copies of that, with their paths below TO.
 ghost use Rattle.std.specs.Prelude.{◌≡◌, ◌++◌, ◌∷◌, [], drop, length, IfOk, OnOk};
 ghost use Rattle.std.specs.FinMap as map;
 ghost use Rattle.ados_ram.specs.Place.{key_of};
 ghost use Rattle.ados_ram.specs.Written.{written_place};
 ghost use Rattle.ados_find.specs.Paths.{Gives};
 
-use crate::names::{Found, named};
+use crate::names::{NamedObjects, named};
 use ados_find::{Lookup, Shared};
 use ados_ram::{Entry, Place, Ram, push_places};
 use ados_text::{NoMemory, Text};
@@ -38,7 +38,7 @@ pub fn sources_of(
     shared: &Shared,
     directory: &Place,
     texts: &[Text],
-) -> Lookup<Found>
+) -> Lookup<NamedObjects>
     ensures { Gives result (sources_of shared.now directory.now texts.now) }
 {
     match texts {
@@ -47,7 +47,12 @@ pub fn sources_of(
     }
 }
 
-fn gathered(alloc: Global, shared: &Shared, directory: &Place, texts: &[Text]) -> Lookup<Found>
+fn gathered(
+    alloc: Global,
+    shared: &Shared,
+    directory: &Place,
+    texts: &[Text],
+) -> Lookup<NamedObjects>
     ensures { Gives result (gathered_places shared.now directory.now texts.now) }
 {
     let mut places = Vec::new(alloc);
@@ -55,7 +60,7 @@ fn gathered(alloc: Global, shared: &Shared, directory: &Place, texts: &[Text]) -
         let found = named(alloc, shared, directory, text)?;
         push_places(&mut places, found.places())?;
     }
-    Ok(Found::several(places))
+    Ok(NamedObjects::several(places))
 }
 
 /// The files that sources stand for.

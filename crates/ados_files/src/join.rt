@@ -1,9 +1,11 @@
+// Join: files, one after the other, written to a file.
 ghost use Rattle.std.specs.Prelude.{◌≡◌, IfOk, OnOk};
 ghost use Rattle.ados_find.specs.Done.{done_of};
 ghost use Rattle.ados_find.specs.Effects.{effect_of};
 ghost use Rattle.ados_files.specs.Join.{write_one, write_read, join_to_target, join_row};
 
 use crate::acts::{Paths, at_path, done_with, go_on};
+use crate::options::{JOIN_FILE, JOIN_TO};
 use crate::type_files::{Printing, Typing};
 use ados_find::{Act, CommandResult, Outcome, Shared, ShellView, Work, current, each};
 use ados_ram::Place;
@@ -16,15 +18,15 @@ use std::{mem, slice};
 pub fn join_files(alloc: Global, shared: &Shared, view: &ShellView, args: &Args) -> CommandResult
     ensures { IfOk result (λ outcome. effect_of shared.now outcome ≡ join_row shared.now view.now args.now) }
 {
-    let Some(to) = args.made_text(alloc, 1)? else {
+    let Some(to) = args.made_text(alloc, JOIN_TO)? else {
         return Ok(Outcome::missing(alloc));
     };
-    let texts = args.made_texts(alloc, 0)?;
+    let texts = args.made_texts(alloc, JOIN_FILE)?;
     let act = Joining {
         view,
         texts: texts.as_slice(),
     };
-    done_with(alloc, shared, view, &act, slice::from_ref(&to))
+    done_with(alloc, shared, &act, slice::from_ref(&to))
 }
 
 /// The joining of files into one.

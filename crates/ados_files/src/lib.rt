@@ -1,5 +1,5 @@
 #![tactic(auto)]
-//! The commands on files: MakeDir, Delete, Rename, Copy, Type, Join, List, Dir, Protect, Filenote and Sort.
+//! The commands on files: MakeDir, Delete, Rename, Copy, Type, Join, List, Dir, Protect, Filenote, Search and Sort.
 
 mod acts;
 mod bases;
@@ -13,17 +13,22 @@ mod dir_lines;
 mod dumps;
 mod filenote;
 mod formats;
+mod gather;
+mod hits;
 mod jobs;
 mod join;
 mod laws;
+mod letters;
 mod lines;
 mod listing;
 mod make_dir;
 mod names;
 mod options;
+mod parts;
 mod protect;
 mod rename;
 mod rows;
+mod search;
 mod shapes;
 mod sort;
 mod sort_order;
@@ -31,5 +36,7 @@ mod spellings;
 mod type_files;
 
 pub use devices::push_devices;
-pub use laws::others_stay;
+pub use laws::{
+    hits_are_parts, options_have_their_places, others_stay, searched_files_are_those_of_copy,
+};
 pub use rows::{COMMANDS, run, template};

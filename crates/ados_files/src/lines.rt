@@ -1,5 +1,5 @@
 // Lines of a listing.
-ghost use Rattle.std.specs.Prelude.{◌≡◌, ℕ, List, Option, ◌++◌, ◌∷◌, [], take, drop, OnOk};
+ghost use Rattle.std.specs.Prelude.{◌≡◌, ℕ, List, Option, ◌++◌, ◌∷◌, [], OnOk};
 ghost use Rattle.std.specs.Option.{option_copied};
 ghost use Rattle.ados_text.specs.Columns.{right_aligned_text};
 ghost use Rattle.ados_ram.specs.Entry.{bits_text};
@@ -111,18 +111,4 @@ fn push_comment(output: &mut Vec<u8>, comment: &[u8]) -> Result<(), NoMemory>
         return Ok(());
     }
     put_between(output, b": ", comment, b"\n")
-}
-
-/// The bytes without the first of them.
-pub fn without(bytes: &[u8], count: usize) -> &[u8]
-    ensures { result.now ≡ drop count bytes.now }
-{
-    bytes.get(count..).unwrap_or(&[])
-}
-
-/// The first bytes, at most this many.
-pub fn at_most(bytes: &[u8], count: usize) -> &[u8]
-    ensures { result.now ≡ take count bytes.now }
-{
-    bytes.get(..count).unwrap_or(bytes)
 }

@@ -1,3 +1,4 @@
+// List: lines of objects, and of what is in directories.
 ghost use Rattle.std.specs.Prelude.{◌≡◌, ◌++◌, IfOk, OnOk, option_map};
 ghost use Rattle.std.specs.Option.{option_copied};
 ghost use Rattle.ados_readargs.specs.Args.{option_text};
@@ -12,13 +13,14 @@ ghost use Rattle.ados_files.specs.Listing.{entries_of, listed_places, list_text,
 
 use crate::acts::done_with;
 use crate::bases::{all_children, entry_at};
+use crate::below::object_count;
 use crate::formats::Format;
-use crate::names::{Found, named_bases, pattern_of};
+use crate::names::{NamedObjects, named_bases, pattern_of};
 use crate::options::{
     LIST_ALL, LIST_DIR, LIST_DIRS, LIST_FILES, LIST_LFORMAT, LIST_PAT, LIST_QUICK, LIST_SINCE,
     LIST_SUB, LIST_TO, LIST_UPTO, is_given,
 };
-use crate::shapes::{DEEPEST, Shape, Shown, push_group};
+use crate::shapes::{Shape, Shown, push_group};
 use crate::spellings::spelled_path;
 use ados_find::{
     Act, Codes, CommandResult, Outcome, Refusal, Shared, ShellView, Work, current, output_to,
@@ -50,15 +52,20 @@ fn list_printed(alloc: Global, shared: &Shared, view: &ShellView, args: &Args) -
     match pattern_given(alloc, pattern.as_ref()) {
         Err(refusal) => Ok(Outcome::answering(alloc, refusal.codes()?)),
         Ok(pattern) => {
-            let shape = shape_of(alloc, args, pattern)?;
+            let shape = shape_of(alloc, &shared.ram, args, pattern)?;
             let texts = args.made_texts(alloc, LIST_DIR)?;
             list_texts(alloc, shared, view, &shape, texts.as_slice())
         }
     }
 }
 
-fn shape_of(alloc: Global, args: &Args, pattern: Option<Pattern>) -> Result<Shape, NoMemory>
-    ensures { IfOk result (λ shape. shape ≡ shape_of args.now pattern) }
+fn shape_of(
+    alloc: Global,
+    ram: &Ram,
+    args: &Args,
+    pattern: Option<Pattern>,
+) -> Result<Shape, NoMemory>
+    ensures { IfOk result (λ shape. shape ≡ shape_of ram.now args.now pattern) }
 {
     Ok(Shape {
         pattern,
@@ -67,15 +74,15 @@ fn shape_of(alloc: Global, args: &Args, pattern: Option<Pattern>) -> Result<Shap
         files: args.has_switch(LIST_FILES),
         dirs: args.has_switch(LIST_DIRS),
         format: format_given(alloc, args)?,
-        depth: depth_of(args.has_switch(LIST_ALL)),
+        depth: depth_of(alloc, args.has_switch(LIST_ALL), ram)?,
     })
 }
 
 // How far below it looks: with ALL as far as there are objects.
-fn depth_of(all: bool) -> usize
-    ensures { result ≡ depth_of all }
+fn depth_of(alloc: Global, all: bool, ram: &Ram) -> Result<usize, NoMemory>
+    ensures { IfOk result (λ depth. depth ≡ depth_of all ram.now) }
 {
-    if all { DEEPEST } else { 0 }
+    if all { object_count(alloc, ram) } else { Ok(0) }
 }
 
 // The format of LFORMAT, if it is given.
@@ -111,9 +118,9 @@ fn list_texts(
 {
     if texts.is_empty() {
         let here = slice::from_ref(view.directory);
-        return done_with(alloc, shared, view, &ListingAt { shape }, here);
+        return done_with(alloc, shared, &ListingAt { shape }, here);
     }
-    done_with(alloc, shared, view, &Listing { shape, view }, texts)
+    done_with(alloc, shared, &Listing { shape, view }, texts)
 }
 
 /// The listing of what an argument names.
@@ -183,7 +190,7 @@ fn push_listed(
 }
 
 // What is listed for an argument.
-fn listed(alloc: Global, ram: &Ram, found: &Found) -> Result<Vec<Place>, NoMemory>
+fn listed(alloc: Global, ram: &Ram, found: &NamedObjects) -> Result<Vec<Place>, NoMemory>
     ensures { IfOk result (λ places. places.items ≡ listed_places ram.now found.now) }
 {
     if found.is_literal() {

@@ -1,8 +1,10 @@
+// MakeDir.
 ghost use Rattle.std.specs.Prelude.{◌≡◌, IfOk};
 ghost use Rattle.ados_find.specs.Effects.{effect_of};
 ghost use Rattle.ados_files.specs.MakeDir.{make_one, make_dir_row};
 
 use crate::acts::{Paths, done_with, go_on};
+use crate::options::MAKE_DIR_NAME;
 use ados_find::{Act, CommandResult, Outcome, Shared, ShellView, Work, current};
 use ados_ram::Place;
 use ados_readargs::Args;
@@ -13,12 +15,12 @@ use std::alloc::Global;
 pub fn make_dir(alloc: Global, shared: &Shared, view: &ShellView, args: &Args) -> CommandResult
     ensures { IfOk result (λ outcome. effect_of shared.now outcome ≡ make_dir_row shared.now view.now args.now) }
 {
-    let texts = args.made_texts(alloc, 0)?;
+    let texts = args.made_texts(alloc, MAKE_DIR_NAME)?;
     let texts = texts.as_slice();
     if texts.is_empty() {
         return Ok(Outcome::missing(alloc));
     }
-    done_with(alloc, shared, view, &Paths { act: &Making, view }, texts)
+    done_with(alloc, shared, &Paths { act: &Making, view }, texts)
 }
 
 /// The creation of one directory.

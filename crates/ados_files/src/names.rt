@@ -16,12 +16,12 @@ use std::marker::Model;
 
 /// The objects that an argument names.
 #[derive(Drop)]
-pub struct Found {
+pub struct NamedObjects {
     literal: bool,
     places: Vec<Place>,
 }
 
-impl Model for Found {
+impl Model for NamedObjects {
     ghost use Rattle.ados_files.specs.Names.{FoundPlaces};
 
     ghost Value = { FoundPlaces };
@@ -31,13 +31,13 @@ impl Model for Found {
 
 ghost use Rattle.ados_files.specs.Names.{pattern_of, matches_form, matching_places, some_matches, directory_matches, matches_at, the_one, single_match, bases_at, places_by_form, directory_part, piece_of, named_places, named_bases};
 
-impl Found {
+impl NamedObjects {
     /// Several objects.
-    pub fn several(places: Vec<Place>) -> Found
+    pub fn several(places: Vec<Place>) -> NamedObjects
         ensures literal { result.literal ≡ false }
         ensures places { result.places ≡ places.items }
     {
-        Found {
+        NamedObjects {
             literal: false,
             places,
         }
@@ -63,7 +63,7 @@ impl Found {
 /// 210 and 120 for a last piece that is not a pattern, and 210 for a text that is not a path. A literal path has the
 /// refusals of resolving, and 205 if there is nothing; a pattern has those of resolving its directory, then 204 and 212
 /// if there is no such directory, and 205 as a warning if nothing matches.
-pub fn named(alloc: Global, shared: &Shared, directory: &Place, text: &Text) -> Lookup<Found>
+pub fn named(alloc: Global, shared: &Shared, directory: &Place, text: &Text) -> Lookup<NamedObjects>
     ensures { Gives result (named_places shared.now directory.now text.now) }
 {
     let head = directory_part(text)?;
@@ -72,7 +72,12 @@ pub fn named(alloc: Global, shared: &Shared, directory: &Place, text: &Text) -> 
 }
 
 /// The same, with all directories of a literal path that stands for several, as a device alone does.
-pub fn named_bases(alloc: Global, shared: &Shared, directory: &Place, text: &Text) -> Lookup<Found>
+pub fn named_bases(
+    alloc: Global,
+    shared: &Shared,
+    directory: &Place,
+    text: &Text,
+) -> Lookup<NamedObjects>
     ensures { Gives result (named_bases shared.now directory.now text.now) }
 {
     let head = directory_part(text)?;
@@ -118,7 +123,7 @@ fn named_by(
     directory: &Place,
     head: &Text,
     pattern: &Pattern,
-) -> Lookup<Found>
+) -> Lookup<NamedObjects>
     ensures { Gives result (places_by_form shared.now directory.now head.now pattern.now.form pattern.now.name) }
 {
     match pattern.literal() {
@@ -134,7 +139,7 @@ fn matches_at(
     directory: &Place,
     head: &Text,
     pattern: &Pattern,
-) -> Lookup<Found>
+) -> Lookup<NamedObjects>
     ensures { Gives result (if_found Err (bases_of shared.now directory.now head.now) (matches_at pattern.now.form shared.now.files)) }
 {
     let bases = bases_of(alloc, shared, directory, head)?;
@@ -142,13 +147,13 @@ fn matches_at(
 }
 
 // The directories for which a path stands, or the one place to which it leads.
-fn bases_at(alloc: Global, shared: &Shared, directory: &Place, path: &Text) -> Lookup<Found>
+fn bases_at(alloc: Global, shared: &Shared, directory: &Place, path: &Text) -> Lookup<NamedObjects>
     ensures { Gives result (if_found Err (bases_of shared.now directory.now path.now) (bases_at shared.now.files)) }
 {
     let bases = bases_of(alloc, shared, directory, path)?;
     match entry_at(&shared.ram, bases.as_slice()) {
         None => Err(Refusal::Stopped(Codes::erred(Result2::OBJECT_NOT_FOUND))),
-        Some(_) => Ok(Found {
+        Some(_) => Ok(NamedObjects {
             literal: true,
             places: bases.into_vec(),
         }),
@@ -156,7 +161,12 @@ fn bases_at(alloc: Global, shared: &Shared, directory: &Place, path: &Text) -> L
 }
 
 // The one object to which a path leads.
-fn single_match(alloc: Global, shared: &Shared, directory: &Place, path: &Text) -> Lookup<Found>
+fn single_match(
+    alloc: Global,
+    shared: &Shared,
+    directory: &Place,
+    path: &Text,
+) -> Lookup<NamedObjects>
     ensures { Gives result (if_found Err (place_of shared.now directory.now path.now) (single_match shared.now.files)) }
 {
     let place = place_of(alloc, shared, directory, path)?;
@@ -164,12 +174,12 @@ fn single_match(alloc: Global, shared: &Shared, directory: &Place, path: &Text) 
 }
 
 // The one object at a place.
-fn the_one(alloc: Global, place: &Place, there: Option<&Entry>) -> Result<Found, Refusal>
+fn the_one(alloc: Global, place: &Place, there: Option<&Entry>) -> Result<NamedObjects, Refusal>
     ensures { Gives result (the_one place.now (option_copied there.entry)) }
 {
     match there {
         None => Err(Refusal::Stopped(Codes::erred(Result2::OBJECT_NOT_FOUND))),
-        Some(_) => Ok(Found {
+        Some(_) => Ok(NamedObjects {
             literal: true,
             places: only(alloc, place)?,
         }),
@@ -191,7 +201,7 @@ fn directory_matches(
     pattern: &Pattern,
     ram: &Ram,
     bases: &[Place],
-) -> Result<Found, Refusal>
+) -> Result<NamedObjects, Refusal>
     ensures { Gives result (directory_matches pattern.now.form ram.now bases.now (entry_at ram.now bases.now)) }
 {
     match entry_at(ram, bases) {
@@ -235,11 +245,11 @@ fn wants(pattern: &Pattern, there: Option<&Entry>) -> Result<bool, NoMemory>
 }
 
 // Reports a warning if nothing matches.
-fn some_matches(places: Vec<Place>) -> Result<Found, Refusal>
+fn some_matches(places: Vec<Place>) -> Result<NamedObjects, Refusal>
     ensures { Gives result (some_matches places.items) }
 {
     if places.is_empty() {
         return Err(Refusal::Stopped(Codes::warned(Result2::OBJECT_NOT_FOUND)));
     }
-    Ok(Found::several(places))
+    Ok(NamedObjects::several(places))
 }

@@ -1,14 +1,16 @@
+// Protect: the bits of objects.
 ghost use Rattle.std.specs.Prelude.{◌≡◌, IfOk};
-ghost use Rattle.std.specs.Option.{option_copied, option_map};
+ghost use Rattle.std.specs.Option.{option_copied};
 ghost use Rattle.ados_find.specs.Effects.{effect_of};
 
 use crate::acts::{done_with_named, go_on};
 use crate::below::objects_of;
+use crate::letters::{are_letters_of, has_letter, text_or_empty};
 use crate::options::{PROTECT_ADD, PROTECT_ALL, PROTECT_FILE, PROTECT_FLAGS, PROTECT_SUB};
 use ados_find::{Act, Codes, CommandResult, Outcome, Shared, ShellView, Work, current, each};
 use ados_ram::{Bits, Entry, Place};
 use ados_readargs::Args;
-use ados_text::{NoMemory, Result2, fold};
+use ados_text::{NoMemory, Result2};
 use std::alloc::Global;
 
 /// How the given bits change those of an object.
@@ -26,9 +28,8 @@ pub struct Change {
     pub bits: Bits,
 }
 
-ghost use Rattle.ados_files.specs.Protect.{begins_with, flag_letters, has_letter, bits_of, is_letter, are_letters, way_of, change_of};
+ghost use Rattle.ados_files.specs.Protect.{begins_with, flag_letters, bits_of, way_of, change_of};
 ghost use Rattle.ados_files.specs.Protect.{changed_bit, changed_bits, object_bits, protect_one, protect_place, protect_row};
-ghost use Rattle.ados_files.specs.Texts.{text_or_empty};
 
 /// Protect changes the bits of objects.
 pub fn protect(alloc: Global, shared: &Shared, view: &ShellView, args: &Args) -> CommandResult
@@ -50,22 +51,12 @@ pub fn protect(alloc: Global, shared: &Shared, view: &ShellView, args: &Args) ->
     }
 }
 
-/// The given text, or the empty one.
-pub fn text_or_empty(text: Option<&[u8]>) -> &[u8]
-    ensures { result.now ≡ text_or_empty (option_map (λ t. t.now) text.entry) }
-{
-    match text {
-        None => &[],
-        Some(text) => text,
-    }
-}
-
 // The change that the flags and the switches ask for.
 fn change_of(flags: &[u8], add: bool, sub: bool) -> Result<Change, Result2>
     ensures { result ≡ change_of flags.now add sub }
 {
     let letters = flag_letters(flags);
-    if !are_letters(letters) {
+    if !are_letters_of(b"hsparwed", letters) {
         return Err(Result2::BAD_NUMBER);
     }
     match way_of(
@@ -110,26 +101,6 @@ fn flag_letters(flags: &[u8]) -> &[u8]
     } else {
         flags
     }
-}
-
-// Whether each is the letter of a bit.
-fn are_letters(letters: &[u8]) -> bool
-    ensures { result ≡ are_letters letters.now }
-{
-    letters.iter().all(|letter| is_letter(*letter))
-}
-
-fn is_letter(letter: u8) -> bool
-    ensures { result ≡ is_letter letter }
-{
-    has_letter(fold(letter), b"hsparwed")
-}
-
-/// Whether the letter is among others, with case ignored.
-pub fn has_letter(letter: u8, letters: &[u8]) -> bool
-    ensures { result ≡ has_letter letter letters.now }
-{
-    letters.iter().any(|other| fold(*other) == letter)
 }
 
 fn bits_of(letters: &[u8]) -> Bits

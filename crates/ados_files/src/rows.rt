@@ -11,7 +11,8 @@ use crate::join::join_files;
 use crate::listing::list;
 use crate::make_dir::make_dir;
 use crate::protect::protect;
-use crate::rename::rename_object;
+use crate::rename::rename_objects;
+use crate::search::search;
 use crate::sort::sort;
 use crate::type_files::type_files;
 use ados_find::{CommandResult, Shared, ShellView};
@@ -20,7 +21,7 @@ use ados_resident::{Builtin, Dialect, FilesCommand};
 use std::alloc::Global;
 
 /// The commands of this crate, in the order in which they are declared.
-pub const COMMANDS: [Builtin; 11] = [
+pub const COMMANDS: [Builtin; 12] = [
     Builtin::Files(FilesCommand::Copy),
     Builtin::Files(FilesCommand::Delete),
     Builtin::Files(FilesCommand::Dir),
@@ -30,6 +31,7 @@ pub const COMMANDS: [Builtin; 11] = [
     Builtin::Files(FilesCommand::MakeDir),
     Builtin::Files(FilesCommand::Protect),
     Builtin::Files(FilesCommand::Rename),
+    Builtin::Files(FilesCommand::Search),
     Builtin::Files(FilesCommand::Sort),
     Builtin::Files(FilesCommand::Type),
 ];
@@ -44,7 +46,7 @@ pub fn template(dialect: Dialect, command: FilesCommand) -> &'static str
     }
 }
 
-/// The text of a command's template in Core, and that of Sort, which Full alone has.
+/// The text of a command's template in Core, and those of Search and Sort, which Full alone has.
 fn core_template(command: FilesCommand) -> &'static str
     ensures { result.now ≡ core_template_of command }
 {
@@ -58,6 +60,7 @@ fn core_template(command: FilesCommand) -> &'static str
         FilesCommand::MakeDir => "NAME/M",
         FilesCommand::Protect => "FILE/A,FLAGS,ADD/S,SUB/S",
         FilesCommand::Rename => "FROM/A,TO=AS/A",
+        FilesCommand::Search => "FROM/M,SEARCH/A,ALL/S,NONUM/S,QUIET/S,QUICK/S,FILE/S,PATTERN/S",
         FilesCommand::Sort => "FROM/A,TO/A,COLSTART/K/N,CASE/S,NUMERIC/S",
         FilesCommand::Type => "FROM/A/M",
     }
@@ -76,8 +79,9 @@ fn full_template(command: FilesCommand) -> &'static str
         FilesCommand::List =>
             "DIR/M,P=PAT/K,QUICK/S,FILES/S,DIRS/S,TO/K,SUB/K,LFORMAT/K,ALL/S,KEYS/S,DATES/S,NODATES/S,BLOCK/S,NOHEAD/S,SINCE/K,UPTO/K",
         FilesCommand::Protect => "FILE/A,FLAGS,ADD/S,SUB/S,ALL/S,QUIET/S",
+        FilesCommand::Rename => "FROM/A/M,TO=AS/A,QUIET/S",
         FilesCommand::Type => "FROM/A/M,TO/K,HEX/S,NUMBER/S,OPT/K",
-        FilesCommand::Join | FilesCommand::MakeDir | FilesCommand::Rename | FilesCommand::Sort =>
+        FilesCommand::Join | FilesCommand::MakeDir | FilesCommand::Search | FilesCommand::Sort =>
             core_template(command),
     }
 }
@@ -101,7 +105,8 @@ pub fn run(
         FilesCommand::List => list(alloc, shared, view, args),
         FilesCommand::MakeDir => make_dir(alloc, shared, view, args),
         FilesCommand::Protect => protect(alloc, shared, view, args),
-        FilesCommand::Rename => rename_object(alloc, shared, view, args),
+        FilesCommand::Rename => rename_objects(alloc, shared, view, args),
+        FilesCommand::Search => search(alloc, shared, view, args),
         FilesCommand::Sort => sort(alloc, shared, view, args),
         FilesCommand::Type => type_files(alloc, shared, view, args),
     }

@@ -5,12 +5,10 @@ ghost use Rattle.std.specs.Option.{option_copied};
 
 use crate::formats::Format;
 use crate::lines::{Line, keeps, push_line, push_lines};
+use crate::parts::stands_in;
 use ados_pattern::Pattern;
 use ados_ram::{Entry, Place, Ram};
-use ados_text::{NoMemory, Text, same_name};
-
-/// ALL shows what is below a directory down to this depth: there are no more objects in any dialect.
-pub const DEEPEST: usize = 65_536;
+use ados_text::{NoMemory, Text};
 
 /// What List shows: the names that match a pattern, those in which a text stands, the name alone, files, directories, a
 /// line by LFORMAT; and how far below what its arguments stand for it looks.
@@ -25,7 +23,7 @@ pub struct Shape {
     pub depth: usize,
 }
 
-ghost use Rattle.ados_files.specs.Shapes.{passes, begins_with, stands_in, has_part, is_selected, plain_line, kept_line, line_by_shape, directory_lines, group_lines};
+ghost use Rattle.ados_files.specs.Shapes.{passes, has_part, is_selected, plain_line, kept_line, line_by_shape, directory_lines, group_lines};
 
 /// The lines of objects, given the path before their names.
 #[derive(Drop)]
@@ -147,22 +145,6 @@ fn has_part(part: Option<&Text>, entry: &Entry) -> bool
         None => true,
         Some(part) => stands_in(part.as_bytes(), entry.name.text().as_bytes()),
     }
-}
-
-// Whether a text stands in another; case is ignored.
-fn stands_in(part: &[u8], text: &[u8]) -> bool
-    ensures { result ≡ stands_in part.now text.now }
-{
-    match text.split_first() {
-        None => begins_with(part, text),
-        Some((_, rest)) => begins_with(part, text) || stands_in(part, rest),
-    }
-}
-
-fn begins_with(part: &[u8], text: &[u8]) -> bool
-    ensures { result ≡ begins_with part.now text.now }
-{
-    same_name(part, text.get(..part.len()).unwrap_or(text))
 }
 
 fn passes(pattern: &Option<Pattern>, entry: &Entry) -> Result<bool, NoMemory>

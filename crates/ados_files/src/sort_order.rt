@@ -3,11 +3,10 @@ ghost use Rattle.std.specs.Prelude.{◌≡◌, ◌<◌, ◌≤◌, length, posit
 ghost use Rattle.std.specs.Cmp.Lexicographic.{slice_cmp};
 ghost use Rattle.std.specs.List.Sorted.{IsPermutation, IsSortedBy, IsStableBy};
 ghost use Rattle.std.specs.Ordering.{nat_cmp};
-ghost use Rattle.ados_text.specs.Text.{folded_text};
-ghost use Rattle.ados_files.specs.SortOrder.{digit_count, is_before, is_no_digit, leading_number, line_cmp, number_key, number_text, part_of, plain_lines, sign_count, sorted_lines, text_key};
+ghost use Rattle.ados_text.specs.Lines.{is_newline};
+ghost use Rattle.ados_files.specs.SortOrder.{digit_count, is_before, is_no_digit, leading_number, line_cmp, line_len, number_key, number_text, part_of, plain_lines, sign_count, sorted_lines, text_key};
 
-use crate::lines::{at_most, without};
-use ados_text::{NoMemory, Octets, bounded_number, fold};
+use ados_text::{NoMemory, Octets, at_most, bounded_number, name_order, without};
 use std::alloc::Global;
 use std::cmp::Ordering;
 use std::mem;
@@ -43,6 +42,26 @@ pub fn plain_lines(alloc: Global, bytes: &[u8]) -> Result<Vec<Octets>, NoMemory>
     Ok(lines)
 }
 
+/// How many bytes the first line of some bytes has.
+#[tactic(auto, using(crate::proofs::PlainLines::up_to_newline, crate::proofs::PlainLines::line_fits))]
+pub fn line_len(bytes: &[u8]) -> usize
+    ensures value { result ≡ line_len bytes.now }
+    ensures within { result ≤ length bytes.now }
+{
+    match newline(bytes) {
+        None => bytes.len(),
+        Some(place) => place,
+    }
+}
+
+// The place of the first newline.
+fn newline(bytes: &[u8]) -> Option<usize>
+    ensures place { result ≡ position is_newline bytes.now }
+    ensures within { IfSome result (λ place. place < length bytes.now) }
+{
+    bytes.iter().position(|byte| *byte == b'\n')
+}
+
 /// Puts lines in an order. Lines of which neither comes before the other stay as they stood.
 pub fn sort_lines(order: SortOrder, lines: &mut Vec<Octets>) -> Result<(), NoMemory>
     ensures value { OnOk result (lines.new.items ≡ sorted_lines order lines.old.items) }
@@ -70,7 +89,7 @@ impl SortOrder {
         if self.case {
             self.part_of(a).cmp(self.part_of(b))
         } else {
-            compare_folded(self.part_of(a), self.part_of(b))
+            name_order(self.part_of(a), self.part_of(b))
         }
     }
 
@@ -91,14 +110,6 @@ impl SortOrder {
     {
         without(line, self.before)
     }
-}
-
-// Compares bytes with case ignored.
-fn compare_folded(a: &[u8], b: &[u8]) -> Ordering
-    ensures { result ≡ slice_cmp nat_cmp (folded_text a.now) (folded_text b.now) }
-{
-    let other = b.iter().map(|byte| fold(*byte));
-    a.iter().map(|byte| fold(*byte)).cmp(other)
 }
 
 // The number with which a text begins; 0 if it begins with none.

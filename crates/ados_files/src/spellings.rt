@@ -3,14 +3,19 @@ ghost use Rattle.std.specs.Prelude.{◌≡◌, IfOk};
 ghost use Rattle.ados_files.specs.Spellings.{path_inside, path_before, spelled_path};
 
 use crate::bases::entry_at;
-use crate::names::{Found, directory_part, piece_of};
+use crate::names::{NamedObjects, directory_part, piece_of};
 use ados_ram::Ram;
 use ados_text::{NoMemory, Text};
 use std::alloc::Global;
 
 /// The path before the names of what is listed for an argument, given what it names: that of a directory with a slash
 /// where it needs one, that of another object without its last piece, and that before a pattern.
-pub fn spelled_path(alloc: Global, ram: &Ram, text: &Text, found: &Found) -> Result<Text, NoMemory>
+pub fn spelled_path(
+    alloc: Global,
+    ram: &Ram,
+    text: &Text,
+    found: &NamedObjects,
+) -> Result<Text, NoMemory>
     ensures { IfOk result (λ path. path ≡ spelled_path ram.now text.now found.now) }
 {
     if !found.is_literal() {

@@ -1,15 +1,12 @@
 // Type: the bytes of files, unchanged or by HEX or NUMBER.
 ghost use Rattle.std.specs.Prelude.{◌≡◌, ◌++◌, IfOk, OnOk};
-ghost use Rattle.std.specs.List.{list_all, list_any};
-ghost use Rattle.ados_readargs.specs.Args.{option_text};
 ghost use Rattle.ados_find.specs.Effects.{effect_of};
 ghost use Rattle.ados_find.specs.Paths.{Gives};
-ghost use Rattle.ados_files.specs.Texts.{text_or_empty};
-ghost use Rattle.ados_files.specs.declared.options.TheConstants.{TYPE_OPT};
-ghost use Rattle.ados_files.specs.TypeFiles.{file_text, type_one, all_text, type_printed, is_letter, is_type_letter, is_asked, printing_by, printing_of, type_by_options, type_row};
+ghost use Rattle.ados_files.specs.TypeFiles.{file_text, type_one, all_text, type_printed, is_asked, printing_by, printing_of, type_by_options, type_row};
 
 use crate::acts::Names;
 use crate::dumps::{numbered, push_hex};
+use crate::letters::{are_letters_of, has_letter, text_or_empty};
 use crate::options::{TYPE_FROM, TYPE_HEX, TYPE_NUMBER, TYPE_OPT, TYPE_TO};
 use ados_find::{
     Act, Codes, CommandResult, Lookup, Outcome, Refusal, Shared, ShellView, Work, current, each,
@@ -17,7 +14,7 @@ use ados_find::{
 };
 use ados_ram::{FileBytes, Place};
 use ados_readargs::Args;
-use ados_text::{NoMemory, Result2, Text, fold};
+use ados_text::{NoMemory, Result2, Text};
 use std::alloc::Global;
 use std::mem;
 
@@ -45,8 +42,7 @@ pub fn type_files(alloc: Global, shared: &Shared, view: &ShellView, args: &Args)
 fn type_by_options(alloc: Global, shared: &Shared, view: &ShellView, args: &Args) -> CommandResult
     ensures { IfOk result (λ outcome. effect_of shared.now outcome ≡ type_by_options shared.now view.now args.now) }
 {
-    let letters = letters_given(alloc, args)?;
-    match printing_of(args, letters.as_bytes()) {
+    match printing_of(args, text_or_empty(args.text(TYPE_OPT))) {
         Err(refusal) => Ok(Outcome::answering(alloc, refusal.codes()?)),
         Ok(printing) => {
             let texts = args.made_texts(alloc, TYPE_FROM)?;
@@ -55,20 +51,10 @@ fn type_by_options(alloc: Global, shared: &Shared, view: &ShellView, args: &Args
     }
 }
 
-// The letters of OPT.
-fn letters_given(alloc: Global, args: &Args) -> Result<Text, NoMemory>
-    ensures { IfOk result (λ letters. letters ≡ text_or_empty (option_text args.now TYPE_OPT)) }
-{
-    match args.made_text(alloc, TYPE_OPT)? {
-        None => Ok(Text::new(alloc)),
-        Some(text) => Ok(text),
-    }
-}
-
 fn printing_of(args: &Args, letters: &[u8]) -> Lookup<Printing>
     ensures { Gives result (printing_of args.now letters.now) }
 {
-    if !are_type_letters(letters) {
+    if !are_letters_of(b"hn", letters) {
         return Err(Refusal::Stopped(Codes::failed(Result2::BAD_NUMBER)));
     }
     printing_by(
@@ -77,31 +63,11 @@ fn printing_of(args: &Args, letters: &[u8]) -> Lookup<Printing>
     )
 }
 
-fn are_type_letters(letters: &[u8]) -> bool
-    ensures { result ≡ list_all is_type_letter letters.now }
-{
-    letters.iter().all(|byte| is_type_letter(*byte))
-}
-
 // Whether a switch is given, or its letter in OPT.
 fn is_asked(args: &Args, place: usize, letters: &[u8], letter: u8) -> bool
     ensures { result ≡ is_asked args.now place letters.now letter }
 {
-    args.has_switch(place) || has_letter(letters, letter)
-}
-
-fn is_type_letter(byte: u8) -> bool
-    ensures { result ≡ is_type_letter byte }
-{
-    let letter = fold(byte);
-    letter == b'h' || letter == b'n'
-}
-
-// Whether a letter is among those of OPT, in either case.
-fn has_letter(letters: &[u8], letter: u8) -> bool
-    ensures { result ≡ list_any (is_letter letter) letters.now }
-{
-    letters.iter().any(|byte| fold(*byte) == letter)
+    args.has_switch(place) || has_letter(letter, letters)
 }
 
 fn printing_by(hex: bool, numbered: bool) -> Lookup<Printing>
@@ -170,8 +136,8 @@ fn push_file(output: &mut Vec<u8>, printing: Printing, bytes: &FileBytes) -> Res
     match printing {
         Printing::Plain | Printing::Numbered => bytes.push_to(output),
         Printing::Hex => {
-            let row = bytes.to_vec(*output.allocator())?;
-            push_hex(output, &row)
+            let bytes = bytes.to_vec(*output.allocator())?;
+            push_hex(output, &bytes)
         }
     }
 }

@@ -25,7 +25,7 @@ mod work;
 
 pub use changes::Change;
 pub use codes::Codes;
-pub use outcomes::{Breaking, Breaks, CommandResult, Outcome, Renamed};
+pub use outcomes::{Breaking, Breaks, CommandResult, Outcome, Renamed, Renames};
 pub use output_file::output_to;
 pub use paths::{bases_of, place_of};
 pub use program_files::{entry_program, program_of};

@@ -23,7 +23,6 @@ use Rattle.ados_find.specs.Views.{View}
 use Rattle.ados_flow.specs.CodeRule.{is_reached}
 use Rattle.ados_flow.specs.declared.conditions.Test.{Test}
 use Rattle.ados_flow.specs.declared.conditions.Test.TheVariants.{Warn, Error, Fail, Equal, Greater, GreaterOrEqual, Exists}
-use Rattle.ados_flow.specs.declared.conditions.TheConstants.Test.{ALL}
 
 -- the arguments ask for a test, by WARN, ERROR, FAIL, EQ, GT, GE or EXISTS
 abbrev pub is_given : List Arg → Test → Bool
@@ -43,7 +42,7 @@ single_test (test ∷ more ∷ tests) = Err (fail_codes TOO_MANY_ARGUMENTS)
 
 -- the test that the arguments ask for
 abbrev pub test_of : List Arg → Result Test Codes
-test_of args = single_test (filter (is_given args) ALL)
+test_of args = single_test (filter (is_given args) (Warn ∷ Error ∷ Fail ∷ Equal ∷ Greater ∷ GreaterOrEqual ∷ Exists ∷ []))
 
 -- the order of two numbers
 abbrev pub order_of_numbers : Option ℤ → Option ℤ → Result Ordering Codes

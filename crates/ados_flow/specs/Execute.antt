@@ -6,7 +6,7 @@ use Rattle.ados_text.specs.Lines.{lines_of}
 use Rattle.ados_text.specs.Text.{Bytes, Text}
 use Rattle.ados_text.specs.declared.codes.Result2.{Result2}
 use Rattle.ados_text.specs.declared.codes.TheConstants.Result2.{NO_FREE_STORE}
-use Rattle.ados_text.specs.declared.errors.NoMemory.{NoMemory}
+use Rattle.std.specs.declared.alloc.AllocError.{AllocError as NoMemory}
 use Rattle.ados_ram.specs.Place.{Place, key_of}
 use Rattle.ados_ram.specs.FileOperations.{read_result}
 use Rattle.ados_ram.specs.Written.{full_path}

@@ -1,3 +1,4 @@
+// What a command of control flow does to its shell.
 ghost use Rattle.std.specs.Prelude.{◌≡◌};
 
 use crate::called::Called;

@@ -1,8 +1,6 @@
 // The conditions of If. A number is the index of an option in If's template (src/rows.rt), from 0.
 ghost use Rattle.std.specs.Prelude.{◌≡◌, ◌++◌, Err, IfOk, filter, option_to_list};
 ghost use Rattle.std.specs.Option.{option_map};
-ghost use Rattle.ados_text.specs.Name.{name_cmp};
-ghost use Rattle.ados_text.specs.Text.{folded_text};
 ghost use Rattle.ados_find.specs.Codes.{fail_codes};
 ghost use Rattle.ados_find.specs.Paths.{Gives, place_of};
 ghost use Rattle.ados_readargs.specs.Args.{option_text};
@@ -11,7 +9,7 @@ ghost use Rattle.ados_flow.specs.Conditions.{exists, code_reaches, is_given, pla
 use crate::code_rule::is_reached;
 use ados_find::{Codes, Refusal, Shared, ShellView, place_of};
 use ados_readargs::Args;
-use ados_text::{Code, NoMemory, Result2, Text, bounded_number, fold};
+use ados_text::{Code, NoMemory, Result2, Text, bounded_number, name_order};
 use std::alloc::Global;
 use std::cmp::Ordering;
 
@@ -157,15 +155,8 @@ fn order_of(by_value: bool, left: &[u8], right: &[u8]) -> Result<Ordering, Refus
             _ => refused(Result2::BAD_NUMBER),
         }
     } else {
-        Ok(word_order(left, right))
+        Ok(name_order(left, right))
     }
-}
-
-fn word_order(left: &[u8], right: &[u8]) -> Ordering
-    ensures { result ≡ name_cmp (folded_text left.now) (folded_text right.now) }
-{
-    let right = right.iter().map(|byte| fold(*byte));
-    left.iter().map(|byte| fold(*byte)).cmp(right)
 }
 
 // The path of EXISTS leads to an object.

@@ -1,3 +1,4 @@
+// The kinds of frames: a script, the commands of a Run, a command substitution.
 use ados_text::Text;
 
 /// What a frame is.

@@ -12,6 +12,7 @@ mod execute;
 mod frames;
 mod gathering;
 mod kinds;
+mod laws;
 mod quit;
 mod reads;
 mod records;
@@ -29,6 +30,7 @@ pub use gathering::{
     Gathered, RUN_LIMIT, before_plus, gather, has_no_command, number_line, without_plus,
 };
 pub use kinds::FrameKind;
+pub use laws::options_have_their_places;
 pub use reads::reads_in_use;
 pub use records::Record;
 pub use rows::{COMMANDS, run, template};

@@ -30,11 +30,11 @@ use Rattle.ados_machine.specs.declared.events.Event.TheVariants.{Typed, Turn, An
 use Rattle.ados_machine.specs.declared.events.BreakKind.{BreakKind}
 use Rattle.ados_launch.specs.Schedule.{has_open_input}
 
-first-carried : (moved : Option Renamed) (shells : List (Option ShellState)) → is_some (option_flatten (slice_get shells 0)) ≡ true → is_some (option_flatten (slice_get (carried_shells moved shells) 0)) ≡ true
-first-carried None shells e = e
-first-carried (Some moved) [] e = e
-first-carried (Some moved) (None ∷ shells) e = e
-first-carried (Some moved) (Some shell ∷ shells) e = refl
+first-carried : (moved : List Renamed) (shells : List (Option ShellState)) → is_some (option_flatten (slice_get shells 0)) ≡ true → is_some (option_flatten (slice_get (carried_shells moved shells) 0)) ≡ true
+first-carried [] shells e = e
+first-carried (moved ∷ more) [] e = e
+first-carried (moved ∷ more) (None ∷ shells) e = e
+first-carried (moved ∷ more) (Some shell ∷ shells) e = refl
 
 first-set : (shells : List (Option ShellState)) (i : ℕ) (shell : ShellState) → is_some (option_flatten (slice_get shells 0)) ≡ true → is_some (option_flatten (slice_get (slice_set shells i (Some shell)) 0)) ≡ true
 first-set [] i shell e = cc
@@ -73,7 +73,7 @@ first-replaced (found ∷ shells) zero now some e = some refl
 first-replaced (found ∷ shells) (suc i) now some e = e
 
 -- shell 1 runs on after each turn that takes something
-first-left : (k : ℕ) (moved : Option Renamed) (turn_response : TurnResult) → k ≡ 1 → is_some (shell_after_turn k moved turn_response) ≡ true
+first-left : (k : ℕ) (moved : List Renamed) (turn_response : TurnResult) → k ≡ 1 → is_some (shell_after_turn k moved turn_response) ≡ true
 first-left k moved turn_response one = rw one refl
 
 first-unset : (shells : List (Option ShellState)) (i : ℕ) → i ≢ 0 → option_flatten (slice_get (slice_set shells i None) 0) ≡ option_flatten (slice_get shells 0)

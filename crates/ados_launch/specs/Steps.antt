@@ -1,7 +1,7 @@
 -- Steps of a session that is driven event by event: what one leaves, by its result.
 use Rattle.std.specs.Prelude.{◌≡◌, ◌⊎◌, ◌+◌, ◌<◌, ℕ, List, Bool, true, false, Option, Some, None, Result, Ok, Err, length, take}
 use Rattle.std.specs.Io.KnownBytes.{Appends}
-use Rattle.ados_find.specs.declared.outcomes.Renamed.{Renamed}
+use Rattle.ados_find.specs.declared.outcomes.Renames.{Renames}
 use Rattle.ados_machine.specs.declared.outs.EndReport.{EndReport}
 use Rattle.ados_machine.specs.declared.outs.Out.{Out}
 use Rattle.ados_machine.specs.declared.requests.Request.{Request}
@@ -23,7 +23,7 @@ pub record SessionState : Type 0 where
   pub held : List ℕ
   pub children : List Bool
   pub reports : List EndReport
-  pub renamed : Option Renamed
+  pub renamed : Option Renames
   pub gathered : List ℕ
 
 -- what the next event asks of the launcher

@@ -6,7 +6,6 @@ ghost use Rattle.ados_launch.specs.declared.faults.IntakeFault.TheVariants.{NoMe
 
 use crate::written::WriteFault;
 use ados_text::NoMemory;
-use std::alloc::AllocError;
 use thiserror::Error;
 
 /// Why a run stopped before its end.
@@ -67,14 +66,6 @@ impl From<NoMemory> for IntakeFault {
     ghost from_gives = { λ _ fault. fault ≡ OutOfMemory };
 
     fn from(_e: NoMemory) -> IntakeFault {
-        IntakeFault::NoMemory
-    }
-}
-
-impl From<AllocError> for IntakeFault {
-    ghost from_gives = { λ _ fault. fault ≡ OutOfMemory };
-
-    fn from(_e: AllocError) -> IntakeFault {
         IntakeFault::NoMemory
     }
 }

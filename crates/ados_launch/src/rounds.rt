@@ -2,20 +2,7 @@
 ghost use Rattle.std.specs.Prelude.{◌≡◌, ◌<◌, ◌≤◌, ◌&&◌, get_or, false, true, nat_lt, option_map, IfSome, if◌then◌else◌};
 ghost use Rattle.ados_machine.specs.World.{pending_of, wants_line};
 ghost use Rattle.ados_world.specs.Due.{first_number};
-ghost use Rattle.ados_launch.specs.Rounds.{
-  asks_start,
-  asks_read_or_wait,
-  is_further_due,
-  due_place,
-  in_next_round,
-  in_this_round,
-  answered_shells,
-  first_round,
-  marked_answers,
-  no_answers,
-  passed_round,
-  following_place,
-};
+ghost use Rattle.ados_launch.specs.Rounds.{asks_start, asks_read_or_wait, is_further_due, due_place, in_next_round, in_this_round, answered_shells, first_round, marked_answers, no_answers, passed_round, following_place};
 
 use ados_machine::Request;
 use ados_world::World;

@@ -25,7 +25,7 @@ use crate::next::Next;
 use crate::schedule::{self, Schedule};
 use crate::written::{WriteFault, write_whole};
 use crate::{Sink, Source};
-use ados_find::Renamed;
+use ados_find::Renames;
 use ados_launcher::Launcher;
 use ados_machine::{BreakAt, EndReport, Request};
 use ados_world::World;
@@ -87,8 +87,8 @@ impl<'a> Session<'a> {
         self.intake.draft.reports.as_slice()
     }
 
-    /// What the last turn renamed, if that was not taken before: where it was, and where it is.
-    pub fn take_renamed(&mut self) -> Option<Box<Renamed>>
+    /// What the last turn renamed, if that was not taken before: where each object was, and where it is.
+    pub fn take_renamed(&mut self) -> Option<Box<Renames>>
         ensures result { option_map (λ r. r.value) result ≡ self.old.renamed }
         ensures stays { self.new ≡ record self.old { renamed = None } }
     {

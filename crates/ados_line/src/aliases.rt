@@ -1,3 +1,4 @@
+// The alias of the first word of a line.
 ghost use Rattle.std.specs.Prelude.{◌≡◌, ◌+◌, ◌++◌, ◌≤◌, length, unwrap_or, IfOk, IfSome, OnOk};
 ghost use Rattle.ados_text.specs.Text.{IsText};
 ghost use Rattle.ados_line.specs.Alias.{hole_from, text_with_rest, with_alias};

@@ -1,3 +1,4 @@
+// The comment of a line.
 ghost use Rattle.std.specs.Prelude.{◌≡◌};
 ghost use Rattle.ados_line.specs.Comment.{comment_start, without_comment};
 

@@ -1,3 +1,4 @@
+// What a raw line is read as: the order of comment, alias, variables, back-ticks and cut.
 ghost use Rattle.std.specs.Prelude.{◌≡◌, ◌<◌, ◌++◌, map, Err, IfOk, OnOk, length};
 ghost use Rattle.ados_text.specs.Text.{IsText};
 ghost use Rattle.ados_line.specs.Answers.{Gives};

@@ -1,3 +1,4 @@
+// Why a line can't be read, and the number of each fault.
 ghost use Rattle.std.specs.Prelude.{◌≡◌};
 ghost use Rattle.ados_line.specs.Faults.{result2_of};
 ghost use Rattle.ados_line.specs.declared.faults.LineFault.TheVariants.{NoMemory as OutOfMemory};

@@ -1,3 +1,4 @@
+// The characters of a line: inside quotes a star and the byte after it are one.
 ghost use Rattle.std.specs.Prelude.{◌≡◌, ◌++◌, ℕ, List, true, false, IfOk, OnOk};
 ghost use Rattle.std.specs.List.{flat_map};
 ghost use Rattle.ados_text.specs.Text.{IsText};

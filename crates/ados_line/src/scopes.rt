@@ -1,3 +1,4 @@
+// What gives the words of a line their meanings: aliases, and local and global variables.
 ghost use Rattle.std.specs.Prelude.{◌≡◌, IfOk};
 ghost use Rattle.ados_line.specs.Values.{visible_variables};
 

@@ -1,3 +1,4 @@
+// The signs of redirections.
 ghost use Rattle.std.specs.Prelude.{◌≡◌, ◌≤◌, length, slice_index};
 ghost use Rattle.ados_line.specs.Signs.{begins, is_both, sign_at, width_of};
 

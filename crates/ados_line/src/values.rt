@@ -1,3 +1,4 @@
+// A text with the values of its variables.
 ghost use Rattle.std.specs.Prelude.{◌≡◌, ◌++◌, IfOk};
 ghost use Rattle.ados_line.specs.Answers.{within_line_limit, Gives};
 ghost use Rattle.ados_line.specs.Values.{visible_variables, first_segment, later_letter_count, text_of_segment, values};

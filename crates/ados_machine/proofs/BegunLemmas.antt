@@ -44,17 +44,17 @@ start_by number text course = record {
 -- a completion at which a shell begins, and nothing else happens to other shells
 record Makes (begun : ShellStart) (completion : Completion) : Type 0 where
   begins : (course_of completion).begun ≡ Some begun
-  renames : (course_of completion).renamed ≡ None
+  renames : (course_of completion).renamed ≡ []
   breaks : (course_of completion).breaking ≡ None
 
-made : (number : ℕ) (word text : Text) (course : Course) (frame : Option FrameLines) → free_number course.seen ≡ Some number → before_plus text ≡ None → course.renamed ≡ None → course.breaking ≡ None →
+made : (number : ℕ) (word text : Text) (course : Course) (frame : Option FrameLines) → free_number course.seen ≡ Some number → before_plus text ≡ None → course.renamed ≡ [] → course.breaking ≡ None →
     Makes (start_by number text course) (run_at word None text Console course frame)
 made number word text course None free ends renames breaks = rw (ends, free) (record { begins = refl; renames = renames; breaks = breaks })
 made number word text course (Some frame) free ends renames breaks =
     rw (gathered text (drop frame.position frame.lines) ends, free) (record { begins = refl; renames = renames; breaks = breaks })
 
 run-makes : (number : ℕ) (line : Line) (here : Here) (course : Course) → line.input ≡ None → line.output ≡ None → has_no_command line.args ≡ false → before_plus line.args ≡ None →
-    here.sink ≡ Console → free_number course.seen ≡ Some number → course.renamed ≡ None → course.breaking ≡ None →
+    here.sink ≡ Console → free_number course.seen ≡ Some number → course.renamed ≡ [] → course.breaking ≡ None →
     Makes (start_by number line.args course) (run_completion line here course)
 run-makes number line here course no_input no_output command ends console free renames breaks =
     rw (no_input, no_output, command, console)
@@ -62,13 +62,13 @@ run-makes number line here course no_input no_output command ends console free r
 
 -- the shell that begins is at its number after the event
 there : (w : WorldState) (k : ℕ) (shell : ShellState) (queue : List Text) (t : TurnResult) (number : ℕ) (begun : ShellStart) (world : WorldState) (out : Out) (items : List (ℕ × TraceItem)) →
-    numbered_shell w k ≡ Some shell → free_number w.shells ≡ Some number → t.course.begun ≡ Some begun → t.course.renamed ≡ None → t.course.breaking ≡ None →
+    numbered_shell w k ≡ Some shell → free_number w.shells ≡ Some number → t.course.begun ≡ Some begun → t.course.renamed ≡ [] → t.course.breaking ≡ None →
     turn_taken w k queue t ≡ Accepted world out items → numbered_shell world number ≡ Some (begun_shell number begun)
 there w k shell queue t number begun world out items runs free begins renames breaks same =
     let is_free = rw free at (free-number w.shells) in
     let placed = placed-at w.shells number is_free.0 (Some (begun_shell number begun)) is_free.1 is_free.2 in
     let shells : world.shells ≡ shells_after w.shells k (moved_at_turn w t) t = cc in
-    let moved : moved_at_turn w t ≡ None = rw renames refl in
+    let moved : moved_at_turn w t ≡ [] = rw renames refl in
     let others : other_shells_after_event w.shells (moved_at_turn w t) t.course ≡ slice_set w.shells (number - 1) (Some (begun_shell number begun)) = rw (moved, begins, breaks, free) refl in
     ap (λ s. found s number) shells
     ∙ (found-set_other (other_shells_after_event w.shells (moved_at_turn w t) t.course) k (shell_after_turn k (moved_at_turn w t) t) number (λ e. never e placed.1) (runs_pos w.shells k shell runs)

@@ -1,5 +1,5 @@
 -- What a break sets, and when it is used up.
-use Rattle.std.proofs.Common.{[], ◌∷◌, ◌≡◌, ◌≢◌, ◌∙◌, sym, ℕ, Bool, true, false, ◌||◌, Option, Some, None, refl, ap, inl, inr}
+use Rattle.std.proofs.Common.{[], ◌∷◌, ◌≡◌, ◌≢◌, ◌∙◌, sym, ℕ, Bool, true, false, ◌||◌, Option, Some, None, refl, ap, inl, inr, List}
 use Rattle.std.proofs.lemmas.Bool.{cases_Bool, eq-eqb, ne_eqb}
 use Rattle.ados_text.specs.Text.{Bytes}
 use Rattle.ados_ram.specs.Files.{Files}
@@ -94,18 +94,18 @@ breaks-by-d w k world out items is =
     }
 
 -- what a turn leaves of its shell is flagged as its course is
-carried-flag : (moved : Option Renamed) (shell now : ShellState) → Some (carried_or_same moved shell) ≡ Some now → now.flagged ≡ shell.flagged
-carried-flag None shell now e = cc
-carried-flag (Some renamed) shell now e = cc
+carried-flag : (moved : List Renamed) (shell now : ShellState) → Some (carried_or_same moved shell) ≡ Some now → now.flagged ≡ shell.flagged
+carried-flag [] shell now e = cc
+carried-flag (renamed ∷ more) shell now e = cc
 
-left-flag : (k : ℕ) (moved : Option Renamed) (t : TurnResult) (o : Option ShellState) (now : ShellState) → o ≡ shell_after_turn k moved t → o ≡ Some now → now.flagged ≡ t.course.flagged
+left-flag : (k : ℕ) (moved : List Renamed) (t : TurnResult) (o : Option ShellState) (now : ShellState) → o ≡ shell_after_turn k moved t → o ≡ Some now → now.flagged ≡ t.course.flagged
 left-flag k moved t o now left is =
     elim (cases_Bool (is_done k t.frames)) [
       | inl d ↦ (let none : None ≡ Some now = sym (rw d at left) ∙ is in cc)
       | inr d ↦ (let some : Some (carried_or_same moved (shell_of_turn t)) ≡ Some now = sym (rw d at left) ∙ is in carried-flag moved (shell_of_turn t) now some)
     ]
 
-pub left-flag_of : (k : ℕ) (moved : Option Renamed) (t : TurnResult) → t.course.flagged ≡ false → (o : Option ShellState) → o ≡ shell_after_turn k moved t → flag_of_shell o ≡ false
+pub left-flag_of : (k : ℕ) (moved : List Renamed) (t : TurnResult) → t.course.flagged ≡ false → (o : Option ShellState) → o ≡ shell_after_turn k moved t → flag_of_shell o ≡ false
 left-flag_of k moved t clear None left = refl
 left-flag_of k moved t clear (Some now) left = left-flag k moved t (Some now) now left refl ∙ clear
 

@@ -1,5 +1,5 @@
 -- A script begins with its lines, and goes on from one to the next.
-use Rattle.std.proofs.Common.{◌-◌, ◌==◌, ◌||◌, ◌≡◌, ◌∙◌, sym, ℕ, List, ◌∷◌, Bool, true, false, not, ◌&&◌, length, nat_le, Option, Some, None, Ok, refl, ap, arith}
+use Rattle.std.proofs.Common.{◌-◌, ◌==◌, ◌||◌, ◌≡◌, ◌∙◌, sym, ℕ, List, [], ◌∷◌, Bool, true, false, not, ◌&&◌, length, nat_le, Option, Some, None, Ok, refl, ap, arith}
 use Rattle.std.proofs.lemmas.Bool.{lt-leb}
 use Rattle.std.specs.Fmt.{decimal}
 use Rattle.ados_text.specs.Lines.{lines_of}
@@ -46,15 +46,15 @@ use Rattle.ados_machine.proofs.PlainLemmas.{by-found, effect-turns, put-limit, c
 use Rattle.ados_machine.proofs.Shells.{found, found-left, shells_after}
 
 -- what a turn leaves of a shell that runs a frame
-carried-frames : (moved : Option Renamed) (shell : ShellState) → (carried_or_same moved shell).frames ≡ shell.frames
-carried-frames None shell = refl
-carried-frames (Some renamed) shell = refl
+carried-frames : (moved : List Renamed) (shell : ShellState) → (carried_or_same moved shell).frames ≡ shell.frames
+carried-frames [] shell = refl
+carried-frames (renamed ∷ more) shell = refl
 
 and-false : (b : Bool) → (b && false) ≡ false
 and-false true = refl
 and-false false = refl
 
-left-frames : (k : ℕ) (moved : Option Renamed) (t : TurnResult) → has_frame t.frames ≡ true → shell_frames (shell_after_turn k moved t) ≡ t.frames
+left-frames : (k : ℕ) (moved : List Renamed) (t : TurnResult) → has_frame t.frames ≡ true → shell_frames (shell_after_turn k moved t) ≡ t.frames
 left-frames k moved t some = rw (some, and-false (not (k == 1))) (carried-frames moved (shell_of_turn t))
 
 -- the frames after a turn that leaves one

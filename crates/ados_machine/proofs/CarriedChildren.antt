@@ -1,5 +1,5 @@
 -- Renames, breaks and shells that begin change neither what a shell asks of a launcher nor its child.
-use Rattle.std.proofs.Common.{◌≡◌, ◌≢◌, ◌∙◌, ℕ, List, Option, Some, None, refl, ap, arith, inl, inr}
+use Rattle.std.proofs.Common.{◌≡◌, ◌≢◌, ◌∙◌, ℕ, List, [], ◌∷◌, Option, Some, None, refl, ap, arith, inl, inr}
 use Rattle.std.proofs.lemmas.Bool.{cases_eq, cases_Bool}
 use Rattle.ados_find.specs.declared.outcomes.Breaks.{Breaks}
 use Rattle.ados_find.specs.declared.outcomes.Renamed.{Renamed}
@@ -44,19 +44,19 @@ handed-asked from course (phase.Waiting (ForPiece child)) hands = absurd hands
 handed-asked from course (phase.Waiting (ForEnd child)) hands = absurd hands
 
 -- carrying keeps what a shell asks for
-pub carried-pending : (renamed : Option Renamed) (o : Option ShellState) → request_of_shell (carried_found renamed o) ≡ request_of_shell o
+pub carried-pending : (renamed : List Renamed) (o : Option ShellState) → request_of_shell (carried_found renamed o) ≡ request_of_shell o
 carried-pending = carried-same request_of_shell (λ moved shell. refl)
 
-pub carried_by-pending : (renamed : Option Renamed) (shell : ShellState) → request_of_shell (Some (carried_or_same renamed shell)) ≡ request_of_shell (Some shell)
-carried_by-pending None shell = refl
-carried_by-pending (Some renamed) shell = refl
+pub carried_by-pending : (renamed : List Renamed) (shell : ShellState) → request_of_shell (Some (carried_or_same renamed shell)) ≡ request_of_shell (Some shell)
+carried_by-pending [] shell = refl
+carried_by-pending (renamed ∷ more) shell = refl
 
-carried-child : (renamed : Option Renamed) (o : Option ShellState) → child_of_shell (carried_found renamed o) ≡ child_of_shell o
+carried-child : (renamed : List Renamed) (o : Option ShellState) → child_of_shell (carried_found renamed o) ≡ child_of_shell o
 carried-child = carried-same child_of_shell (λ moved shell. refl)
 
-pub carried_by-child : (renamed : Option Renamed) (shell : ShellState) → child_of_shell (Some (carried_or_same renamed shell)) ≡ child_of_shell (Some shell)
-carried_by-child None shell = refl
-carried_by-child (Some renamed) shell = refl
+pub carried_by-child : (renamed : List Renamed) (shell : ShellState) → child_of_shell (Some (carried_or_same renamed shell)) ≡ child_of_shell (Some shell)
+carried_by-child [] shell = refl
+carried_by-child (renamed ∷ more) shell = refl
 
 -- what is asked of a shell that begins is what is asked of none
 begun-same : {X : Type 0} (f : Option ShellState → X) → ((n : ℕ) (begun : ShellStart) → f (Some (begun_shell n begun)) ≡ f None) →
@@ -79,9 +79,9 @@ broken-child = broken-same child_of_shell (λ breaks shell. marked-same child_du
 
 -- what a turn, or an answer, keeps of the other shells
 others-same : {X : Type 0} (f : Option ShellState → X) → ((n : ℕ) (begun : ShellStart) → f (Some (begun_shell n begun)) ≡ f None) →
-    ((moved : Option Renamed) (o : Option ShellState) → f (carried_found moved o) ≡ f o) →
+    ((moved : List Renamed) (o : Option ShellState) → f (carried_found moved o) ≡ f o) →
     ((breaks : Option Breaks) (o : Option ShellState) → f (broken_maybe breaks o) ≡ f o) →
-    (shells : List (Option ShellState)) (k : ℕ) (shell : ShellState) (moved : Option Renamed) (t : TurnResult) → found shells k ≡ Some shell →
+    (shells : List (Option ShellState)) (k : ℕ) (shell : ShellState) (moved : List Renamed) (t : TurnResult) → found shells k ≡ Some shell →
     (j : ℕ) → j ≢ k → f (found (shells_after shells k moved t) j) ≡ f (found shells j)
 others-same f fresh carries breaks shells k shell moved t is j differ =
     let carried = carried_shells moved shells in
@@ -92,16 +92,16 @@ others-same f fresh carries breaks shells k shell moved t is j differ =
     let begun = begun-same f fresh carried t.course.begun number j (carried-free moved shells number (free-number shells)) in
     ap f stay ∙ (whole ∙ (begun ∙ (ap f (found-carried moved shells j) ∙ carries moved (found shells j))))
 
-pub others-pending : (shells : List (Option ShellState)) (k : ℕ) (shell : ShellState) (moved : Option Renamed) (t : TurnResult) → found shells k ≡ Some shell →
+pub others-pending : (shells : List (Option ShellState)) (k : ℕ) (shell : ShellState) (moved : List Renamed) (t : TurnResult) → found shells k ≡ Some shell →
     (j : ℕ) → j ≢ k → request_of_shell (found (shells_after shells k moved t) j) ≡ request_of_shell (found shells j)
 others-pending = others-same request_of_shell (λ n begun. refl) carried-pending broken-pending
 
-pub others-child : (shells : List (Option ShellState)) (k : ℕ) (shell : ShellState) (moved : Option Renamed) (t : TurnResult) → found shells k ≡ Some shell →
+pub others-child : (shells : List (Option ShellState)) (k : ℕ) (shell : ShellState) (moved : List Renamed) (t : TurnResult) → found shells k ≡ Some shell →
     (j : ℕ) → j ≢ k → child_of_shell (found (shells_after shells k moved t) j) ≡ child_of_shell (found shells j)
 others-child = others-same child_of_shell (λ n begun. refl) carried-child broken-child
 
 -- the child of the shell that a turn leaves, if it leaves one
-pub left-child : (k : ℕ) (moved : Option Renamed) (t : TurnResult) → child_during t.phase ≡ Closed →
+pub left-child : (k : ℕ) (moved : List Renamed) (t : TurnResult) → child_during t.phase ≡ Closed →
     child_of_shell (shell_after_turn k moved t) ≡ Closed
 left-child k moved t closed =
     elim (cases_Bool (is_done k t.frames)) [

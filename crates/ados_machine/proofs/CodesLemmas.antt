@@ -78,11 +78,11 @@ with-other done ended k codes j ne pos =
       | inr e ↦ rw e refl
     ]
 
-carried_by-codes : (renamed : Option Renamed) (shell : ShellState) → (carried_or_same renamed shell).parts.codes ≡ shell.parts.codes
-carried_by-codes None shell = refl
-carried_by-codes (Some renamed) shell = refl
+carried_by-codes : (renamed : List Renamed) (shell : ShellState) → (carried_or_same renamed shell).parts.codes ≡ shell.parts.codes
+carried_by-codes [] shell = refl
+carried_by-codes (renamed ∷ more) shell = refl
 
-carried-codes : (renamed : Option Renamed) (o : Option ShellState) (codes : Codes) → shell_codes (carried_found renamed o) codes ≡ shell_codes o codes
+carried-codes : (renamed : List Renamed) (o : Option ShellState) (codes : Codes) → shell_codes (carried_found renamed o) codes ≡ shell_codes o codes
 carried-codes renamed o codes = carried-same (λ x. shell_codes x codes) (λ moved shell. refl) renamed o
 
 broken-codes : (breaks : Option Breaks) (o : Option ShellState) (codes : Codes) → shell_codes (broken_maybe breaks o) codes ≡ shell_codes o codes

@@ -33,13 +33,13 @@ use Rattle.ados_machine.proofs.StepCases.{of-step}
 length-set : {X : Type 0} (xs : List X) (i : ℕ) (x : X) → length (slice_set xs i x) ≡ length xs
 length-set xs i x = grind (arith, common_steps, gets)
 
-length-map : (renamed : Renamed) (shells : List (Option ShellState)) → length (map (carried_place renamed) shells) ≡ length shells
+length-map : (renamed : List Renamed) (shells : List (Option ShellState)) → length (map (carried_place renamed) shells) ≡ length shells
 length-map renamed [] = refl
 length-map renamed (first ∷ shells) = ap suc (length-map renamed shells)
 
-length-carried : (renamed : Option Renamed) (shells : List (Option ShellState)) → length (carried_shells renamed shells) ≡ length shells
-length-carried None shells = refl
-length-carried (Some renamed) shells = length-map renamed shells
+length-carried : (renamed : List Renamed) (shells : List (Option ShellState)) → length (carried_shells renamed shells) ≡ length shells
+length-carried [] shells = refl
+length-carried (renamed ∷ more) shells = length-map (renamed ∷ more) shells
 
 length-begun : (begun : Option ShellStart) (n : Option ℕ) (shells : List (Option ShellState)) → length (with_begun begun n shells) ≡ length shells
 length-begun None n shells = refl
@@ -59,7 +59,7 @@ length-broken : (breaking : Option Breaking) (shells : List (Option ShellState))
 length-broken None shells = refl
 length-broken (Some breaking) shells = length-broken_number breaking.breaks breaking.shell shells
 
-length-after : (shells : List (Option ShellState)) (k : ℕ) (moved : Option Renamed) (t : TurnResult) → length (shells_after shells k moved t) ≡ length shells
+length-after : (shells : List (Option ShellState)) (k : ℕ) (moved : List Renamed) (t : TurnResult) → length (shells_after shells k moved t) ≡ length shells
 length-after shells k moved t =
     let placed = with_begun t.course.begun (free_number shells) (carried_shells moved shells) in
     length-set (shells_after_break t.course.breaking placed) (k - 1) (shell_after_turn k moved t)

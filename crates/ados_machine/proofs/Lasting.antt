@@ -1,5 +1,5 @@
 -- What is seen of a shell lasts from one event to the next, while its phase holds it and no answer changes it.
-use Rattle.std.proofs.Common.{◌≡◌, ◌≢◌, ◌∙◌, sym, ℕ, List, Bool, true, false, Option, Some, None, refl, ap, arith, inl, inr}
+use Rattle.std.proofs.Common.{◌≡◌, ◌≢◌, ◌∙◌, sym, ℕ, List, [], ◌∷◌, Bool, true, false, Option, Some, None, refl, ap, arith, inl, inr}
 use Rattle.std.proofs.lemmas.Bool.{cases_Bool, cases_eq}
 use Rattle.ados_find.specs.declared.codes.Codes.{Codes}
 use Rattle.ados_find.specs.declared.outcomes.Breaks.{Breaks}
@@ -61,19 +61,19 @@ is_held s (Some shell) = s.holds shell.phase
 never : false ≡ true → ⊥
 never e = cc
 
-carried-seen : {X : Type 0} (s : Watch X) (renamed : Option Renamed) (o : Option ShellState) → seen_by s (carried_found renamed o) ≡ seen_by s o
+carried-seen : {X : Type 0} (s : Watch X) (renamed : List Renamed) (o : Option ShellState) → seen_by s (carried_found renamed o) ≡ seen_by s o
 carried-seen s = carried-same (seen_by s) (λ moved shell. refl)
 
-carried-held : {X : Type 0} (s : Watch X) (renamed : Option Renamed) (o : Option ShellState) → is_held s (carried_found renamed o) ≡ is_held s o
+carried-held : {X : Type 0} (s : Watch X) (renamed : List Renamed) (o : Option ShellState) → is_held s (carried_found renamed o) ≡ is_held s o
 carried-held s = carried-same (is_held s) (λ moved shell. refl)
 
-own-seen : {X : Type 0} (s : Watch X) (renamed : Option Renamed) (shell : ShellState) → seen_by s (Some (carried_or_same renamed shell)) ≡ s.look shell.frames shell.phase
-own-seen s None shell = refl
-own-seen s (Some renamed) shell = refl
+own-seen : {X : Type 0} (s : Watch X) (renamed : List Renamed) (shell : ShellState) → seen_by s (Some (carried_or_same renamed shell)) ≡ s.look shell.frames shell.phase
+own-seen s [] shell = refl
+own-seen s (renamed ∷ more) shell = refl
 
-own-held : {X : Type 0} (s : Watch X) (renamed : Option Renamed) (shell : ShellState) → is_held s (Some (carried_or_same renamed shell)) ≡ s.holds shell.phase
-own-held s None shell = refl
-own-held s (Some renamed) shell = refl
+own-held : {X : Type 0} (s : Watch X) (renamed : List Renamed) (shell : ShellState) → is_held s (Some (carried_or_same renamed shell)) ≡ s.holds shell.phase
+own-held s [] shell = refl
+own-held s (renamed ∷ more) shell = refl
 
 broken-seen : {X : Type 0} (s : Watch X) (breaks : Option Breaks) (o : Option ShellState) → seen_by s (broken_maybe breaks o) ≡ seen_by s o
 broken-seen s = broken-same (seen_by s) (λ breaks shell. s.marked shell.frames breaks.marks shell.phase)
@@ -95,7 +95,7 @@ begun-seen s shells (Some begun) (Some n) j free held =
     none None e h = cc
     none (Some shell) e h = cc
 
-others-seen : {X : Type 0} (s : Watch X) (shells : List (Option ShellState)) (k : ℕ) (shell : ShellState) (moved : Option Renamed) (t : TurnResult) → found shells k ≡ Some shell →
+others-seen : {X : Type 0} (s : Watch X) (shells : List (Option ShellState)) (k : ℕ) (shell : ShellState) (moved : List Renamed) (t : TurnResult) → found shells k ≡ Some shell →
     (j : ℕ) → j ≢ k → is_held s (found shells j) ≡ true → seen_by s (found (shells_after shells k moved t) j) ≡ seen_by s (found shells j)
 others-seen s shells k shell moved t is j differ held =
     let carried = carried_shells moved shells in
@@ -171,17 +171,17 @@ turned-keeps s w k None is = tt
 turned-keeps s w k (Some shell) is = by-phase s w k shell shell.phase is refl
 
 -- what an answer leaves
-abbrev LeftKeeps : {X : Type 0} → Watch X → ℕ → Option Renamed → X → TurnResult → Type 0
+abbrev LeftKeeps : {X : Type 0} → Watch X → ℕ → List Renamed → X → TurnResult → Type 0
 LeftKeeps s k moved value t = is_held s (shell_after_turn k moved t) ≡ true → seen_by s (shell_after_turn k moved t) ≡ value
 
-idle-keeps : {X : Type 0} (s : Watch X) (k : ℕ) (moved : Option Renamed) (value : X) (t : TurnResult) → IsIdle t.phase → LeftKeeps s k moved value t
+idle-keeps : {X : Type 0} (s : Watch X) (k : ℕ) (moved : List Renamed) (value : X) (t : TurnResult) → IsIdle t.phase → LeftKeeps s k moved value t
 idle-keeps s k moved value t idle =
     elim (cases_Bool (is_done k t.frames)) [
       | inl d ↦ rw d (λ held. absurd (never held))
       | inr d ↦ rw d (λ held. absurd (never (sym (s.idle t.phase idle) ∙ (sym (own-held s moved (shell_of_turn t)) ∙ held))))
     ]
 
-pub waits-keeps : {X : Type 0} (s : Watch X) (k : ℕ) (moved : Option Renamed) (value : X) (wait : Wait) (course : Course) (frames : List FrameState) →
+pub waits-keeps : {X : Type 0} (s : Watch X) (k : ℕ) (moved : List Renamed) (value : X) (wait : Wait) (course : Course) (frames : List FrameState) →
     s.look frames (phase.Waiting wait) ≡ value → LeftKeeps s k moved value (turn_of_completion (Waits wait course) frames)
 waits-keeps s k moved value wait course frames same =
     elim (cases_Bool (is_done k frames)) [
@@ -189,7 +189,7 @@ waits-keeps s k moved value wait course frames same =
       | inr d ↦ rw d (λ held. own-seen s moved (shell_of_turn (turn_of_completion (Waits wait course) frames)) ∙ same)
     ]
 
-settle-keeps : {X : Type 0} (s : Watch X) (k : ℕ) (moved : Option Renamed) (value : X) (completion : Completion) (frames : List FrameState) →
+settle-keeps : {X : Type 0} (s : Watch X) (k : ℕ) (moved : List Renamed) (value : X) (completion : Completion) (frames : List FrameState) →
     SeenAfter s.look frames value (Some completion) → LeftKeeps s k moved value (turn_of_completion completion frames)
 settle-keeps s k moved value (Passes course) frames keeps = idle-keeps s k moved value (turn_of_completion (Passes course) frames) (passed-rests frames (rule_state_of course)).idle
 settle-keeps s k moved value (Answers word answer quits course) frames keeps =

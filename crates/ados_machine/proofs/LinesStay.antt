@@ -151,7 +151,7 @@ KeepsAll w (Accepted world out items) = (j : ℕ) (old now : ShellState) →
 same-lines : (old : ShellState) (o : Option ShellState) (now : ShellState) → shell_frames o ≡ old.frames → o ≡ Some now → LinesStay (lines_in old.frames) (lines_in now.frames)
 same-lines old o now same is = inl (0, ap lines_in (ap shell_frames (sym is) ∙ same))
 
-others-frames : (shells : List (Option ShellState)) (k : ℕ) (shell : ShellState) (moved : Option Renamed) (t : TurnResult) (j : ℕ) (other : ShellState) →
+others-frames : (shells : List (Option ShellState)) (k : ℕ) (shell : ShellState) (moved : List Renamed) (t : TurnResult) (j : ℕ) (other : ShellState) →
     found shells k ≡ Some shell → j ≢ k → found shells j ≡ Some other → shell_frames (found (shells_after shells k moved t) j) ≡ other.frames
 others-frames shells k shell moved t j other is differ there =
     let carried = carried_shells moved shells in
@@ -163,25 +163,25 @@ others-frames shells k shell moved t j other is differ there =
     ∙ (ap shell_frames (found-broken t.course.breaking placed j)
     ∙ (broken-frames (broken_for t.course.breaking j) (found placed j) ∙ (ap shell_frames then_there ∙ frames-same moved other)))
   where
-    frames-same : (moved : Option Renamed) (shell : ShellState) → (carried_or_same moved shell).frames ≡ shell.frames
-    frames-same None shell = refl
-    frames-same (Some renamed) shell = refl
+    frames-same : (moved : List Renamed) (shell : ShellState) → (carried_or_same moved shell).frames ≡ shell.frames
+    frames-same [] shell = refl
+    frames-same (renamed ∷ more) shell = refl
 
-left-now : (k : ℕ) (moved : Option Renamed) (t : TurnResult) (now : ShellState) → shell_after_turn k moved t ≡ Some now → now.frames ≡ t.frames
+left-now : (k : ℕ) (moved : List Renamed) (t : TurnResult) (now : ShellState) → shell_after_turn k moved t ≡ Some now → now.frames ≡ t.frames
 left-now k moved t now is =
     elim (cases_Bool (is_done k t.frames)) [
       | inl d ↦ (let none = rw d at is in cc)
       | inr d ↦ (let some : Some (carried_or_same moved (shell_of_turn t)) ≡ Some now = rw d at is in carried-now moved (shell_of_turn t) now some)
     ]
   where
-    carried-now : (moved : Option Renamed) (shell now : ShellState) → Some (carried_or_same moved shell) ≡ Some now → now.frames ≡ shell.frames
-    carried-now None shell now e = cc
-    carried-now (Some renamed) shell now e = cc
+    carried-now : (moved : List Renamed) (shell now : ShellState) → Some (carried_or_same moved shell) ≡ Some now → now.frames ≡ shell.frames
+    carried-now [] shell now e = cc
+    carried-now (renamed ∷ more) shell now e = cc
 
 some-same : (o : Option ShellState) (a b : ShellState) → o ≡ Some a → o ≡ Some b → a ≡ b
 some-same o a b e f = cc
 
-own-lines : (k : ℕ) (moved : Option Renamed) (shell old now : ShellState) (t : TurnResult) → shell ≡ old → KeepsLines shell.frames t → shell_after_turn k moved t ≡ Some now →
+own-lines : (k : ℕ) (moved : List Renamed) (shell old now : ShellState) (t : TurnResult) → shell ≡ old → KeepsLines shell.frames t → shell_after_turn k moved t ≡ Some now →
     LinesStay (lines_in old.frames) (lines_in now.frames)
 own-lines k moved shell old now t same keeps left = rw (sym same, left-now k moved t now left) keeps
 

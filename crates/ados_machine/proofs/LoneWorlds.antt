@@ -14,7 +14,7 @@ use Rattle.ados_machine.specs.CodeRule.{RuleState, RuleResult}
 use Rattle.ados_machine.specs.Apply.{turn_by_rule}
 use Rattle.ados_machine.specs.Turning.{Input}
 use Rattle.ados_machine.specs.World.{WorldState, numbered_shell, input_of, is_over}
-use Rattle.ados_machine.specs.Carrying.{carried_shells, carried_or_same, moved_object}
+use Rattle.ados_machine.specs.Carrying.{carried_shells, carried_or_same, moved_objects}
 use Rattle.ados_machine.specs.Step.{with_begun, codes_of_ended, queue_after_event, is_done, moved_at_turn, start}
 use Rattle.ados_machine.specs.Whole.{Common, common_after_event, carried_parts}
 use Rattle.ados_machine.specs.Alone.{world_after_lines}
@@ -63,7 +63,7 @@ starts-in k w frames phase common =
     rw (map-set (option_map seen_of) common.shells (k - 1) (Some (shell_of frames phase common))) refl
 
 -- if a shell runs it still runs after an event
-carried-stands : (k : ℕ) (advanced_frame : Option Renamed) (begun : Option ShellStart) (breaking : Option Breaking) (shells : List (Option ShellState))
+carried-stands : (k : ℕ) (advanced_frame : List Renamed) (begun : Option ShellStart) (breaking : Option Breaking) (shells : List (Option ShellState))
     (shell : ShellState) → found shells k ≡ Some shell →
     found (shells_after_break breaking (with_begun begun (free_number shells) (carried_shells advanced_frame shells))) k
     ≡ Some (broken_one (broken_for breaking k) (carried_or_same advanced_frame shell))
@@ -76,8 +76,8 @@ carried-stands k advanced_frame begun breaking shells shell is =
 stands-after : (k : ℕ) (common : Common) (course : Course) → Stands k common → Stands k (common_after_event common course)
 stands-after k common course stands = record {
   above = stands.above;
-  shell = broken_one (broken_for course.breaking k) (carried_or_same (moved_object common.shared (shared_after_event course) course.renamed) stands.shell);
-  is = carried-stands k (moved_object common.shared (shared_after_event course) course.renamed) course.begun course.breaking common.shells stands.shell stands.is;
+  shell = broken_one (broken_for course.breaking k) (carried_or_same (moved_objects common.shared (shared_after_event course) course.renamed) stands.shell);
+  is = carried-stands k (moved_objects common.shared (shared_after_event course) course.renamed) course.begun course.breaking common.shells stands.shell stands.is;
 }
 
 pub stands-again : (k : ℕ) (common : Common) (course : Course) (rule_state : RuleState) (log : List TraceItem) → Stands k common →
@@ -87,10 +87,10 @@ stands-again k common course rule_state log stands =
     record { above = after.above; shell = after.shell; is = after.is }
 
 -- the shell after an event
-left-same : (advanced_frame : Option Renamed) (shell : ShellState) →
+left-same : (advanced_frame : List Renamed) (shell : ShellState) →
     carried_or_same advanced_frame shell ≡ record shell { parts = carried_parts advanced_frame shell.parts }
-left-same None shell = refl
-left-same (Some renamed) shell = refl
+left-same [] shell = refl
+left-same (renamed ∷ more) shell = refl
 
 -- the world after an event
 abbrev pub took_world : WorldState → ℕ → Course → RuleResult → WorldState
@@ -106,7 +106,7 @@ took_world w k course settled = (let t = turn_by_rule course settled in record {
 abbrev pub common_by : ℕ → Common → Course → RuleState → List TraceItem → Common
 common_by k common course rule_state log =
     record (common_after_event common course) {
-      rule_state = front common.rule_state.printed (moved_object common.shared (shared_after_event course) course.renamed) rule_state;
+      rule_state = front common.rule_state.printed (moved_objects common.shared (shared_after_event course) course.renamed) rule_state;
       reports = with_ends k log common.reports;
     }
 
@@ -116,14 +116,14 @@ pub world-same : (k : ℕ) (w : WorldState) (old : List FrameState) (phase : Pha
     took_world (standing k w old phase common) k course (record { frames = frames; phase = next; rule_state = rule_state; log = log })
     ≡ world_of k w frames next (common_by k common course rule_state log)
 world-same k w old phase common course [] next rule_state log stands =
-    let advanced_frame = moved_object common.shared (shared_after_event course) course.renamed in
+    let advanced_frame = moved_objects common.shared (shared_after_event course) course.renamed in
     rw (
       not-first k common stands,
       broken-same_set course.breaking _ _ (k - 1) None
           (shells-same advanced_frame course.begun common.shells k stands.shell (shell_of old phase common) None stands.is),
     ) refl
 world-same k w old phase common course (frame ∷ frames) next rule_state log stands =
-    let advanced_frame = moved_object common.shared (shared_after_event course) course.renamed in
+    let advanced_frame = moved_objects common.shared (shared_after_event course) course.renamed in
     let now : ShellState = record { frames = frame ∷ frames; phase = next; parts = rule_state.parts; kept = rule_state.kept; flagged = course.flagged } in
     rw (
       not-first k common stands,

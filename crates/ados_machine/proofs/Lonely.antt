@@ -21,7 +21,7 @@ use Rattle.ados_machine.specs.CodeRule.{RuleState, RuleResult, end_at_break}
 use Rattle.ados_machine.specs.Apply.{TurnResult, here_of, rule_state_of, turn_by_rule, code_rule_of, turn_of_completion}
 use Rattle.ados_machine.specs.Turning.{Turned, turn_of_frame, flagged_turning, turning_in_phase, turning_of_completion}
 use Rattle.ados_machine.specs.World.{WorldState}
-use Rattle.ados_machine.specs.Carrying.{moved_object}
+use Rattle.ados_machine.specs.Carrying.{moved_objects}
 use Rattle.ados_machine.specs.Step.{Response, Refused, turn_taken, course_without_flag, turning_response, step_of}
 use Rattle.ados_machine.specs.Whole.{Common, common_after_event, common_without_flag}
 use Rattle.ados_machine.specs.Alone.{Exec, exec_step, reply_next, exec_alone, is_hosted}
@@ -56,12 +56,12 @@ Same k w fold go on = (frames : List FrameState) (phase : Phase) (common : Commo
 -- an event after which the code rule makes this of what was passed on
 took-rules : {A X : Type 0} (k : ℕ) (w : WorldState) (fold : Fold A X k w) (go : Goes A X) (on : Go) (old : List FrameState) (phase : Phase) (common : Common) (course : Course)
     (rule : RuleState → RuleResult) → Stands k common →
-    ((bytes : Bytes) (advanced_frame : Option Renamed) (rule_state : RuleState) → rule (front bytes advanced_frame rule_state) ≡ fronted bytes advanced_frame (rule rule_state)) →
+    ((bytes : Bytes) (advanced_frame : List Renamed) (rule_state : RuleState) → rule (front bytes advanced_frame rule_state) ≡ fronted bytes advanced_frame (rule rule_state)) →
     Same k w fold go on →
     fold.after go (fold.kept common) (turn_taken (standing k w old phase common) k [] (turn_by_rule course (rule (rule_state_of course))))
     ≡ fold.seen (go_by k on (common_after_event common course) (rule (common_after_event common course).rule_state))
 took-rules k w fold go on old phase common course rule stands fronts same =
-    let advanced_frame = moved_object common.shared (shared_after_event course) course.renamed in
+    let advanced_frame = moved_objects common.shared (shared_after_event course) course.renamed in
     let settled = rule (rule_state_of course) in
     rw (
       fold.taken go old phase common course settled,

@@ -100,16 +100,16 @@ phase-moves n sink course (phase.GoingOn parted) answer = refl
 phase-moves n sink course (phase.Waiting wait) answer = wait-moves n sink course wait answer
 
 -- a completion leaves its shell with the child after it; a shell that waits runs on
-waits-child : (k : ℕ) (moved : Option Renamed) (wait : Wait) (course : Course) (frames : List FrameState) → is_done k frames ≡ false →
+waits-child : (k : ℕ) (moved : List Renamed) (wait : Wait) (course : Course) (frames : List FrameState) → is_done k frames ≡ false →
     child_of_shell (shell_after_turn k moved (turn_of_completion (Waits wait course) frames)) ≡ child_while wait
 waits-child k moved wait course frames runs =
     rw (runs, carried_by-child moved (shell_of_turn (turn_of_completion (Waits wait course) frames))) refl
 
-rests-child : (k : ℕ) (moved : Option Renamed) (course : Course) (settled : RuleResult) → Rests (rule_state_of course) settled →
+rests-child : (k : ℕ) (moved : List Renamed) (course : Course) (settled : RuleResult) → Rests (rule_state_of course) settled →
     child_of_shell (shell_after_turn k moved (turn_by_rule course settled)) ≡ Closed
 rests-child k moved course settled rests = left-child k moved (turn_by_rule course settled) (idle-asked settled.phase rests.idle)
 
-settled-child : (k : ℕ) (moved : Option Renamed) (completion : Completion) (frames : List FrameState) → is_done k frames ≡ false →
+settled-child : (k : ℕ) (moved : List Renamed) (completion : Completion) (frames : List FrameState) → is_done k frames ≡ false →
     child_of_shell (shell_after_turn k moved (turn_of_completion completion frames)) ≡ child_after completion
 settled-child k moved (Passes course) frames runs = rests-child k moved course _ (passed-rests frames (rule_state_of course))
 settled-child k moved (Answers word answer quits course) frames runs =

@@ -1,6 +1,8 @@
 -- A plain command of the shell's own does what its row says.
 use Rattle.std.proofs.Common.{◌≡◌, ◌≢◌, ◌⊎◌, ◌∙◌, sym, ℕ, pos, List, [], ◌∷◌, ◌++◌, true, false, Option, Some, None, Ok, refl, ap, arith, inl, inr}
 use Rattle.std.specs.Prelude.{option_map, take, codes}
+use Rattle.std.specs.List.{All, fold}
+use Rattle.std.proofs.lemmas.List.Elements.{All-head, All-tail}
 use Rattle.std.proofs.lemmas.Bool.{cases_Bool, le-leb}
 use Rattle.ados_text.specs.Text.{Text, Bytes}
 use Rattle.ados_text.specs.declared.codes.Result2.{Result2}
@@ -8,7 +10,7 @@ use Rattle.ados_line.specs.declared.lines.Line.{Line}
 use Rattle.ados_ram.specs.Files.{Files}
 use Rattle.ados_ram.specs.FileOperations.{put_open_of, put_open_fault}
 use Rattle.ados_find.specs.Shared.{limits_of}
-use Rattle.ados_ram.specs.Place.{Place, key_of, last_name}
+use Rattle.ados_ram.specs.Place.{Place, key_of, last_name, moved_place}
 use Rattle.ados_readargs.specs.declared.args.Arg.{Arg}
 use Rattle.ados_readargs.specs.Args.{option_number}
 use Rattle.ados_readargs.specs.Fill.{fill_of}
@@ -21,6 +23,7 @@ use Rattle.ados_find.specs.declared.search.Found.TheVariants as found
 use Rattle.ados_find.specs.declared.targets.Target.TheVariants.{Nil, At}
 use Rattle.ados_find.specs.Changes.{parts_after_command}
 use Rattle.ados_find.specs.Effects.{Effect, change_effect}
+use Rattle.ados_find.specs.Renames.{renames_of}
 use Rattle.ados_find.specs.Parts.{Parts}
 use Rattle.ados_flow.specs.Actions as flow
 use Rattle.ados_flow.specs.declared.kinds.FrameKind.TheVariants.{Tick}
@@ -37,7 +40,7 @@ use Rattle.ados_machine.specs.declared.events.Event.TheVariants.{Turn}
 use Rattle.ados_machine.specs.Apply.{TurnResult, here_of, rule_state_of, code_rule_of, turn_of_completion}
 use Rattle.ados_machine.proofs.Fronts.{front, ruled-front}
 use Rattle.ados_machine.specs.Commands.{action_of, template_of}
-use Rattle.ados_machine.specs.Carrying.{carried_shells, carried_or_same}
+use Rattle.ados_machine.specs.Carrying.{carried_shells, carried_or_same, moved_objects, place_after_moves}
 use Rattle.ados_machine.specs.CodeRule.{RuleState, with_fault_line, finish}
 use Rattle.ados_machine.specs.Completions.{Completion, Answers, Here}
 use Rattle.ados_machine.specs.Course.{Course, kept_with_bytes, with_devices_used, put, put_unless, shared_after_event}
@@ -49,7 +52,7 @@ use Rattle.std.proofs.lemmas.List.{append-nil}
 use Rattle.ados_find.specs.Search.{searched_devices}
 use Rattle.ados_machine.specs.Uses.{devices_named, devices_of}
 use Rattle.ados_machine.specs.Phases.{GoingOn}
-use Rattle.ados_machine.specs.Plain.{disk_command, own_command, IsPlain, TakesEffect, action_at, EnabledCommandsAreFound, limit_after, EffectsAreRecorded, EffectsArePrinted, FailAtSetsTheLimit, SubstitutionsKeepTheirOutput, DirectoriesAreCarried}
+use Rattle.ados_machine.specs.Plain.{disk_command, own_command, IsPlain, TakesEffect, action_at, EnabledCommandsAreFound, limit_after, EffectsAreRecorded, EffectsArePrinted, FailAtSetsTheLimit, SubstitutionsKeepTheirOutput, HasGone, DirectoriesAreCarried}
 use Rattle.ados_machine.specs.Shells.{ShellState}
 use Rattle.ados_machine.specs.Sinks.{Sink, Console, Kept, To, newest_sink}
 use Rattle.ados_machine.specs.Step.{Accepted, shell_of_turn, is_done, shell_after_turn, moved_at_turn, turn_taken, with_begun, start, course_without_flag, step_of}
@@ -159,10 +162,10 @@ answer-printed : (word : Text) (answered : Codes) (course : Course) (frames : Li
     (further : Bytes) × ((turn_of_completion (Answers word answered false course) frames).course.printed ≡ bytes ++ further)
 answer-printed word answered course frames bytes is =
     let after : RuleState = record (rule_state_of course) { printed = [] } in
-    let same : front bytes None after ≡ rule_state_of course = rw (append-nil bytes, is) refl in (
+    let same : front bytes [] after ≡ rule_state_of course = rw (append-nil bytes, is) refl in (
       (code_rule_of (Answers word answered false course) frames after).rule_state.printed,
       ap (λ s. (code_rule_of (Answers word answered false course) frames s).rule_state.printed) (sym same)
-          ∙ ap (λ r. r.rule_state.printed) (ruled-front bytes None (Answers word answered false course) frames after),
+          ∙ ap (λ r. r.rule_state.printed) (ruled-front bytes [] (Answers word answered false course) frames after),
     )
 
 pub effects-printed : EffectsArePrinted
@@ -193,16 +196,16 @@ fail-at-sets w k shell line args n takes filled is =
     (record { builtin = Env env.FailAt; command = takes; does = limit-set w shell line args n filled is }) (inl refl)
 
 -- what a turn leaves of its shell
-left-phase : (k : ℕ) (moved : Option Renamed) (t : TurnResult) (now : ShellState) → shell_after_turn k moved t ≡ Some now → now.phase ≡ t.phase
+left-phase : (k : ℕ) (moved : List Renamed) (t : TurnResult) (now : ShellState) → shell_after_turn k moved t ≡ Some now → now.phase ≡ t.phase
 left-phase k moved t now is =
     elim (cases_Bool (is_done k t.frames)) [
       | inl d ↦ (let none = rw d at is in cc)
       | inr d ↦ (let some : Some (carried_or_same moved (shell_of_turn t)) ≡ Some now = rw d at is in carried-phase moved (shell_of_turn t) now some)
     ]
   where
-    carried-phase : (moved : Option Renamed) (shell now : ShellState) → Some (carried_or_same moved shell) ≡ Some now → now.phase ≡ shell.phase
-    carried-phase None shell now e = cc
-    carried-phase (Some renamed) shell now e = cc
+    carried-phase : (moved : List Renamed) (shell now : ShellState) → Some (carried_or_same moved shell) ≡ Some now → now.phase ≡ shell.phase
+    carried-phase [] shell now e = cc
+    carried-phase (renamed ∷ more) shell now e = cc
 
 -- the end of a command substitution
 tick-ends : (word : Text) (answered : Codes) (before after : Text) (frame : FrameState) (frames : List FrameState) (rule_state : RuleState) (output : Bytes) (kept : List Bytes) →
@@ -249,7 +252,7 @@ put-renamed (To (At place)) (byte ∷ bytes) answered course =
 abbrev directory_of : Option ShellState → Option Place
 directory_of o = option_map (λ shell. shell.parts.directory) o
 
-others-directory : (shells : List (Option ShellState)) (k : ℕ) (shell : ShellState) (moved : Option Renamed) (t : TurnResult) (j : ℕ) (other : ShellState) →
+others-directory : (shells : List (Option ShellState)) (k : ℕ) (shell : ShellState) (moved : List Renamed) (t : TurnResult) (j : ℕ) (other : ShellState) →
     found shells k ≡ Some shell → j ≢ k → found shells j ≡ Some other →
     directory_of (found (shells_after shells k moved t) j) ≡ Some (carried_or_same moved other).parts.directory
 others-directory shells k shell moved t j other is differ there =
@@ -266,8 +269,23 @@ runs-there : (o : Option ShellState) (place : Place) → directory_of o ≡ Some
 runs-there None place e = cc
 runs-there (Some other) place e = (other, refl, cc)
 
+-- of objects that have gone all have moved
+all-moved : (w world : WorldState) (renames : List Renamed) → All (λ renamed. HasGone renamed w world) renames → moved_objects w.shared world.shared renames ≡ renames
+all-moved w world [] all = refl
+all-moved w world (renamed ∷ more) all =
+    let first = All-head (λ r. HasGone r w world) renamed more all in
+    rw (first.was, first.gone) (ap (λ l. renamed ∷ l) (all-moved w world more (All-tail (λ r. HasGone r w world) renamed more all)))
+
+after-moves : (moves : List Renamed) (place : Place) → place_after_moves moves place ≡ fold (λ place renamed. moved_place renamed.from renamed.to place) place moves
+after-moves [] place = refl
+after-moves (moved ∷ more) place = after-moves more (moved_place moved.from moved.to place)
+
+carried-to : (moves : List Renamed) (shell : ShellState) → (carried_or_same moves shell).parts.directory ≡ place_after_moves moves shell.parts.directory
+carried-to [] shell = refl
+carried-to (moved ∷ more) shell = refl
+
 pub directories-carried : DirectoriesAreCarried
-directories-carried w k shell line effect renamed world out items j place takes is accepted gone differ there =
+directories-carried w k shell line effect world out items j place takes accepted gone differ there =
     let turn = effect-turns w k shell line effect takes in
     let course : Course = with_effect effect (record (course_without_flag (start w shell)) { used = turn.used }) in
     let done = put (newest_sink (frames_at shell)) effect.output effect.codes course in
@@ -275,9 +293,10 @@ directories-carried w k shell line effect renamed world out items j place takes 
     let same : turn_taken w k turn.queue t ≡ Accepted world out items = sym turn.does ∙ accepted in
     let shells : world.shells ≡ shells_after w.shells k (moved_at_turn w t) t = cc in
     let shared : world.shared ≡ shared_after_event t.course = cc in
-    let is_renamed : t.course.renamed ≡ Some renamed = put-renamed (newest_sink (frames_at shell)) effect.output effect.codes course ∙ is in
-    let is_moved : moved_at_turn w t ≡ Some renamed = rw (is_renamed, sym shared, gone.was, gone.gone) refl in
+    let renames = renames_of effect.renamed effect.gathered in
+    let is_renamed : t.course.renamed ≡ renames = put-renamed (newest_sink (frames_at shell)) effect.output effect.codes course in
+    let is_moved : moved_at_turn w t ≡ renames = rw (is_renamed, sym shared) (all-moved w world renames gone) in
     let other = runs-there (numbered_shell w j) place there in
     ap (λ s. directory_of (found s j)) shells
     ∙ (others-directory w.shells k shell (moved_at_turn w t) t j other.0 takes.command.takes.runs differ other.1
-    ∙ rw (is_moved, other.2) refl)
+    ∙ ap Some (rw is_moved (carried-to renames other.0 ∙ after-moves renames other.0.parts.directory ∙ ap (λ p. fold (λ place renamed. moved_place renamed.from renamed.to place) p renames) other.2)))

@@ -1,5 +1,5 @@
 -- A program's entry is in use from the turn that asks for its start, and its first fault stays.
-use Rattle.std.proofs.Common.{◌≡◌, ◌∙◌, sym, ℕ, List, Bool, true, false, Option, Some, None, Result, Ok, Err, is_some, refl, ap, inl, inr}
+use Rattle.std.proofs.Common.{◌≡◌, ◌∙◌, sym, ℕ, List, [], ◌∷◌, Bool, true, false, Option, Some, None, Result, Ok, Err, is_some, refl, ap, inl, inr}
 use Rattle.std.specs.Prelude.{option_map}
 use Rattle.std.specs.Option.{option_or}
 use Rattle.std.proofs.lemmas.Bool.{cases_Bool, cond_both}
@@ -78,13 +78,13 @@ host-runs name program line course (Some input) frames = refused-runs name line.
 host-runs name program line course None frames = tested-runs name program line course (line_output course line.output) frames
 
 -- and so does what it leaves of its shell
-carried-runs-from : (name : Text) (moved : Option Renamed) (t : TurnResult) → RunsFrom name t →
+carried-runs-from : (name : Text) (moved : List Renamed) (t : TurnResult) → RunsFrom name t →
     is_some (request_of_shell (Some (carried_or_same moved (shell_of_turn t)))) ≡ true →
     entry_seen (option_map seen_of (Some (carried_or_same moved (shell_of_turn t)))) ≡ Some name
-carried-runs-from name None t runs = λ asks. runs asks
-carried-runs-from name (Some renamed) t runs = λ asks. runs asks
+carried-runs-from name [] t runs = λ asks. runs asks
+carried-runs-from name (renamed ∷ more) t runs = λ asks. runs asks
 
-left-runs-from : (name : Text) (k : ℕ) (moved : Option Renamed) (t : TurnResult) → RunsFrom name t →
+left-runs-from : (name : Text) (k : ℕ) (moved : List Renamed) (t : TurnResult) → RunsFrom name t →
     is_some (request_of_shell (shell_after_turn k moved t)) ≡ true → entry_seen (option_map seen_of (shell_after_turn k moved t)) ≡ Some name
 left-runs-from name k moved t runs =
     elim (cases_Bool (is_done k t.frames)) [

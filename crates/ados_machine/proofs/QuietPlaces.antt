@@ -13,7 +13,7 @@ use Rattle.ados_machine.specs.declared.phases.Wait.TheVariants.{ForAnswer, ForLi
 use Rattle.ados_machine.specs.Breaks.{mark_in, marked_if, broken_shell, broken_place, broken_at, broken_number, shells_after_break}
 use Rattle.ados_machine.specs.Shells.{ShellStart, begun_shell, ShellState, seen_of}
 use Rattle.ados_machine.specs.World.{option_flatten}
-use Rattle.ados_machine.specs.Carrying.{moved_object}
+use Rattle.ados_machine.specs.Carrying.{moved_objects}
 use Rattle.ados_machine.specs.Step.{with_begun, codes_of_ended}
 use Rattle.ados_machine.specs.Quiet.{marks_of}
 use Rattle.ados_machine.proofs.Shells.{found, found-set_other, runs_pos, place_before, IsFree}
@@ -56,9 +56,9 @@ there-or-not : {X : Type 0} (o : Option X) → (is_some o && is_none o) ≡ fals
 there-or-not None = refl
 there-or-not (Some x) = refl
 
-pub still : (old new : SharedState) (renamed : Option Renamed) → new ≡ old → moved_object old new renamed ≡ None
-still old new None e = refl
-still old new (Some renamed) e = rw (e, there-or-not (finite.get old.files (key_of renamed.from))) refl
+pub still : (old new : SharedState) (renamed : List Renamed) → new ≡ old → moved_objects old new renamed ≡ []
+still old new [] e = refl
+still old new (renamed ∷ more) e = rw (e, there-or-not (finite.get old.files (key_of renamed.from))) (still old new more e)
 
 apart : (xs : List (Option ShellState)) (n j : ℕ) (shell : ShellState) → found xs n ≡ None → found xs j ≡ Some shell → n ≢ j
 apart xs n j shell none is = λ e. cc

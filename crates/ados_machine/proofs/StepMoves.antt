@@ -35,7 +35,7 @@ ended-moves shells k shell j sane is none =
       | inl same ↦ rw same
           (let gone = found-set_same shells k shell None is in
           record { follows = rw (ap (option_map standing_of) is, ap (option_map standing_of) gone) (ap stack_of none); runs = rw gone tt; background = λ ne. rw gone tt; numbered = rw gone tt })
-      | inr differ ↦ carried-moves None j shells (slice_set shells (k - 1) None) sane
+      | inr differ ↦ carried-moves [] j shells (slice_set shells (k - 1) None) sane
           (found-set_other shells k None j differ (runs_pos shells k shell is))
     ]
 

@@ -21,7 +21,7 @@ use Rattle.ados_machine.specs.Numbers.{free_number}
 use Rattle.ados_machine.specs.Turning.{Turning, Refuses, Ends, Turned, flagged_turning, turning_of_answer}
 use Rattle.ados_machine.specs.World.{WorldState, option_flatten, numbered_shell, is_over, seen_shells, input_of}
 use Rattle.ados_machine.specs.Course.{shared_after_event}
-use Rattle.ados_machine.specs.Carrying.{moved_object, carried_shells}
+use Rattle.ados_machine.specs.Carrying.{moved_objects, carried_shells}
 use Rattle.ados_machine.specs.Step.{Response, Refused, Accepted, of_shell, begun_items, with_begun, is_done, shell_after_turn, moved_at_turn, codes_of_ended, queue_after_event, queue_limit, turn_taken, start, course_without_flag, turning_response, turn_response, answer_response, break_response, typing_response, end_of_input, event_response, step_of}
 use Rattle.ados_machine.specs.Runs.{MayFailToAllocate, IsResponse, resulting_world}
 use Rattle.ados_machine.specs.Quiet.{shell_of}
@@ -89,7 +89,7 @@ queue-both k old old' now same =
       | inr e ↦ rw (ne_eqb k 1 e) (same e)
     ]
 
-shells-both : (j : ℕ) (xs ys : List (Option ShellState)) (k : ℕ) (moved : Option Renamed) (t : TurnResult) → Alike LooksLike j 1 xs ys →
+shells-both : (j : ℕ) (xs ys : List (Option ShellState)) (k : ℕ) (moved : List Renamed) (t : TurnResult) → Alike LooksLike j 1 xs ys →
     free_number ys ≡ free_number xs → Alike LooksLike j 1 (shells_after xs k moved t) (shells_after ys k moved t)
 shells-both j xs ys k moved t alike free =
     rw free (alike-set LooksLike j 1 _ _ (k - 1) (shell_after_turn k moved t)
@@ -99,7 +99,7 @@ shells-both j xs ys k moved t alike free =
 took-both : (j : ℕ) (a b : WorldState) (k : ℕ) (queue : List (List ℕ)) (t : TurnResult) → Twins j a b → k ≢ j →
     Both j (turn_taken a k queue t) (turn_taken b k queue t)
 took-both j a b k queue t twins ne =
-    let moved : moved_at_turn b t ≡ moved_at_turn a t = ap (λ s. moved_object s (shared_after_event t.course) t.course.renamed) twins.shared in (
+    let moved : moved_at_turn b t ≡ moved_at_turn a t = ap (λ s. moved_objects s (shared_after_event t.course) t.course.renamed) twins.shared in (
       refl,
       ap (λ n. of_shell k t.log ++ begun_items t.course.begun n) (twins-free j a b twins),
       record {

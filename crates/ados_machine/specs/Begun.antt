@@ -7,7 +7,7 @@ use Rattle.ados_find.specs.declared.settings.Settings.{Settings}
 use Rattle.ados_flow.specs.declared.kinds.FrameKind.TheVariants.{RunCommands}
 use Rattle.ados_flow.specs.Frames.{new_frame}
 use Rattle.ados_flow.specs.Gathering.{before_plus, has_no_command}
-use Rattle.ados_resident.specs.declared.commands.InternalCommand.TheVariants as internal
+use Rattle.ados_resident.specs.declared.internal_commands.InternalCommand.TheVariants as internal
 use Rattle.ados_machine.specs.declared.events.Event.TheVariants.{Turn}
 use Rattle.ados_machine.specs.declared.outs.Out.{Out}
 use Rattle.ados_machine.specs.Items.{TraceItem}

@@ -1,5 +1,6 @@
 -- Plain: a command of the shell's own, without redirections, does what its row says.
 use Rattle.std.specs.Prelude.{◌≡◌, ◌≢◌, ◌⊎◌, ℕ, pos, List, [], ◌∷◌, ◌++◌, true, false, Option, Some, None, is_some, is_none, take, option_map, Ok, codes}
+use Rattle.std.specs.List.{All, fold}
 use Rattle.std.specs.FinMap as finite
 use Rattle.ados_text.specs.Text.{Text, Bytes}
 use Rattle.ados_text.specs.declared.codes.Code.{Code}
@@ -14,6 +15,7 @@ use Rattle.ados_find.specs.declared.outcomes.Renamed.{Renamed}
 use Rattle.ados_find.specs.declared.search.Found.{Found}
 use Rattle.ados_find.specs.declared.search.Found.TheVariants as found
 use Rattle.ados_find.specs.Effects.{Effect}
+use Rattle.ados_find.specs.Renames.{renames_of}
 use Rattle.ados_find.specs.Search.{is_path}
 use Rattle.ados_flow.specs.Actions as flow
 use Rattle.ados_flow.specs.declared.kinds.FrameKind.TheVariants.{Tick}
@@ -129,10 +131,11 @@ pub record HasGone (renamed : Renamed) (w world : WorldState) : Type 0 where
 abbrev pub directory_at : WorldState → ℕ → Option Place
 directory_at w k = option_map (λ shell. shell.parts.directory) (numbered_shell w k)
 
--- the current directory of each other shell moves with an object that was renamed
+-- The current directory of each other shell moves with all that was renamed, one object after the other; if nothing was, it stays.
 abbrev pub DirectoriesAreCarried : Type 0
 DirectoriesAreCarried =
-    (w : WorldState) (k : ℕ) (shell : ShellState) (line : Line) (effect : Effect) (renamed : Renamed) (world : WorldState) (out : Out) (items : List (ℕ × TraceItem))
+    (w : WorldState) (k : ℕ) (shell : ShellState) (line : Line) (effect : Effect) (world : WorldState) (out : Out) (items : List (ℕ × TraceItem))
     (j : ℕ) (place : Place) →
-    TakesEffect w k shell line effect → effect.renamed ≡ Some renamed → step_of w (Turn k) ≡ Accepted world out items → HasGone renamed w world →
-    j ≢ k → directory_at w j ≡ Some place → directory_at world j ≡ Some (moved_place renamed.from renamed.to place)
+    TakesEffect w k shell line effect → step_of w (Turn k) ≡ Accepted world out items →
+    All (λ renamed. HasGone renamed w world) (renames_of effect.renamed effect.gathered) → j ≢ k → directory_at w j ≡ Some place →
+    directory_at world j ≡ Some (fold (λ place renamed. moved_place renamed.from renamed.to place) place (renames_of effect.renamed effect.gathered))

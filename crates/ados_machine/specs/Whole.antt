@@ -4,7 +4,7 @@ use Rattle.std.specs.Prelude.{nat_lt, ℕ, zero, suc, ◌-◌, List, [], ◌∷�
 use Rattle.ados_text.specs.Text.{Text}
 use Rattle.ados_text.specs.declared.codes.Code.{Code}
 use Rattle.ados_text.specs.declared.codes.TheConstants.Result2.{TOO_MANY_LEVELS}
-use Rattle.ados_ram.specs.Place.{Place, moved_place}
+use Rattle.ados_ram.specs.Place.{Place}
 use Rattle.ados_find.specs.declared.codes.Codes.{Codes}
 use Rattle.ados_find.specs.declared.outcomes.Renamed.{Renamed}
 use Rattle.ados_find.specs.declared.targets.Target.{Target}
@@ -29,6 +29,7 @@ use Rattle.ados_machine.specs.Items.{broken_codes}
 use Rattle.ados_machine.specs.Completions.{Here, Completion, Passes, Answers, Jumps, Calls, Ticks, Waits, course_of}
 use Rattle.ados_machine.specs.CodeRule.{RuleState, with_fault_line, with_answer, with_limit, newest_kept, with_tick, without_tick}
 use Rattle.ados_machine.specs.World.{seen_shells}
+use Rattle.ados_machine.specs.Carrying.{place_after_moves}
 use Rattle.ados_machine.specs.Step.{after_event}
 
 -- what lines pass on: the shells (at the shell's own number it only matters that there is one), what all share, what the shell
@@ -131,13 +132,9 @@ start_at now wait =
     new_course now.common.rule_state.parts now.common.rule_state.kept now.common.shared
     (slice_set (seen_shells now.common.shells) (now.at.shell - 1) (Some (seen_at now.at wait now.common.rule_state.parts.directory))) now.common.flagged
 
--- a current directory moves with what was moved, if anything was
-abbrev pub directory_after_move : Option Renamed → Place → Place
-directory_after_move None directory = directory
-directory_after_move (Some moved) directory = moved_place moved.from moved.to directory
-
-abbrev pub carried_parts : Option Renamed → Parts → Parts
-carried_parts moved parts = record parts { directory = directory_after_move moved parts.directory }
+-- a current directory moves with what was moved
+abbrev pub carried_parts : List Renamed → Parts → Parts
+carried_parts moved parts = record parts { directory = place_after_moves moved parts.directory }
 
 -- an event ends, and what was printed is appended to what was printed before
 abbrev pub common_after_event : Common → Course → Common

@@ -8,12 +8,7 @@ ghost use Rattle.ados_machine.specs.Broken.{BreaksByCMark, BreaksByDFlag, Breaks
 ghost use Rattle.ados_machine.specs.Called.{ScriptsBeginWithTheirLines, CalledScriptsBeginWithTheirLines, FramesGoOn, JumpsLeadToTheirLine, FramesKeepTheirLines};
 ghost use Rattle.ados_machine.specs.Codes.{UnknownCommandsFail, UnknownCommandsAreTold, FaultyLinesFail, ExitStatusesAreReturned, FaultsAreReturned, FailedStartsAreReturned};
 ghost use Rattle.ados_machine.specs.Early.{ScriptsEndEarlyAtTheirFirst, FramesGiveBack, EarlyAndBackIsToObey};
-ghost use Rattle.ados_machine.specs.Given.{
-  EventsGiveWhatIsPending,
-  FurtherLinesWait,
-  ReadyShellsAreTurned,
-  TypedLinesAreTakenInOrder,
-};
+ghost use Rattle.ados_machine.specs.Given.{EventsGiveWhatIsPending, FurtherLinesWait, ReadyShellsAreTurned, TypedLinesAreTakenInOrder};
 ghost use Rattle.ados_machine.specs.InUse.{EntriesStayInUse, IdleShellsUseNoEntry, OutputsStayOpen, StartsOpenOutputs};
 ghost use Rattle.ados_machine.specs.Kept.{EventsKeepAllCodes, FreshWorldsHaveAllCodes, LastCodesStay};
 ghost use Rattle.ados_machine.specs.Manual.{ElsesLeadPastTheirBlock, IfsLeadPastTheirBlock, SkipsLeadPastTheirLabel, WordsAreLookedUpInOrder};
@@ -21,21 +16,7 @@ ghost use Rattle.ados_machine.specs.Plain.{EnabledCommandsAreFound, EffectsAreRe
 ghost use Rattle.ados_machine.specs.Programs.{StartsAskForTheirProgram, StartsUseTheirEntry, FirstFaultsStay, PiecesArePrinted};
 ghost use Rattle.ados_machine.specs.Redirected.{OpenOutputsAreInUse};
 ghost use Rattle.ados_machine.specs.Reports.{ReportsTellLastRecords};
-ghost use Rattle.ados_machine.specs.Laws.{
-  ScriptsEndWhereTheRuleSays,
-  EventsKeepWorldsSane,
-  ReportsAreTheEnds,
-  EachFrameEndsOnce,
-  BreaksEndScripts,
-  BreaksKeepWhatComes,
-  FreshWorldsHaveNoChild,
-  TurnsKeepChildren,
-  AnswersMoveChildren,
-  RequestsAreOfChildren,
-  FittingAnswersAreAccepted,
-  AcceptedAnswersFit,
-  RequestsNameTheirShells,
-};
+ghost use Rattle.ados_machine.specs.Laws.{ScriptsEndWhereTheRuleSays, EventsKeepWorldsSane, ReportsAreTheEnds, EachFrameEndsOnce, BreaksEndScripts, BreaksKeepWhatComes, FreshWorldsHaveNoChild, TurnsKeepChildren, AnswersMoveChildren, RequestsAreOfChildren, FittingAnswersAreAccepted, AcceptedAnswersFit, RequestsNameTheirShells};
 ghost use Rattle.ados_machine.specs.Limits.{IsSane};
 ghost use Rattle.ados_machine.specs.Quiet.{QuietShellsAreInvisible};
 ghost use Rattle.ados_machine.specs.Starts.{FailedStartsChangeTheCodes, FailedStartsLeaveNothing};
@@ -206,7 +187,7 @@ pub fn commands_return_their_codes()
 /// A plain line of one of the shell's own commands does what the command's row says. An enabled internal command is found by its
 /// name; its record has the codes of its effect and the limit that it sets, so FailAt n is recorded with 0 and the limit n; what
 /// it puts out on the console comes first of what its event prints, and what it puts out in a command substitution goes into the
-/// line of that; and if it renames an object, the current directories of the other shells move along.
+/// line of that; the current directories of the other shells move with all that it renames, one object after the other, and else stay.
 pub fn commands_do_their_rows()
     ensures found { EnabledCommandsAreFound }
     ensures recorded { EffectsAreRecorded }

@@ -1,3 +1,4 @@
+// Paths, and which texts name them.
 ghost use Rattle.std.specs.Prelude.{◌≡◌, ◌≤◌, ◌+◌, ◌&&◌, true, nat_le, Ok, Err, IsOk, IfOk, length};
 ghost use Rattle.std.specs.Option.{option_copied};
 ghost use Rattle.ados_names.specs.Names.{is_name};

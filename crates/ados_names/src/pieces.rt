@@ -1,3 +1,4 @@
+// The pieces of a path's text, between its colon and its slashes.
 ghost use Rattle.std.specs.Prelude.{◌≡◌, ◌≤◌, ◌<◌, ◌-◌, IfOk, IfSome, length, take, drop, position};
 ghost use Rattle.std.specs.List.{list_all, slice_split, suffix_len};
 ghost use Rattle.ados_names.specs.Names.{is_colon, is_slash};

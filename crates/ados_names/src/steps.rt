@@ -1,3 +1,4 @@
+// The steps of a path.
 use ados_text::Text;
 
 /// A step of a path.

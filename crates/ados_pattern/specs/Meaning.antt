@@ -1,8 +1,8 @@
 -- What a pattern is.
-use Rattle.std.specs.Prelude.{Option, refl}
+use Rattle.std.specs.Prelude.{Option, None, refl}
 use Rattle.std.specs.Coded.{Coded, code_by, coded×, coded_ℕ, coded_list, coded_option}
 use Rattle.ados_text.specs.Text.{Text}
-use Rattle.ados_pattern.specs.Form.{Form}
+use Rattle.ados_pattern.specs.Form.{Form, Empty, Any, Many, Then}
 use Rattle.ados_pattern.specs.FormCode.{form_code}
 use Rattle.ados_pattern.specs.Build.{form_of_tokens}
 use Rattle.ados_pattern.specs.Literal.{literal_name}
@@ -20,3 +20,7 @@ meaning_code =
 -- what a text says, if it is a pattern
 abbrev pub meaning_of : Text → Meaning
 meaning_of text = record { form = form_of_tokens (tokens_of text); name = literal_name text }
+
+-- the pattern in which any texts may stand before and after what another one says
+abbrev pub anywhere : Meaning → Meaning
+anywhere pattern = record { form = Then (Many Any) (Then pattern.form (Then (Many Any) Empty)); name = None }

@@ -1,3 +1,4 @@
+// Why a text is not a pattern.
 ghost use Rattle.std.specs.Prelude.{◌≡◌};
 ghost use Rattle.ados_pattern.specs.declared.errors.PatternFault.TheVariants.{NoMemory as OutOfMemory};
 

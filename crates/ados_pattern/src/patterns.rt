@@ -1,5 +1,8 @@
 //! A pattern, from its text.
 
+ghost use Rattle.std.specs.Prelude.{◌≡◌, IfOk};
+ghost use Rattle.ados_pattern.specs.Form.{Any, Many, form_of};
+
 use crate::builds::whole;
 use crate::errors::PatternFault;
 use crate::faults::first_fault;
@@ -39,7 +42,7 @@ impl Pattern {
     ghost use Rattle.ados_pattern.specs.Form.{Form, form_of};
     ghost use Rattle.ados_pattern.specs.Grammar.{IsPattern};
     ghost use Rattle.ados_pattern.specs.Literal.{name_in};
-    ghost use Rattle.ados_pattern.specs.Meaning.{meaning_of};
+    ghost use Rattle.ados_pattern.specs.Meaning.{anywhere, meaning_of};
 
     /// The pattern that a text is.
     ///
@@ -72,6 +75,20 @@ impl Pattern {
             Some(place) => Err(PatternFault::BadPattern(place)),
             None => Ok(Pattern::made(alloc, text)?),
         }
+    }
+
+    /// The pattern that a text matches if a part of it matches this one.
+    pub fn anywhere(self) -> Result<Pattern, NoMemory>
+        ensures { IfOk result (λ pattern. pattern ≡ anywhere self) }
+    {
+        let alloc = self.alloc;
+        let after = Part::Then(any_text(alloc)?, Box::new(alloc, Part::Empty)?);
+        let within = Part::Then(Box::new(alloc, self.part)?, Box::new(alloc, after)?);
+        Ok(Pattern {
+            part: Part::Then(any_text(alloc)?, Box::new(alloc, within)?),
+            name: None,
+            alloc,
+        })
     }
 
     /// Whether the text was literal: one alternative, in which every item is a character, quoted
@@ -108,4 +125,11 @@ impl Pattern {
         let name = name_of(alloc, text)?;
         Ok(Pattern { part, name, alloc })
     }
+}
+
+// The part that any text matches.
+fn any_text(alloc: Global) -> Result<Box<Part>, NoMemory>
+    ensures { IfOk result (λ part. form_of part.value ≡ Many Any) }
+{
+    Ok(Box::new(alloc, Part::Many(Box::new(alloc, Part::Any)?))?)
 }

@@ -1,4 +1,4 @@
--- Each object in a directory has fewer rows than the directory.
+-- Why functions down the tree end: a node is at most three times as deep as it has rows.
 use Rattle.std.specs.Prelude.{◌≡◌, ℕ, ◌≤◌, ◌+◌, ◌*◌, max, length, refl, List, [], ◌∷◌, ◌++◌}
 use Rattle.std.proofs.Common.{arith, length-append}
 use Rattle.ados_ram.specs.declared.branches.Branch.TheInside as branch

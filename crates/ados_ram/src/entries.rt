@@ -1,3 +1,4 @@
+// What the files have of an object: its name, its contents, its bits, its comment.
 ghost use Rattle.std.specs.Prelude.{◌≡◌, [], IfOk};
 ghost use Rattle.std.specs.Option.{option_copied};
 ghost use Rattle.ados_ram.specs.Entry.{letter};

@@ -1,3 +1,4 @@
+// The files of the RAM disk, each version of them: look-ups and changes.
 ghost use Rattle.std.specs.Prelude.{◌≡◌, IfOk};
 ghost use Rattle.std.specs.Option.{option_copied};
 ghost use Rattle.std.specs.Result.{result_err};

@@ -1,3 +1,4 @@
+// What is in use while a call is made.
 ghost use Rattle.std.specs.Prelude.{◌≡◌};
 ghost use Rattle.ados_ram.specs.Place.{key_of};
 

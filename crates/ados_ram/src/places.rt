@@ -1,4 +1,5 @@
-ghost use Rattle.std.specs.Prelude.{◌≡◌, IfOk, OnOk, [], ◌++◌, ◌∷◌, length, drop};
+// Places: full paths as lists of names.
+ghost use Rattle.std.specs.Prelude.{◌≡◌, IfOk, OnErr, OnOk, [], ◌++◌, ◌∷◌, length, drop};
 ghost use Rattle.std.specs.Option.{option_copied, option_map};
 ghost use Rattle.std.specs.Cmp.{partial_equiv_from_equiv};
 ghost use Rattle.std.proofs.lemmas.Cmp.{on_equiv, eq_by_cmp_equiv};
@@ -192,9 +193,10 @@ pub fn any_at_or_below(places: &[Place], names: &[Name]) -> bool
     false
 }
 
-/// Appends copies of places to a list.
+/// Appends copies of places to a list; at `NoMemory` the list is unchanged.
 pub fn push_places(out: &mut Vec<Place>, places: &[Place]) -> Result<(), NoMemory>
-    ensures { OnOk result (out.new.items ≡ out.old.items ++ places.now) }
+    ensures ok { OnOk result (out.new.items ≡ out.old.items ++ places.now) }
+    ensures err { OnErr result (out.new.items ≡ out.old.items) }
 {
     out.extend_from_slice(places)?;
     Ok(())

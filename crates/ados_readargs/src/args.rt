@@ -1,3 +1,4 @@
+// What the options of a template were given.
 ghost use Rattle.std.specs.Prelude.{◌≡◌, [], Ok, false, length, get_or, slice_get, IfOk, IfErr, IfSome, OnOk};
 ghost use Rattle.std.specs.Option.{option_map};
 ghost use Rattle.ados_text.specs.Text.{IsText};

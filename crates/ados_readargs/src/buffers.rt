@@ -1,3 +1,4 @@
+// The texts of what options were given, one after another in a buffer.
 ghost use Rattle.std.specs.Prelude.{◌≡◌, ◌++◌, ◌+◌, ◌≤◌, [], ◌∷◌, length, map, take, drop, get_or, IfOk, OnOk, OnErr};
 ghost use Rattle.ados_text.specs.Text.{IsText};
 ghost use Rattle.ados_items.specs.Items.{value_of};

@@ -1,3 +1,4 @@
+// What is asked of an option once the words are read: `/A` and `/N`.
 ghost use Rattle.std.specs.Prelude.{◌≡◌, length, slice_get};
 ghost use Rattle.std.specs.List.{list_any};
 ghost use Rattle.ados_readargs.specs.Args.{or_absent, option_texts};

@@ -1,9 +1,10 @@
+// Why a text is not a template, or a line does not fill one.
 ghost use Rattle.std.specs.Prelude.{◌≡◌};
 ghost use Rattle.ados_readargs.specs.Faults.{result2_of};
 ghost use Rattle.ados_readargs.specs.declared.errors.ArgFault.TheVariants.{NoMemory as OutOfMemory};
 
 use ados_text::{NoMemory, Result2};
-use std::alloc::{AllocError, AllocFailed};
+use std::alloc::AllocFailed;
 use thiserror::Error;
 
 /// Why a text is not a template, or why a line does not fill one.
@@ -56,14 +57,6 @@ impl From<NoMemory> for ArgFault {
     ghost from_gives = { λ _ e. e ≡ OutOfMemory };
 
     fn from(_e: NoMemory) -> ArgFault {
-        ArgFault::NoMemory
-    }
-}
-
-impl From<AllocError> for ArgFault {
-    ghost from_gives = { λ _ e. e ≡ OutOfMemory };
-
-    fn from(_e: AllocError) -> ArgFault {
         ArgFault::NoMemory
     }
 }

@@ -1,3 +1,4 @@
+// The arguments of a line, or its first fault.
 ghost use Rattle.std.specs.Prelude.{◌≡◌, Ok, false, IfErr, OnOk};
 ghost use Rattle.ados_readargs.specs.Checks.{has_bad};
 ghost use Rattle.ados_readargs.specs.Faults.{IsFaultOf};

@@ -1,3 +1,4 @@
+// What was read is given to the options.
 ghost use Rattle.std.specs.Prelude.{◌≡◌, ◌++◌, ◌∷◌, [], ◌<◌, length, OnOk};
 ghost use Rattle.ados_readargs.specs.Args.{sets_flag, arg_at, args_of};
 

@@ -1,3 +1,4 @@
+// What one word of a line says.
 ghost use Rattle.std.specs.Prelude.{◌≡◌};
 ghost use Rattle.ados_readargs.specs.Meanings.{is_full, given_meaning, keyword_value_meaning, switch_meaning, keyword_meaning, plain_meaning, word_meaning, value_meaning, next_meaning, rest_of, free_meaning, meaning_of};
 

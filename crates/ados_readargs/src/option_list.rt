@@ -1,3 +1,4 @@
+// The options of a template, with what is asked of them for each line.
 ghost use Rattle.std.specs.Prelude.{◌≡◌, ◌<◌, ℕ, true, false, length, get_or, IfSome};
 ghost use Rattle.std.specs.List.{list_any};
 ghost use Rattle.ados_readargs.specs.NameLengths.{has_as_long, one_is_as_long};

@@ -1,3 +1,4 @@
+// An option: its names and its qualifiers.
 ghost use Rattle.std.specs.Prelude.{◌≡◌};
 ghost use Rattle.ados_readargs.specs.Options.{has_name, is_positional, takes_value, no_qualifiers, option_qualifiers, is_rest};
 ghost use Rattle.std.specs.List.{list_any};

@@ -1,3 +1,4 @@
+// What the words of a line were read as.
 ghost use Rattle.std.specs.Prelude.{◌≡◌};
 ghost use Rattle.ados_readargs.specs.Readings.{fills_option, is_filled, is_vacant, first_vacant, given_item, names_option, named_count, no_readings};
 

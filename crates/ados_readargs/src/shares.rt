@@ -1,3 +1,4 @@
+// The shares of the plain words: which go to `/M`, and which to the options with `/A` after it.
 ghost use Rattle.std.specs.Prelude.{◌≡◌, ◌≤◌, ◌<◌, true, false, take, drop, length};
 ghost use Rattle.ados_readargs.specs.Shares.{vacant_count, middle_of, front_share, middle_share, back_share, option_share, is_left, TakesAll};
 

@@ -1,3 +1,4 @@
+// What each option was given, by places of texts in a buffer.
 ghost use Rattle.std.specs.Prelude.{◌≡◌, ◌++◌, ◌≤◌, [], ◌∷◌, length, map, get_or, slice_get, IfOk, OnOk, IfSome};
 ghost use Rattle.std.specs.Option.{option_map};
 ghost use Rattle.ados_text.specs.Text.{IsText};

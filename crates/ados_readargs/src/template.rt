@@ -1,3 +1,4 @@
+// Templates, and which texts are templates.
 ghost use Rattle.std.specs.Prelude.{◌≡◌, [], Ok, Some, false, map, IfOk, IfErr, OnOk};
 ghost use Rattle.std.specs.List.{slice_split, list_any, count_by};
 ghost use Rattle.ados_text.specs.Text.{to_ascii, is_same};

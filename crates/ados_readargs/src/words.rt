@@ -1,3 +1,4 @@
+// The words of a command's arguments.
 ghost use Rattle.std.specs.Prelude.{◌≡◌, ◌+◌, true, length};
 ghost use Rattle.std.specs.List.{list_any};
 ghost use Rattle.ados_items.specs.Items.{item_at};

@@ -1,9 +1,9 @@
 -- Commands by their names.
 use Rattle.std.specs.Prelude.{List, [], ◌∷◌, Option, Some, None, if◌then◌else◌}
 use Rattle.ados_text.specs.Text.{Text, is_same}
-use Rattle.ados_resident.specs.declared.commands.DiskCommand.{DiskCommand}
-use Rattle.ados_resident.specs.declared.commands.InternalCommand.{InternalCommand}
-use Rattle.ados_resident.specs.declared.commands.TheConstants.InternalCommand.{ALL}
+use Rattle.ados_resident.specs.declared.disk_commands.DiskCommand.{DiskCommand}
+use Rattle.ados_resident.specs.declared.internal_commands.InternalCommand.{InternalCommand}
+use Rattle.ados_resident.specs.declared.internal_commands.TheConstants.InternalCommand.{ALL}
 use Rattle.ados_resident.specs.declared.dialects.Dialect.{Dialect}
 use Rattle.ados_resident.specs.Commands.{disk_commands, disk_name, internal_name}
 

@@ -5,7 +5,7 @@ ghost use Rattle.ados_resident.specs.Commands.{internal_name};
 ghost use Rattle.ados_resident.specs.Names.{first_with_name};
 ghost use Rattle.ados_resident.specs.Residents.{count_of, enabled_internal, switched_internal, put_entry};
 
-use crate::commands::InternalCommand;
+use crate::internal_commands::InternalCommand;
 use crate::residents::{Internal, Resident};
 use ados_text::{NoMemory, Text, same_name};
 use std::alloc::Global;

@@ -3,8 +3,9 @@ ghost use Rattle.std.specs.Prelude.{◌≡◌};
 ghost use Rattle.ados_resident.specs.Commands.{disk_name, internal_name};
 ghost use Rattle.ados_resident.specs.Names.{disk_named, first_with_name, internal_named};
 
-use crate::commands::{DiskCommand, InternalCommand};
 use crate::dialects::Dialect;
+use crate::disk_commands::DiskCommand;
+use crate::internal_commands::InternalCommand;
 use ados_text::{Text, same_name};
 
 impl InternalCommand {

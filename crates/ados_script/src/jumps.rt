@@ -1,3 +1,4 @@
+// Where a jump leads.
 ghost use Rattle.std.specs.Prelude.{◌≡◌, ◌+◌, ◌<◌, ◌^◌, IfSome};
 ghost use Rattle.ados_script.specs.Jumps.{jump_to_next};
 

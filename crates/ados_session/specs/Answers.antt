@@ -1,15 +1,14 @@
 -- The answers that a recording writes.
-use Rattle.std.specs.Prelude.{ℕ, ℤ, pos, nat_lt, Option, Some, None, option_map, Result, Ok, Err, codes, if◌then◌else◌}
+use Rattle.std.specs.Prelude.{ℕ, nat_lt, Option, Some, None, option_map, Result, Ok, Err, codes, if◌then◌else◌}
 use Rattle.std.specs.Option.{option_map_or}
 use Rattle.std.specs.Str.{bytes_eq}
 use Rattle.hex.specs.Hex.{decode_of}
 use Rattle.hex.specs.declared.error.FromHexError.{FromHexError}
 use Rattle.ados_text.specs.Text.{Bytes, Text}
-use Rattle.ados_text.specs.Number.{is_negative, number_of}
 use Rattle.ados_machine.specs.Answers.{is_piece}
 use Rattle.ados_machine.specs.declared.answers.Answer.{Answer}
 use Rattle.ados_machine.specs.declared.answers.Answer.TheVariants.{Started, NotFound, Denied, Memory, Other, «Bytes» as Piece, End, PipeFault, Exit, Signal, WaitFault}
-use Rattle.ados_session.specs.Parts.{split_at_space}
+use Rattle.ados_session.specs.Parts.{split_at_space, unsigned_number}
 
 -- the answer of a word alone
 abbrev pub plain_answer : Text → Option Answer
@@ -25,13 +24,13 @@ plain_answer word =
     (if bytes_eq word (codes "waitfault") then Some WaitFault else None))))))))
 
 -- a number from 0 to 255
-abbrev pub byte_in : Option ℤ → Option ℕ
-byte_in (Some (pos n)) = if nat_lt n 256 then Some n else None
-byte_in _ = None
+abbrev pub byte_in : Option ℕ → Option ℕ
+byte_in (Some n) = if nat_lt n 256 then Some n else None
+byte_in None = None
 
 -- the exit status that digits write: 0 to 255
 abbrev pub status_from_digits : Text → Option ℕ
-status_from_digits digits = if is_negative digits then None else byte_in (number_of digits)
+status_from_digits digits = byte_in (unsigned_number digits)
 
 -- the answer of these bytes, if they are 1 to 4,096
 abbrev pub piece : Bytes → Option Answer

@@ -1,21 +1,21 @@
 -- The breaks that a recording writes.
-use Rattle.std.specs.Prelude.{ℕ, ℤ, pos, nat_le, Bool, true, ◌&&◌, List, [], ◌∷◌, Option, Some, None, codes, if◌then◌else◌}
+use Rattle.std.specs.Prelude.{ℕ, nat_le, Bool, true, ◌&&◌, List, [], ◌∷◌, Option, Some, None, codes, if◌then◌else◌}
 use Rattle.std.specs.Option.{option_map_or}
 use Rattle.std.specs.Str.{bytes_eq}
-use Rattle.ados_text.specs.Number.{is_negative, number_of}
 use Rattle.ados_text.specs.Text.{Text}
 use Rattle.ados_machine.specs.declared.events.BreakAt.{BreakAt}
 use Rattle.ados_machine.specs.declared.events.BreakKind.{BreakKind}
 use Rattle.ados_machine.specs.declared.events.BreakKind.TheVariants.{C, D}
-use Rattle.ados_session.specs.Parts.{split_at_space}
+use Rattle.ados_session.specs.Parts.{split_at_space, unsigned_number}
+
+-- a number from 1 to a highest one
+abbrev pub number_up_to : ℕ → Option ℕ → Option ℕ
+number_up_to most (Some n) = if nat_le 1 n && nat_le n most then Some n else None
+number_up_to most None = None
 
 -- the number that digits write, from 1 to a highest one
-abbrev pub number_up_to : ℕ → Option ℤ → Option ℕ
-number_up_to most (Some (pos n)) = if nat_le 1 n && nat_le n most then Some n else None
-number_up_to most number = None
-
 abbrev pub bounded_number : ℕ → Text → Option ℕ
-bounded_number most digits = if is_negative digits then None else number_up_to most (number_of digits)
+bounded_number most digits = number_up_to most (unsigned_number digits)
 
 -- the kind of a break
 abbrev pub kind_of : Text → Option BreakKind

@@ -1,5 +1,6 @@
--- A line of a recording in two parts.
-use Rattle.std.specs.Prelude.{ℕ, suc, Bool, ◌==◌, take, drop, position, Option, option_map}
+-- A line of a recording in two parts, and the numbers in it.
+use Rattle.std.specs.Prelude.{ℕ, ℤ, pos, suc, Bool, ◌==◌, take, drop, position, Option, Some, None, option_map, if◌then◌else◌}
+use Rattle.ados_text.specs.Number.{is_negative, number_of}
 use Rattle.ados_text.specs.Text.{Text}
 
 abbrev pub is_space : ℕ → Bool
@@ -8,3 +9,12 @@ is_space c = c == 32
 -- the bytes before the first space and those after it
 abbrev pub split_at_space : Text → Option (Text × Text)
 split_at_space line = option_map (λ end. (take end line, drop (suc end) line)) (position is_space line)
+
+-- a number that is not negative
+abbrev pub natural_number : Option ℤ → Option ℕ
+natural_number (Some (pos n)) = Some n
+natural_number number = None
+
+-- the number that digits without a sign write
+abbrev pub unsigned_number : Text → Option ℕ
+unsigned_number digits = if is_negative digits then None else natural_number (number_of digits)

@@ -4,8 +4,8 @@ ghost use Rattle.ados_text.specs.Text.{IsText};
 ghost use Rattle.hex.specs.Hex.{decode_of};
 ghost use Rattle.ados_session.specs.Answers.{answer_of, bytes_answer, piece, plain_answer, status_from_digits, valued_answer};
 
-use crate::parts::parted;
-use ados_text::{NoMemory, Octets, PIECE_BYTES, bounded_number};
+use crate::parts::{parted, unsigned_number};
+use ados_text::{NoMemory, Octets, PIECE_BYTES};
 use ados_world::Answer;
 use hex::FromHexError;
 use std::alloc::Global;
@@ -65,10 +65,7 @@ fn valued_answer(alloc: Global, word: &[u8], value: &[u8]) -> Result<Option<Answ
 fn status_from_digits(digits: &[u8]) -> Option<u8>
     ensures { result ≡ status_from_digits digits.now }
 {
-    if matches!(digits, [b'-', ..]) {
-        return None;
-    }
-    bounded_number(digits).and_then(|number| u8::try_from(number).ok())
+    unsigned_number(digits).and_then(|number| u8::try_from(number).ok())
 }
 
 // The answer of bytes in hexadecimal digits, of 1 to 4,096.

@@ -1,11 +1,11 @@
 // The breaks that a recording writes.
-ghost use Rattle.std.specs.Prelude.{◌≡◌, ◌++◌, ◌∷◌, [], true, IfOk};
+ghost use Rattle.std.specs.Prelude.{◌≡◌, ◌++◌, ◌∷◌, [], true, IfOk, OnErr};
 ghost use Rattle.ados_text.specs.Text.{IsText};
 ghost use Rattle.ados_session.specs.Breaks.{are_rising, break_of, kind_of, last_event, bounded_number};
 
-use crate::parts::parted;
+use crate::parts::{parted, unsigned_number};
 use ados_machine::BreakAt;
-use ados_text::{NoMemory, bounded_number};
+use ados_text::NoMemory;
 use ados_world::BreakKind;
 
 // The highest number of an event that a break may name.
@@ -28,11 +28,12 @@ pub fn break_of(text: &[u8]) -> Option<BreakAt>
     })
 }
 
-/// Adds a break; `false` if it names an earlier event than the one before it.
+/// Adds a break; `false` if it names an earlier event than the one before it. At `NoMemory` the list is unchanged.
 pub fn add_break(breaks: &mut Vec<BreakAt>, at: BreakAt) -> Result<bool, NoMemory>
     requires { are_rising breaks.old.items ≡ true }
     ensures rising { IfOk result (λ is_rising. is_rising ≡ are_rising (breaks.old.items ++ at ∷ [])) }
     ensures breaks { IfOk result (λ _. breaks.new.items ≡ breaks.old.items ++ at ∷ []) }
+    ensures err { OnErr result (breaks.new.items ≡ breaks.old.items) }
 {
     let is_rising = last_event(breaks.as_slice()) <= at.event;
     breaks.push(at)?;
@@ -53,11 +54,8 @@ fn last_event(breaks: &[BreakAt]) -> u64
 fn event_in(digits: &[u8]) -> Option<u64>
     ensures { result ≡ bounded_number 1_000_000_000 digits.now }
 {
-    if matches!(digits, [b'-', ..]) {
-        return None;
-    }
-    bounded_number(digits)
-        .and_then(|number| u64::try_from(number).ok())
+    unsigned_number(digits)
+        .map(u64::from)
         .filter(|number| (1..=EVENTS).contains(number))
 }
 
@@ -65,10 +63,7 @@ fn event_in(digits: &[u8]) -> Option<u64>
 fn shell_in(digits: &[u8]) -> Option<u8>
     ensures { result ≡ bounded_number 20 digits.now }
 {
-    if matches!(digits, [b'-', ..]) {
-        return None;
-    }
-    bounded_number(digits)
+    unsigned_number(digits)
         .and_then(|number| u8::try_from(number).ok())
         .filter(|number| (1..=SHELLS).contains(number))
 }

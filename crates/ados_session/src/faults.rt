@@ -3,7 +3,6 @@ ghost use Rattle.std.specs.Prelude.{◌≡◌};
 ghost use Rattle.ados_session.specs.declared.faults.FileFault.TheVariants.{NoMemory as OutOfMemory};
 
 use ados_text::NoMemory;
-use std::alloc::AllocError;
 use thiserror::Error;
 
 /// Why a file of hosts or a recording is not read.
@@ -21,14 +20,6 @@ impl From<NoMemory> for FileFault {
     ghost from_gives = { λ _ fault. fault ≡ OutOfMemory };
 
     fn from(_e: NoMemory) -> FileFault {
-        FileFault::NoMemory
-    }
-}
-
-impl From<AllocError> for FileFault {
-    ghost from_gives = { λ _ fault. fault ≡ OutOfMemory };
-
-    fn from(_e: AllocError) -> FileFault {
         FileFault::NoMemory
     }
 }

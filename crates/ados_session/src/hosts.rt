@@ -1,5 +1,5 @@
 //! Files of the programs of the host that are commands.
-ghost use Rattle.std.specs.Prelude.{◌≡◌, ◌++◌, ◌∷◌, ◌&&◌, [], true, IfOk, IfErr};
+ghost use Rattle.std.specs.Prelude.{◌≡◌, ◌++◌, ◌∷◌, ◌&&◌, [], true, IfOk, IfErr, OnErr};
 ghost use Rattle.ados_text.specs.Lines.{lines_of};
 ghost use Rattle.ados_session.specs.Faults.{IsFault};
 ghost use Rattle.ados_session.specs.Hosts.{are_hosts, are_free, host_line, parsed_hosts, is_comment, is_host_line};
@@ -79,7 +79,7 @@ fn take_line(
     }
 }
 
-/// Adds a command; `false` if a world of the dialect can't be made with them.
+/// Adds a command; `false` if a world of the dialect can't be made with them. At `NoMemory` the list is unchanged.
 pub fn add_host(
     dialect: Dialect,
     hosts: &mut Vec<HostEntry>,
@@ -87,6 +87,7 @@ pub fn add_host(
 ) -> Result<bool, NoMemory>
     ensures free { IfOk result (λ is_free. is_free ≡ are_free dialect (hosts.old.items ++ host ∷ [])) }
     ensures hosts { IfOk result (λ _. hosts.new.items ≡ hosts.old.items ++ host ∷ []) }
+    ensures err { OnErr result (hosts.new.items ≡ hosts.old.items) }
 {
     hosts.push(host)?;
     Ok(hosts_fault(dialect, hosts.as_slice()).is_none())

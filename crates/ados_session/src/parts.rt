@@ -1,7 +1,9 @@
-// The parts of a line of a file.
+// The parts of a line of a file, and the numbers in it.
 ghost use Rattle.std.specs.Prelude.{◌≡◌, ◌<◌, length, position, IfSome, option_map};
 ghost use Rattle.ados_text.specs.Text.{IsText};
-ghost use Rattle.ados_session.specs.Parts.{is_space, split_at_space};
+ghost use Rattle.ados_session.specs.Parts.{is_space, split_at_space, unsigned_number};
+
+use ados_text::bounded_number;
 
 /// The bytes before the first space and those after it; `None` if there is no space.
 #[tactic(auto, using(ados_text::proofs::TextLemmas::parts))]
@@ -20,4 +22,14 @@ fn space(line: &[u8]) -> Option<usize>
     ensures within { IfSome result (λ place. place < length line.now) }
 {
     line.iter().position(|byte| *byte == b' ')
+}
+
+/// The number that digits without a sign write, if they write one.
+pub fn unsigned_number(digits: &[u8]) -> Option<u32>
+    ensures { result ≡ unsigned_number digits.now }
+{
+    if matches!(digits, [b'-', ..]) {
+        return None;
+    }
+    bounded_number(digits).and_then(|number| u32::try_from(number).ok())
 }

@@ -11,6 +11,7 @@ use Rattle.ados_find.specs.Changes.{parts_after_command}
 use Rattle.ados_find.specs.Settings.{with_setting}
 use Rattle.ados_find.specs.declared.outcomes.Breaking.{Breaking}
 use Rattle.ados_find.specs.declared.outcomes.Renamed.{Renamed}
+use Rattle.ados_find.specs.Renames.{renames_in}
 use Rattle.ados_find.specs.Shared.{SharedState, version}
 use Rattle.ados_machine.specs.declared.outs.Out.{Out}
 use Rattle.ados_machine.specs.Phases.{Phase, GoingOn}
@@ -91,7 +92,7 @@ pub record HeldState : Type 0 where
   pub setting : Option Setting
   pub kept : Option (List Bytes)
   pub shared : Option SharedState
-  pub renamed : Option Renamed
+  pub renamed : List Renamed
   pub begun : Option ShellStart
   pub used : List Text
   pub breaking : Option Breaking
@@ -103,7 +104,7 @@ held_state draft = record {
   setting = draft.shell.setting;
   kept = drafted_outputs draft.shell;
   shared = draft.shared;
-  renamed = option_map (λ r. r.value) draft.renamed;
+  renamed = renames_in (option_map (λ r. r.value) draft.renamed);
   begun = option_map (λ b. b.value) draft.begun;
   used = draft.used.items;
   breaking = draft.breaking;
@@ -150,7 +151,7 @@ pub record IsFresh (shell : ShellState) (flagged : Bool) (draft : Draft) : Type 
   pub shell_is : IsUnchanged shell draft.shell
   pub flagged_is : draft.shell.flagged ≡ flagged
   pub shared_is : draft.shared ≡ None
-  pub renamed_is : option_map (λ r. r.value) draft.renamed ≡ None
+  pub renamed_is : renames_in (option_map (λ r. r.value) draft.renamed) ≡ []
   pub begun_is : option_map (λ b. b.value) draft.begun ≡ None
   pub printed_is : draft.printed.items ≡ []
   pub reports_are : draft.reports.items ≡ []
@@ -176,7 +177,7 @@ IsRuled scene before after settled = GoesOn scene before after (turn_by_rule (co
 pub record IsDrafted (scene : Scene) (draft : Draft) (turned : TurnResult) : Type 0 where
   pub shell_is : drafted_shell draft.shell scene.shell.now ≡ shell_of_turn turned
   pub shared_is : version scene.shared.now draft.shared ≡ shared_after_event turned.course
-  pub renamed_is : option_map (λ r. r.value) draft.renamed ≡ turned.course.renamed
+  pub renamed_is : renames_in (option_map (λ r. r.value) draft.renamed) ≡ turned.course.renamed
   pub begun_is : option_map (λ b. b.value) draft.begun ≡ turned.course.begun
   pub breaking_is : draft.breaking ≡ turned.course.breaking
   pub printed_is : draft.printed.items ≡ turned.course.printed
@@ -199,12 +200,12 @@ pub record IsTicked (scene : Scene) (mid after : Draft) (front tail : Text) : Ty
   pub reports : after.reports.items ≡ mid.reports.items
 
 -- the draft holds what a command made
-pub record HoldsEffect (number : ℕ) (before after : Draft) (change : Option Change) (shared : Option SharedState) (renamed : Option Renamed) (breaking : Option Breaking) : Type 0 where
+pub record HoldsEffect (number : ℕ) (before after : Draft) (change : Option Change) (shared : Option SharedState) (renamed : List Renamed) (breaking : Option Breaking) : Type 0 where
   pub frames : after.shell.frames ≡ before.shell.frames
   pub parts_are : (shell : ShellState) → (drafted_shell after.shell shell).parts ≡ parts_after_command change (drafted_shell before.shell shell).parts
   pub kept : drafted_outputs after.shell ≡ drafted_outputs before.shell
   pub shared_is : (old : SharedState) → version old after.shared ≡ version (version old before.shared) shared
-  pub renamed_is : option_map (λ r. r.value) after.renamed ≡ renamed
+  pub renamed_is : renames_in (option_map (λ r. r.value) after.renamed) ≡ renamed
   pub breaking_is : after.breaking ≡ breaking
   pub flagged_is : after.shell.flagged ≡ (before.shell.flagged || flags_own number breaking)
   pub begun : option_map (λ b. b.value) after.begun ≡ option_map (λ b. b.value) before.begun

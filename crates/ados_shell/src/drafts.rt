@@ -1,5 +1,6 @@
 // What a turn has changed so far, to be committed.
 ghost use Rattle.std.specs.Prelude.{◌≡◌, [], None, false, OnOk, option_map};
+ghost use Rattle.ados_find.specs.Renames.{renames_in};
 ghost use Rattle.ados_find.specs.Shared.{version};
 ghost use Rattle.ados_machine.specs.Step.{event_out};
 
@@ -9,7 +10,7 @@ use crate::scenes::Scene;
 use crate::shells::Shell;
 use crate::stacks::Stack;
 use crate::suspensions::Suspension;
-use ados_find::{Breaking, Change, Codes, Question, Renamed, Setting, Shared};
+use ados_find::{Breaking, Change, Codes, Question, Renames, Setting, Shared};
 use ados_flow::FIRST_LIMIT;
 use ados_machine::{EndReport, Out, Request};
 use ados_ram::Place;
@@ -24,8 +25,8 @@ pub struct Draft {
     pub shell: ShellDraft,
     /// The shared state, if it is a new one.
     pub shared: Option<Shared>,
-    /// The object that was renamed, by which the current directories of all shells are carried.
-    pub renamed: Option<Box<Renamed>>,
+    /// What was renamed, by which the current directories of all shells are carried.
+    pub renamed: Option<Box<Renames>>,
     /// The shell that is to begin.
     pub begun: Option<Box<Begun>>,
     /// The shell that is broken.
@@ -216,11 +217,11 @@ impl Draft {
         number: u8,
         change: Option<Box<Change>>,
         shared: Option<Shared>,
-        renamed: Option<Box<Renamed>>,
+        renamed: Option<Box<Renames>>,
         breaking: Option<Breaking>,
     )
         requires { IsUnset self.old }
-        ensures { HoldsEffect number self.old self.new (option_map (λ c. c.value) change) shared (option_map (λ r. r.value) renamed) breaking }
+        ensures { HoldsEffect number self.old self.new (option_map (λ c. c.value) change) shared (renames_in (option_map (λ r. r.value) renamed)) breaking }
     {
         self.shell.affect(change, flags_own(number, breaking));
         if let Some(shared) = shared {

@@ -9,7 +9,7 @@ ghost use Rattle.ados_machine.specs.Opening.{line_output};
 use crate::completions::Completion;
 use crate::drafts::Draft;
 use crate::scenes::Scene;
-use ados_items::{ItemFault, words};
+use ados_items::words;
 use ados_line::{Line, Redirection};
 use ados_machine::{Starting, Wait};
 use ados_resident::Program;
@@ -79,10 +79,9 @@ impl Draft {
         ensures { (words : Option (List (List ℕ))) → words ≡ words_of line.now.args →
             HasEnded scene.now self.old self.new line.now.command result (start_completion entry program line.now (course_of scene.now self.old) words) }
     {
-        match words(scene.alloc, line.args.as_bytes()) {
-            Err(ItemFault::NoMemory) => Err(Stop::NoMemory),
-            Err(ItemFault::Unmatched) => Err(Stop::Refused(Result2::UNMATCHED_QUOTES)),
-            Ok(args) => self.wait_for_start(scene, entry, program, args, line),
+        match words(scene.alloc, line.args.as_bytes())? {
+            None => Err(Stop::Refused(Result2::UNMATCHED_QUOTES)),
+            Some(args) => self.wait_for_start(scene, entry, program, args, line),
         }
     }
 

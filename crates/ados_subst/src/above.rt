@@ -1,3 +1,4 @@
+// What the directives above a line say.
 ghost use Rattle.std.specs.Prelude.{◌≡◌};
 ghost use Rattle.std.specs.Option.{option_copied};
 

@@ -1,3 +1,4 @@
+// The directives of a script, and its comments.
 ghost use Rattle.std.specs.Prelude.{◌≡◌, IfOk};
 ghost use Rattle.ados_text.specs.Text.{IsText};
 ghost use Rattle.ados_subst.specs.Faults.{Gives};

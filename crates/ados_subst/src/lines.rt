@@ -1,3 +1,4 @@
+// A line with its references replaced.
 ghost use Rattle.std.specs.Prelude.{◌≡◌, ◌<◌, ◌++◌, IfOk};
 ghost use Rattle.std.specs.List.{position_or_len};
 ghost use Rattle.ados_text.specs.Text.{IsText};

@@ -1,3 +1,4 @@
+// The characters of directives and of references.
 ghost use Rattle.std.specs.Prelude.{◌≡◌};
 ghost use Rattle.ados_subst.specs.Marks.{first_marks, with_mark};
 

@@ -1,3 +1,4 @@
+// The next of certain bytes in a line.
 ghost use Rattle.std.specs.Prelude.{◌≡◌, ◌+◌, ◌<◌, ◌≤◌, length};
 ghost use Rattle.std.specs.List.{position_or_len};
 ghost use Rattle.ados_subst.specs.Next.{next_place};

@@ -1,3 +1,4 @@
+// The options of a script's template, and their values.
 ghost use Rattle.std.specs.Prelude.{◌≡◌, position, IfOk};
 ghost use Rattle.std.specs.List.{join_with_byte};
 ghost use Rattle.std.specs.Option.{option_copied};

@@ -1,3 +1,4 @@
+// Assigns and where paths lead.
 use crate::places::{are_names, at, name};
 use crate::wrong::{Wrong, expect};
 use ados_assign::{Assigns, Binding, Places};

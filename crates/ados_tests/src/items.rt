@@ -1,5 +1,6 @@
+// Words of lines.
 use crate::wrong::{Wrong, expect};
-use ados_items::{ItemFault, words};
+use ados_items::words;
 use ados_text::{NoMemory, Texts};
 use std::alloc::Global;
 
@@ -15,17 +16,8 @@ fn are_texts(texts: &Texts, want: &[&str]) -> bool {
     true
 }
 
-// The words of a line, none if a quote is open. `NoMemory` is passed on.
-fn words_of(alloc: Global, line: &[u8]) -> Result<Option<Texts>, NoMemory> {
-    match words(alloc, line) {
-        Ok(texts) => Ok(Some(texts)),
-        Err(ItemFault::Unmatched) => Ok(None),
-        Err(ItemFault::NoMemory) => Err(NoMemory),
-    }
-}
-
 fn has_words(alloc: Global, line: &[u8], want: &[&str]) -> Result<bool, NoMemory> {
-    match words_of(alloc, line)? {
+    match words(alloc, line)? {
         Some(texts) => Ok(are_texts(&texts, want)),
         None => Ok(false),
     }
@@ -39,7 +31,7 @@ fn words_take_equal_signs_and_stop_at_a_comment(rt: HostRuntime) -> Result<(), W
 }
 
 fn has_open_quote(alloc: Global, line: &[u8]) -> Result<bool, NoMemory> {
-    Ok(words_of(alloc, line)?.is_none())
+    Ok(words(alloc, line)?.is_none())
 }
 
 #[test]

@@ -1,3 +1,4 @@
+// A driver with a launcher, a reader and a writer that fail.
 use crate::memory::{FlakyReader, FlakyWriter, NEVER};
 use crate::wrong::{Wrong, expect, expect_row};
 use ados_launch::{Counted, Drive, DriveFault, End, Listed};

@@ -1,3 +1,4 @@
+// Names and paths.
 use crate::wrong::{Wrong, expect, expect_row};
 use ados_names::{Path, Step};
 use ados_text::{NoMemory, Result2, Stop, Text};

@@ -1,3 +1,4 @@
+// Files in memory.
 use crate::places::at;
 use crate::wrong::{Wrong, expect};
 use ados_ram::{Busy, Limits, Ram};

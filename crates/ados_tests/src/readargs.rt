@@ -1,3 +1,4 @@
+// Templates and arguments.
 use crate::wrong::{Wrong, expect};
 use ados_readargs::{Arg, ArgFault, Args, Template};
 use ados_text::{NoMemory, Text, push_number};

@@ -1,3 +1,4 @@
+// Texts and lists of them.
 use crate::wrong::{Wrong, expect};
 use ados_text::{NoMemory, Octets, Text, TextFault, Texts};
 use std::alloc::Global;

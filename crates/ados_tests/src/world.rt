@@ -1,3 +1,4 @@
+// A world, event by event.
 use crate::wrong::{Wrong, expect, expect_row};
 use ados_text::{NoMemory, Text};
 use ados_world::{Codes, Event, Out, Refusal, World};

@@ -1,3 +1,4 @@
+// Why a call stops.
 ghost use Rattle.std.specs.Prelude.{◌≡◌};
 ghost use Rattle.ados_text.specs.declared.stops.Stop.TheVariants.{NoMemory as OutOfMemory};
 

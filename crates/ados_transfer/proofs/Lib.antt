@@ -2,3 +2,4 @@ mod WordLemmas
 mod WithinLemmas
 mod PathLemmas
 mod KeyLemmas
+mod VolumeLemmas

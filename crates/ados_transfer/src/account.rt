@@ -33,6 +33,8 @@ pub struct Account {
     pub moment: Moment,
     /// The paths of what the Shell has under names that are left out.
     pub left_out: Vec<String>,
+    /// The paths of the Shell's copies of stand-ins.
+    pub copies: Vec<String>,
     /// The path of the first object that could not be written.
     pub unwritten: Option<String>,
     /// The contents of the files that could not be written.
@@ -71,6 +73,7 @@ impl Account {
             alloc,
             moment,
             left_out: Vec::new(alloc),
+            copies: Vec::new(alloc),
             unwritten: None,
             bytes: Vec::new(alloc),
             held: None,
@@ -92,6 +95,17 @@ impl Account {
             self.add_unwritten_entry(path.as_str(), entry)?;
         }
         self.left_out.push(path)?;
+        Ok(())
+    }
+
+    /// Notes that the Shell has a copy of a stand-in, which is not written.
+    pub fn add_copy(&mut self, path: String) -> Result<(), TransferFault>
+        ensures unwritten { OnOk result (option_map string_bytes self.new.unwritten ≡ first_path (option_map string_bytes self.old.unwritten) (string_bytes path)) }
+        ensures copies { OnOk result (self.new.copies.items ≡ self.old.copies.items ++ path ∷ []) }
+        ensures rest { self.new ≡ record self.old { unwritten = self.new.unwritten; copies = self.new.copies } }
+    {
+        self.add_unwritten(path.as_str())?;
+        self.copies.push(path)?;
         Ok(())
     }
 

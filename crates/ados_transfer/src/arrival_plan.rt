@@ -58,6 +58,11 @@ impl<'a> ArrivalPlan<'a> {
         &self.now
     }
 
+    /// The Shell's files, from before the arrivals.
+    pub fn files(&self) -> &'a Ram {
+        self.files
+    }
+
     /// What is at a place, unless it is deleted by now.
     pub fn look(&self, key: &str, place: &Place) -> Option<&'a Entry> {
         if self.deletes(key) {

@@ -13,7 +13,7 @@ use crate::placing::{Draft, holds};
 use crate::records::Last;
 use crate::remainders::Remainder;
 use crate::writing::{Manner, no_memory, write_beside};
-use ados_ram::{FileBytes, Place, Ram};
+use ados_ram::{Entry, FileBytes, Place, Ram};
 use ados_text::NoMemory;
 use std::alloc::Global;
 use std::collections::BTreeMap;
@@ -26,17 +26,23 @@ pub struct Backups {
     alloc: Global,
     // Each by its path, which is that of a temporary file.
     by_path: BTreeMap<String, Backup>,
+    /// Files that were deleted while the Shell had their bytes, and another file of the folder too.
+    pub deleted: Vec<Backup>,
     /// At the end some of them stay.
     pub have_stayed: bool,
 }
 
-// What it is a copy of: the path of the file, what that held, its mode, and where the script moved it, if it did.
+/// What a backup is a copy of.
 #[derive(Drop)]
-struct Backup {
-    original: String,
-    bytes: FileBytes,
-    mode: u32,
-    moved: Option<Destination>,
+pub struct Backup {
+    /// The path of the file.
+    pub original: String,
+    /// What it held.
+    pub bytes: FileBytes,
+    /// Its mode.
+    pub mode: u32,
+    /// Where the script moved it, if it did.
+    pub moved: Option<Destination>,
 }
 
 /// What becomes of a backup after an update.
@@ -56,6 +62,7 @@ impl Backups {
         Backups {
             alloc,
             by_path: BTreeMap::new(alloc),
+            deleted: Vec::new(alloc),
             have_stayed: false,
         }
     }
@@ -73,42 +80,75 @@ impl Backups {
             .map(|backup| backup.mode)
     }
 
-    /// Something of the Shell's files gives way to what comes in, which may be the other copy of any of them: that is no deletion by the
-    /// script.
-    pub fn note_replaced(&mut self) {
+    /// What is at or below a place of the Shell's files gives way to what comes in: if it is the other copy of one of them, that is no
+    /// deletion by the script.
+    pub fn note_replaced(&mut self, files: &Ram, place: &Place) -> Result<(), NoMemory> {
+        let mut replaced = files.contents(place)?;
+        replaced.push(place.copy()?)?;
         for backup in self.by_path.values_mut() {
-            backup.moved = Some(Destination::Replaced);
+            if replaced.iter().any(|place| backup.is_at(files, place)) {
+                backup.moved = Some(Destination::Replaced);
+            }
         }
+        Ok(())
     }
 
     /// What the script deleted is followed no longer.
     pub fn forget_deleted(&mut self, files: &Ram) {
         for backup in self.by_path.values_mut() {
-            if backup
-                .moved
-                .as_ref()
-                .is_some_and(|moved| moved.is_deleted(files))
-            {
-                backup.moved = None;
-            }
+            backup.forget_deleted(files);
+        }
+        for backup in &mut self.deleted {
+            backup.forget_deleted(files);
         }
     }
 
     /// An object of the Shell's files was renamed: what was moved before moves along.
     pub fn carry(&mut self, from: &Place, to: &Place) -> Result<(), NoMemory> {
         for backup in self.by_path.values_mut() {
-            if let Some(moved) = &mut backup.moved {
-                moved.carry(from, to)?;
-            }
+            backup.carry(from, to)?;
+        }
+        for backup in &mut self.deleted {
+            backup.carry(from, to)?;
         }
         Ok(())
     }
 
-    // Keeps the path of a backup.
-    fn add(&mut self, path: &str, backup: Backup) -> Result<(), TransferFault> {
+    /// Keeps the path of a backup.
+    pub fn add(&mut self, path: &str, backup: Backup) -> Result<(), TransferFault> {
         self.by_path
             .insert(String::from_str(self.alloc, path)?, backup)?;
         Ok(())
+    }
+}
+
+impl Backup {
+    // What the script deleted is followed no longer.
+    fn forget_deleted(&mut self, files: &Ram) {
+        if self
+            .moved
+            .as_ref()
+            .is_some_and(|moved| moved.is_deleted(files))
+        {
+            self.moved = None;
+        }
+    }
+
+    // It moves along with an object that was renamed.
+    fn carry(&mut self, from: &Place, to: &Place) -> Result<(), NoMemory> {
+        match &mut self.moved {
+            Some(moved) => moved.carry(from, to),
+            None => Ok(()),
+        }
+    }
+
+    // Its file was moved to a place, or a file with its bytes is there.
+    fn is_at(&self, files: &Ram, place: &Place) -> bool {
+        matches!(&self.moved, Some(Destination::At(other)) if other == place)
+            || files
+                .look(place)
+                .and_then(Entry::bytes)
+                .is_some_and(|bytes| *bytes == self.bytes)
     }
 }
 
@@ -152,12 +192,13 @@ impl Mirror {
 
     // After an update the backups go that are not needed any longer. At the end the others get names of their own, and one line names the
     // first.
-    pub(crate) fn finish_backups<R: AllocGlobal + Files>(
+    pub(crate) fn finish_backups<R: AllocGlobal + Files + Clone + Drop>(
         &mut self,
         rt: &R,
         files: &Ram,
         moment: Moment,
     ) -> Result<(), TransferFault> {
+        self.restore_deleted(rt, files, moment)?;
         if self.backups.by_path.is_empty() {
             return Ok(());
         }
@@ -186,8 +227,8 @@ impl Mirror {
         self.keep_remainders(rt, remainders.as_slice())
     }
 
-    // Where the Shell has the file of a backup: one of the same bytes, or where it was moved.
-    fn elsewhere(
+    // Where the Shell has the file of a backup: one of the same bytes, or where it was moved if that is not written.
+    pub(crate) fn elsewhere(
         &self,
         files: &Ram,
         holders: &Holders<'_>,
@@ -196,11 +237,11 @@ impl Mirror {
         if let Some(holder) = holders.first_with(&backup.bytes) {
             return Ok(Some(Elsewhere::Copy(self.copy_path(files, holder.place())?)));
         }
-        self.destined_elsewhere(files, backup.moved.as_ref())
+        self.unwritten_elsewhere(files, backup.moved.as_ref())
     }
 
     // A file of the folder has the bytes of a backup.
-    fn is_in_folder<R: AllocGlobal + Files>(
+    pub(crate) fn is_in_folder<R: AllocGlobal + Files>(
         &self,
         rt: &R,
         backup: &Backup,
@@ -215,7 +256,7 @@ impl Mirror {
     fn let_go<R: Files>(&mut self, rt: &R, path: &str) -> Result<(), TransferFault> {
         self.backups.by_path.remove(path);
         if fs::remove_file(rt, path).is_err() && fs::symlink_metadata(rt, path).is_ok() {
-            return self.reports.report_once("temporary file left", path);
+            return self.report_temporary(String::from_str(self.alloc, path)?);
         }
         Ok(())
     }

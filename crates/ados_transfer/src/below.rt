@@ -3,7 +3,7 @@
 
 use crate::faults::TransferFault;
 use crate::here::Here;
-use crate::open_folders::OpenFolder;
+use crate::open_folders::{OpenFolder, is_one};
 use crate::paths::last_piece;
 use crate::stamps::Stamp;
 use crate::volumes::{Volume, Volumes};
@@ -55,6 +55,26 @@ impl<'a, R: AllocGlobal + Files> Below<'a, R> {
             Ok(found) => found.nlink() == 0,
             Err(_) => true,
         }
+    }
+
+    /// Refuses a folder below that of a volume if it is the folder of another one, which is mounted in both places.
+    ///
+    /// `FoldersMeet` names the folders of the two volumes.
+    pub fn check_apart(&self, path: &str, found: &Metadata) -> Result<(), TransferFault> {
+        let Some((own, _)) = self.volumes.of_path(path) else {
+            return Ok(());
+        };
+        for volume in self.volumes.all() {
+            let is_other = volume.label.as_str() != own.label.as_str();
+            if is_other
+                && self
+                    .metadata(volume.label.as_str())
+                    .is_ok_and(|root| is_one(&root, found))
+            {
+                return Err(TransferFault::FoldersMeet(own.folder.clone()?, volume.folder.clone()?));
+            }
+        }
+        Ok(())
     }
 
     /// The paths of the temporary files that were made and are still there.

@@ -38,7 +38,8 @@ impl Mirror {
         let arrival = Arrival::new(self.alloc, gone, Coming::Nothing, Stamp::NONE)?;
         if decision == Decision::Conflict {
             self.reports.report_kept(key, arrival.path.as_str(), false)?;
-            self.overrule(key, arrival.path.as_str(), entry.is_some() && !is_foreign)?;
+            let is_there = entry.is_some() && !is_foreign;
+            self.overrule(plan.files(), key, arrival.path.as_str(), is_there)?;
         }
         let is_forgotten = match (decision, entry) {
             (Decision::Conflict, _) if is_foreign => false,
@@ -97,7 +98,7 @@ impl Mirror {
             Decision::Conflict => {
                 self.reports
                     .report_kept(key, seen.path.as_str(), is_stand_in)?;
-                self.overrule(key, seen.path.as_str(), entry.is_some())?;
+                self.overrule(plan.files(), key, seen.path.as_str(), entry.is_some())?;
             }
             Decision::Bring => {}
         }

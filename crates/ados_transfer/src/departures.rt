@@ -23,7 +23,7 @@ impl Mirror {
     /// one line reports it, unless the script goes on meanwhile. With `dry` the changes are only reported.
     ///
     /// What can't be written or deleted is reported and left. The only error is that an allocation fails.
-    pub fn write_out<R: AllocGlobal + Files + Clock>(
+    pub fn write_out<R: AllocGlobal + Files + Clock + Clone + Drop>(
         &mut self,
         rt: &R,
         files: &Ram,
@@ -51,10 +51,11 @@ impl Mirror {
             return Ok(());
         }
         if account.moment == Moment::End {
-            self.forgive_deleted(files)?;
+            self.forgive_undone(files)?;
         }
         self.watch(files)?;
         self.settle_moves(files)?;
+        self.note_copies(files, account)?;
         let asides = self.begin_moves(rt, files, account)?;
         let mut departures = self.departures(files, account)?;
         departures.leave_out(away.as_slice());
@@ -142,13 +143,20 @@ impl Mirror {
         Ok(())
     }
 
-    // What was not written, and what the script deleted since, is no longer missed.
-    fn forgive_deleted(&mut self, files: &Ram) -> Result<(), TransferFault> {
+    // What was not written, and what the script deleted since, is no longer missed. If it has there what it had at the last comparison,
+    // only a change that is lost is.
+    fn forgive_undone(&mut self, files: &Ram) -> Result<(), TransferFault> {
         for key in &self.reports.missed()? {
-            let is_there = files.look(&self.place_of(key.as_str())?).is_some();
-            if !is_there && !self.records.contains_key(key.as_str()) {
-                self.reports.settle(key.as_str());
-                self.reports.agree(key.as_str());
+            let place = self.place_of(key.as_str())?;
+            match self.records.get(key.as_str()) {
+                Some(record) if record.is_kept(files.look(&record.place)) => {
+                    self.reports.settle(key.as_str());
+                }
+                None if files.look(&place).is_none() => {
+                    self.reports.settle(key.as_str());
+                    self.reports.agree(key.as_str());
+                }
+                _ => {}
             }
         }
         Ok(())
@@ -251,21 +259,6 @@ impl Mirror {
         Ok(())
     }
 
-    // Reports each temporary file that could not be removed.
-    fn report_temporaries<R: AllocGlobal + Files>(
-        &mut self,
-        rt: &Below<'_, R>,
-        account: &Account,
-    ) -> Result<(), TransferFault> {
-        for path in &rt.temporaries()? {
-            if !account.kept.contains(path) && !self.backups.has(path.as_str()) {
-                self.reports
-                    .report_once("temporary file left", path.as_str())?;
-            }
-        }
-        Ok(())
-    }
-
     // Reports what is not deleted.
     pub(crate) fn report_account(&mut self, account: &Account) -> Result<(), TransferFault> {
         if account.is_meanwhile() {
@@ -277,6 +270,12 @@ impl Mirror {
             for path in &account.left_out {
                 self.reports
                     .report_once("not written, since its name is not shared", path.as_str())?;
+            }
+            for path in &account.copies {
+                self.reports.report_once(
+                    "not written, since the Shell can't hold it",
+                    path.as_str(),
+                )?;
             }
         }
         match account.line(&self.volumes)? {

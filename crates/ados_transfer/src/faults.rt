@@ -1,7 +1,7 @@
 use crate::fit::Need;
 use ados_ram::Limits;
 use ados_text::NoMemory;
-use std::alloc::{AllocError, AllocFailed, Global};
+use std::alloc::{AllocFailed, Global};
 use thiserror::Error;
 
 /// Why files are not brought in or taken, or a line is not typed.
@@ -62,12 +62,6 @@ pub enum TransferFault {
 
 impl From<NoMemory> for TransferFault {
     fn from(_e: NoMemory) -> TransferFault {
-        TransferFault::NoMemory
-    }
-}
-
-impl From<AllocError> for TransferFault {
-    fn from(_e: AllocError) -> TransferFault {
         TransferFault::NoMemory
     }
 }

@@ -214,7 +214,7 @@ impl Look {
     // Adds an object; a folder is also kept to be gone through.
     fn add<R: AllocGlobal + Files>(
         &mut self,
-        rt: &R,
+        rt: &Below<'_, R>,
         named: Named,
         folders: &mut Vec<String>,
     ) -> Result<(), TransferFault> {
@@ -226,7 +226,10 @@ impl Look {
         };
         let kind = kind_of(&found);
         match kind {
-            Kind::Directory => folders.push(named.path.clone()?)?,
+            Kind::Directory => {
+                rt.check_apart(named.path.as_str(), &found)?;
+                folders.push(named.path.clone()?)?;
+            }
             Kind::Foreign => {
                 let path = named.path.clone()?;
                 self.left_alone

@@ -5,8 +5,9 @@ use crate::faults::TransferFault;
 use crate::folders::is_descendant;
 use crate::here::Here;
 use crate::mirror::Mirror;
-use crate::moves::Elsewhere;
+use crate::moves::{Destination, Elsewhere};
 use crate::places::shell_path;
+use crate::placing::is_one_name;
 use crate::records::{Last, Records};
 use crate::volumes::Volumes;
 use ados_ram::{FileBytes, Place, Ram};
@@ -86,6 +87,11 @@ impl<'a> Holders<'a> {
             Some(found) => Some(found),
             None => first_with(self.inside.as_slice(), bytes),
         }
+    }
+
+    /// A file outside of the directory has these bytes.
+    pub fn has_outside(&self, bytes: &FileBytes) -> bool {
+        first_with(self.outside.as_slice(), bytes).is_some()
     }
 
     // The file whose bytes would be lost with memory if those of a file of the folder are deleted or written over. For one that gives
@@ -181,15 +187,35 @@ impl Mirror {
         }
     }
 
-    // Another file of the folder than the one with this key has these bytes now.
+    // The same of a file that is to be written over; or it was moved to a file of the directory that is not written yet, and may never be.
+    pub(crate) fn is_lost_below<R: AllocGlobal + Files>(
+        &self,
+        rt: &R,
+        files: &Ram,
+        key: &str,
+        departure: &Departure<'_>,
+    ) -> Result<bool, TransferFault> {
+        let is_unwritten = match self.moves.destination(key) {
+            Some(Destination::At(place)) => self.is_unwritten(files, place)?,
+            Some(Destination::Replaced) | None => false,
+        };
+        Ok(is_unwritten || self.is_last_copy(rt, key, departure)?)
+    }
+
+    // Another file of the folder than the one with this key has these bytes now. A file that is reached by two paths is one.
     pub(crate) fn is_in_another<R: AllocGlobal + Files>(
         &self,
         rt: &R,
         key: &str,
         bytes: &FileBytes,
     ) -> Result<bool, TransferFault> {
+        let own = self.records.get(key).map(|record| record.path.as_str());
         for (other, record) in &self.records {
             if other.as_str() == key || !record.is_file_of(bytes) {
+                continue;
+            }
+            let is_one = own.is_some_and(|own| is_one_name(rt, own, record.path.as_str()));
+            if is_one {
                 continue;
             }
             let here = Here::look(rt, self.options.limits, record.path.as_str())?;

@@ -14,7 +14,7 @@ use crate::stamps::Stamp;
 use crate::stand_ins::StandIns;
 use crate::volumes::{Volume, Volumes};
 use crate::watches::Watch;
-use ados_ram::Limits;
+use ados_ram::{Limits, Ram};
 use std::alloc::Global;
 use std::collections::BTreeMap;
 use std::time::{Clock, SystemTime};
@@ -46,6 +46,8 @@ pub struct Mirror {
     pub(crate) waiting: Waiting,
     // Copies of what was written over, while only the Shell has the bytes beside.
     pub(crate) backups: Backups,
+    // The paths of temporary files that could not be removed.
+    pub(crate) temporaries: Vec<String>,
     pub(crate) reports: Reports,
     // The folders were looked at.
     pub(crate) has_begun: bool,
@@ -72,6 +74,7 @@ impl Mirror {
             moves: Moves::new(alloc),
             waiting: Waiting::new(alloc),
             backups: Backups::new(alloc),
+            temporaries: Vec::new(alloc),
             reports: Reports::new(alloc, volumes.copy()?),
             volumes,
             has_begun: false,
@@ -93,13 +96,14 @@ impl Mirror {
 
     /// The two sides are not alike: something could not be read, written or brought in, and has not been since, or something is not
     /// deleted because of that, or since its bytes would be only in memory; what was written over stays under a name of its own, for the
-    /// same reason; or the script changed something that the folder does not have as the script left it.
+    /// same reason; a temporary file is left; or the script changed something that the folder does not have as the script left it.
     pub fn differs(&self) -> bool {
         self.is_holding
             || self.is_lacking
             || self.stand_ins.differ()
             || !self.waiting.is_empty()
             || self.backups.have_stayed
+            || !self.temporaries.is_empty()
             || self.reports.has_failed()
     }
 
@@ -149,6 +153,7 @@ impl Mirror {
     // Notes that an object gives way to this machine's, if the Shell has one.
     pub(crate) fn overrule(
         &mut self,
+        files: &Ram,
         key: &str,
         path: &str,
         is_there: bool,
@@ -157,7 +162,7 @@ impl Mirror {
             self.reports.add_lost(key)?;
             let place = self.place_of(key)?;
             self.moves.note_replaced(&place);
-            self.backups.note_replaced();
+            self.backups.note_replaced(files, &place)?;
         }
         if is_there && self.overruled.is_none() {
             self.overruled = Some(String::from_str(self.alloc, path)?);

@@ -1,11 +1,12 @@
 //! Where files of the folder went in the Shell's files: each Rename is followed, so that a file that was moved out of the directory is
 //! known there, whatever its bytes are by then.
-ghost use Rattle.std.specs.Prelude.{◌≡◌, IfOk, OnOk};
+ghost use Rattle.std.specs.Prelude.{◌≡◌, IfOk, None, OnErr, OnOk, Some, string_bytes};
 ghost use Rattle.std.specs.Option.{option_copied};
-ghost use Rattle.std.specs.BTreeMap.{get_by_text};
+ghost use Rattle.std.specs.BTreeMap.{IsUnchanged, get_by_text};
 ghost use Rattle.std.specs.FinMap as map;
 ghost use Rattle.ados_ram.specs.Place.{key_of};
 ghost use Rattle.ados_transfer.specs.Moves.{destination_after, is_deleted, is_file};
+ghost use Rattle.ados_transfer.specs.Records.{Sets};
 
 use crate::faults::TransferFault;
 use crate::mirror::Mirror;
@@ -58,12 +59,18 @@ impl Moves {
     }
 
     /// Where the file of this key went, which is followed no longer.
-    pub fn take(&mut self, key: &str) -> Option<Destination> {
+    pub fn take(&mut self, key: &str) -> Option<Destination>
+        ensures value { result ≡ get_by_text self.old.by_key key.now }
+        ensures taken { Sets self.old.by_key self.new.by_key key.now None }
+    {
         self.by_key.remove(key)
     }
 
-    /// The file of this key went there.
-    pub fn add(&mut self, key: String, destination: Destination) -> Result<(), TransferFault> {
+    /// The file of this key went there. If there was no memory, nothing changed.
+    pub fn add(&mut self, key: String, destination: Destination) -> Result<(), TransferFault>
+        ensures added { OnOk result (Sets self.old.by_key self.new.by_key (string_bytes key) (Some destination)) }
+        ensures unchanged { OnErr result (IsUnchanged self.old.by_key self.new.by_key) }
+    {
         self.by_key.insert(key, destination)?;
         Ok(())
     }
@@ -228,6 +235,32 @@ impl Mirror {
             Some(Destination::Replaced) => Ok(Some(Elsewhere::Replaced)),
             _ => Ok(None),
         }
+    }
+
+    // The same, or where it is in a directory of the share, if the folder does not have it there as it is now.
+    pub(crate) fn unwritten_elsewhere(
+        &self,
+        files: &Ram,
+        destination: Option<&Destination>,
+    ) -> Result<Option<Elsewhere>, TransferFault> {
+        match destination {
+            Some(Destination::At(place)) if self.is_unwritten(files, place)? => {
+                Ok(Some(Elsewhere::Moved(self.copy_path(files, place)?)))
+            }
+            _ => self.destined_elsewhere(files, destination),
+        }
+    }
+
+    // A file is at a place that is in a directory of the share, and it is not what was there at the last comparison.
+    pub(crate) fn is_unwritten(&self, files: &Ram, place: &Place) -> Result<bool, TransferFault> {
+        let Some(key) = self.key_of(place)? else {
+            return Ok(false);
+        };
+        let is_written = self
+            .records
+            .get(key.as_str())
+            .is_some_and(|record| record.is_kept(files.look(place)));
+        Ok(is_file(files, place) && !is_written)
     }
 
     // A file is at a place that is in no directory of the share.

@@ -82,7 +82,7 @@ fn own_path<R: AllocGlobal + Files>(rt: &R, opened: &Metadata) -> io::Result<Opt
     Ok(None)
 }
 
-// Two looks were at one object.
-fn is_one(found: &Metadata, other: &Metadata) -> bool {
+/// Two looks were at one object, by whatever path.
+pub fn is_one(found: &Metadata, other: &Metadata) -> bool {
     found.dev() == other.dev() && found.ino() == other.ino()
 }

@@ -31,6 +31,14 @@ pub fn last_piece(path: &str) -> &str {
     }
 }
 
+/// What comes before the last slash of a path; nothing if it has none.
+pub fn folder_of(path: &str) -> &str {
+    match path.rsplit_once('/') {
+        Some((folder, _)) => folder,
+        None => "",
+    }
+}
+
 /// The name of an object in a folder, which leads nowhere else.
 pub fn is_file_name(name: &str) -> bool
     ensures { result ≡ is_file_name name.now }

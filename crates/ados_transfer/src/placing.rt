@@ -5,6 +5,7 @@
 
 use crate::bringing::bytes_of;
 use crate::here::Here;
+use crate::paths::{folder_of, last_piece};
 use crate::writing::{Manner, link_beside, open_beside, write_beside};
 use ados_ram::{Entry, FileBytes};
 use std::fs::Metadata;
@@ -139,7 +140,7 @@ fn is_bound<R: Files>(rt: &R, folder: &str, beside: &str, target: &str) -> io::R
 
 /// The same for a file that is to get another name.
 pub fn is_immovable<R: AllocGlobal + Files>(rt: &R, path: &str) -> io::Result<bool> {
-    let folder = path.rsplit_once('/').map_or("", |(folder, _)| folder);
+    let folder = folder_of(path);
     if !is_sticky(&fs::symlink_metadata(rt, folder)?) {
         return Ok(false);
     }
@@ -187,7 +188,19 @@ pub fn holds<R: AllocGlobal + Files>(rt: &R, path: &str, bytes: &FileBytes) -> b
     }
 }
 
-// Two names are those of one file.
+/// Two paths are those of one name of a file, as in a folder that is mounted twice: it is deleted with either. A second name of
+/// the file (a hard link) is not the same one.
+pub fn is_one_name<R: Files>(rt: &R, path: &str, other: &str) -> bool {
+    if !is_one_file(rt, path, other) {
+        return false;
+    }
+    if fs::symlink_metadata(rt, path).is_ok_and(|found| found.nlink() == 1) {
+        return true;
+    }
+    last_piece(path) == last_piece(other) && is_one_file(rt, folder_of(path), folder_of(other))
+}
+
+// Two paths are those of one file or folder.
 fn is_one_file<R: Files>(rt: &R, path: &str, other: &str) -> bool {
     match (
         fs::symlink_metadata(rt, path),

@@ -2,12 +2,15 @@
 
 use crate::departure::own_path;
 use crate::faults::TransferFault;
+use crate::folders::lower;
+use crate::here::is_nothing;
 use crate::mirror::Mirror;
 use crate::moves::Elsewhere;
-use crate::paths::{last_piece, step_into};
+use crate::paths::{folder_of, last_piece, step_into};
 use crate::placing::place_new;
 use crate::volumes::Volumes;
 use std::alloc::Global;
+use std::collections::BTreeSet;
 use std::io::ErrorKind;
 use std::rt::Files;
 use std::{fs, io};
@@ -46,7 +49,7 @@ impl Remainder {
 
     // Gives it a name of its own: beside the place of the file, or else in the folder of its volume. Gives the name; that is the
     // temporary one if it can have no other.
-    fn own_name<R: AllocGlobal + Files>(
+    fn own_name<R: AllocGlobal + Files + Clone + Drop>(
         &self,
         rt: &R,
         volumes: &Volumes,
@@ -65,7 +68,7 @@ impl Remainder {
 
 impl Mirror {
     // Gives the backups that stay names of their own, and reports the first. One that another program deleted has none.
-    pub(crate) fn keep_remainders<R: AllocGlobal + Files>(
+    pub(crate) fn keep_remainders<R: AllocGlobal + Files + Clone + Drop>(
         &mut self,
         rt: &R,
         remainders: &[Remainder],
@@ -86,28 +89,60 @@ impl Mirror {
     }
 }
 
-// Gives a file a name that begins like this and that nothing has; nothing if that can't be done.
-fn placed_as<R: AllocGlobal + Files>(
+// Gives a file a name that begins like this and that nothing has, in whatever case; nothing if that can't be done.
+fn placed_as<R: AllocGlobal + Files + Clone + Drop>(
     rt: &R,
     path: &str,
     stem: &str,
 ) -> Result<Option<String>, TransferFault> {
+    match try_place_as(rt, path, stem) {
+        Ok(name) => Ok(name),
+        Err(error) if error.kind() == ErrorKind::OutOfMemory => Err(TransferFault::NoMemory),
+        Err(_) => Ok(None),
+    }
+}
+
+// The same, with the error.
+fn try_place_as<R: AllocGlobal + Files + Clone + Drop>(
+    rt: &R,
+    path: &str,
+    stem: &str,
+) -> io::Result<Option<String>> {
+    let taken = names_beside(rt, stem)?;
     for number in 0..NAMES {
         let name = if number == 0 {
             format!(in rt.alloc(); "{stem}.kept")?
         } else {
             format!(in rt.alloc(); "{stem}.kept{number}")?
         };
-        match try_place(rt, path, name.as_str()) {
-            Ok(true) => return Ok(Some(name)),
-            Ok(false) => {}
-            Err(error) if error.kind() == ErrorKind::OutOfMemory => {
-                return Err(TransferFault::NoMemory);
-            }
-            Err(_) => return Ok(None),
+        let is_taken = taken.contains(lower(rt.alloc(), last_piece(name.as_str()))?.as_str());
+        if !is_taken && try_place(rt, path, name.as_str())? {
+            return Ok(Some(name));
         }
     }
     Ok(None)
+}
+
+// The names in the folder of a path, in lower case: the Shell does not tell apart names that differ in case alone.
+fn names_beside<R: AllocGlobal + Files + Clone + Drop>(
+    rt: &R,
+    path: &str,
+) -> io::Result<BTreeSet<String>> {
+    let mut names = BTreeSet::new(rt.alloc());
+    let entries = match fs::read_dir(rt, folder_of(path)) {
+        Ok(entries) => entries,
+        Err(error) if is_nothing(error.kind()) => return Ok(names),
+        Err(error) => return Err(error),
+    };
+    for entry in entries {
+        match entry {
+            Ok(entry) => names.insert(lower(rt.alloc(), entry.file_name())?)?,
+            // It is no name of the Shell.
+            Err(error) if error.kind() == ErrorKind::InvalidFilename => false,
+            Err(error) => return Err(error),
+        };
+    }
+    Ok(names)
 }
 
 // Gives a file a path below the folder of the share; `false` if something has it.

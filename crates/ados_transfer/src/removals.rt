@@ -122,6 +122,7 @@ impl Mirror {
         }
         match is_done {
             Ok(true) => {
+                self.note_gone(key, departure, here)?;
                 self.forget(key);
                 self.reports.agree(key);
                 Ok(())

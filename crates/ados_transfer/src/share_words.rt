@@ -5,7 +5,7 @@ ghost use Rattle.ados_transfer.specs.Volumes.{is_within, meet};
 use crate::bringing::parted;
 use crate::faults::{TransferFault, named};
 use crate::folders::is_descendant;
-use crate::open_folders::OpenFolder;
+use crate::open_folders::{OpenFolder, is_one};
 use crate::paths::{ascii, is_free, place_in, step_into};
 use crate::places::shell_path;
 use crate::volumes::{Volume, Volumes};
@@ -45,7 +45,7 @@ pub fn volumes_of<R: AllocGlobal + Files>(
             volume.label = format!(in alloc; "{number}:")?;
         }
         for other in &all {
-            check_apart(alloc, other, &volume)?;
+            check_apart(rt, other, &volume)?;
         }
         all.push(volume)?;
     }
@@ -117,9 +117,17 @@ fn device_of(alloc: Global, path: &str, assigns: &Assigns) -> Result<Option<Name
     }
 }
 
-// The folders of two volumes are apart, and so are their directories.
-fn check_apart(alloc: Global, one: &Volume, other: &Volume) -> Result<(), TransferFault> {
-    if meet(one.folder.as_str(), other.folder.as_str()) {
+// The folders of two volumes are apart, also where they are mounted, and so are their directories.
+fn check_apart<R: AllocGlobal + Files>(
+    rt: &R,
+    one: &Volume,
+    other: &Volume,
+) -> Result<(), TransferFault> {
+    let alloc = rt.alloc();
+    if meet(one.folder.as_str(), other.folder.as_str())
+        || is_mounted_above(rt, one, other)?
+        || is_mounted_above(rt, other, one)?
+    {
         let (one, other) = (one.folder.clone()?, other.folder.clone()?);
         return Err(TransferFault::FoldersMeet(one, other));
     }
@@ -129,6 +137,25 @@ fn check_apart(alloc: Global, one: &Volume, other: &Volume) -> Result<(), Transf
         return Err(TransferFault::DirectoriesMeet(one, other));
     }
     Ok(())
+}
+
+// The folder of a volume, or one above it, is that of another volume, by whatever path (`mount --bind`).
+fn is_mounted_above<R: AllocGlobal + Files>(
+    rt: &R,
+    volume: &Volume,
+    other: &Volume,
+) -> Result<bool, TransferFault> {
+    let Ok(folder) = fs::metadata(rt, volume.root.as_str()) else {
+        return Ok(false);
+    };
+    let mut above = String::from_str(rt.alloc(), "/")?;
+    for step in other.folder.split('/') {
+        above = step_into(rt.alloc(), above.as_str(), step)?;
+        if fs::metadata(rt, above.as_str()).is_ok_and(|found| is_one(&found, &folder)) {
+            return Ok(true);
+        }
+    }
+    Ok(false)
 }
 
 // Two whole paths are the same, or one leads to what is in the other.

@@ -52,8 +52,8 @@ pub struct StandIns {
     pub keys: BTreeSet<String>,
     // The number of the last one.
     number: u64,
-    /// The script wrote to one or changed its comment, or the file of one could not be given back its name: what the script has there
-    /// is not what the folder has.
+    /// The script wrote to one, changed its comment or could read it, or the file of one could not be given back its name: what the
+    /// script has there, or made of it, is not what the folder has.
     pub is_lost: bool,
     /// At the last update one was elsewhere than its file, or its file had the name of another object.
     pub is_blocked: bool,

@@ -4,6 +4,8 @@
 //! One path names an object among all of them. If there are several volumes its first step is the label of one, as in `1:/src/x`, and
 //! otherwise there is no such step; what follows leads down from the folder. A key is such a path in lower case.
 ghost use Rattle.std.specs.Prelude.{◌≡◌, IfOk, IfSome, string_bytes};
+ghost use Rattle.std.specs.List.{Contains};
+ghost use Rattle.ados_ram.specs.Place.{is_at_or_below, key_of};
 ghost use Rattle.ados_transfer.specs.Volumes.{Follows, real_path};
 
 use crate::faults::TransferFault;
@@ -55,7 +57,10 @@ impl Volume {
     }
 
     /// A place is that of the directory, or below it.
-    pub fn has(&self, place: &Place) -> bool {
+    #[tactic(auto, using(crate::proofs::VolumeLemmas::begins_by_key))]
+    pub fn has(&self, place: &Place) -> bool
+        ensures { result ≡ is_at_or_below (key_of self.now.place) (key_of place.now) }
+    {
         place.names().starts_with(self.place.names())
     }
 }
@@ -95,7 +100,10 @@ impl Volumes {
     }
 
     /// The volume of a path or a key, and what follows its label there.
-    pub fn of_path<'p>(&self, path: &'p str) -> Option<(&Volume, &'p str)> {
+    pub fn of_path<'p>(&self, path: &'p str) -> Option<(&Volume, &'p str)>
+        ensures volume { IfSome result (λ found. Contains self.now.all.value.items found.0.now) }
+        ensures below { IfSome result (λ found. Follows (string_bytes found.0.now.label) path.now found.1.now) }
+    {
         for volume in self.all.iter() {
             if let Some(below) = volume.below(path) {
                 return Some((volume, below));

@@ -72,9 +72,16 @@ enum Fate {
     Altered,
 }
 
+impl Fate {
+    // The script can read it, as a file without bytes.
+    fn is_readable(&self) -> bool {
+        matches!(self, Fate::Stands(_, bits) if bits.read)
+    }
+}
+
 impl Mirror {
     /// Looks at the stand-ins after an event: one that was moved is followed to its new place. The file of one that had bit d and never
-    /// bit r is deleted on this machine too if it is deleted.
+    /// bit r is deleted on this machine too if it is deleted. A line reports one that has bit r.
     pub fn watch(&mut self, files: &Ram) -> Result<(), TransferFault> {
         for key in &self.stand_ins.keys {
             let Some(record) = self.records.get_mut(key.as_str()) else {
@@ -84,8 +91,14 @@ impl Mirror {
                 continue;
             }
             let fate = fate_of(self.alloc, record, files)?;
-            if matches!(fate, Fate::Altered) {
+            if matches!(fate, Fate::Altered) || fate.is_readable() {
                 self.stand_ins.is_lost = true;
+            }
+            if fate.is_readable() {
+                self.reports.report_once(
+                    "has bit r, but no bytes in the Shell",
+                    record.path.as_str(),
+                )?;
             }
             if matches!(fate, Fate::Altered | Fate::Deleted) {
                 record.place = self.volumes.place_of(key.as_str())?;

@@ -58,8 +58,8 @@ impl Mirror {
             Decision::Write if self.options.dry => self.reports.report_once("would write", path),
             Decision::Write => {
                 let mode = self.mode_of(rt, files, entry, account)?;
-                let is_last_copy = self.is_last_copy(rt, key, departure)?;
-                let draft = Draft::new(entry, &here, mode, is_last_copy);
+                let is_last = self.is_lost_below(rt, files, key, departure)?;
+                let draft = Draft::new(entry, &here, mode, is_last);
                 self.write(rt, (key, path), &draft, account)
             }
         }

@@ -1,3 +1,4 @@
+// The local variables of a shell.
 ghost use Rattle.std.specs.Prelude.{◌≡◌, true, None, IfOk, OnOk, OnErr};
 ghost use Rattle.std.specs.List.{filter};
 ghost use Rattle.ados_text.specs.Text.{IsText};

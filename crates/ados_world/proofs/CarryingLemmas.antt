@@ -8,14 +8,14 @@ use Rattle.ados_machine.specs.Carrying.{carried_directory, carried_place, carrie
 use Rattle.ados_machine.specs.Shells.{ShellState}
 use Rattle.ados_world.specs.Shells.{placed_shells, carried_directories, placed_shell}
 
-placed-all : (moved : Renamed) (shells : List (Option ShellState))
+placed-all : (moved : List Renamed) (shells : List (Option ShellState))
     → placed_shells (carried_directories moved shells) shells ≡ map (carried_place moved) shells
 placed-all moved [] = refl
 placed-all moved (None ∷ shells) = ap (λ l. None ∷ l) (placed-all moved shells)
 placed-all moved (Some shell ∷ shells) = ap (λ l. Some (carried_shell moved shell) ∷ l) (placed-all moved shells)
 
 -- one of them is another shell, with a directory of its own
-pub placed-set : (moved : Renamed) (new : ShellState) (shells : List (Option ShellState)) (i : ℕ)
+pub placed-set : (moved : List Renamed) (new : ShellState) (shells : List (Option ShellState)) (i : ℕ)
     → placed_shells (slice_set (carried_directories moved shells) i (Some (carried_directory moved new))) (slice_set shells i (Some new))
     ≡ slice_set (map (carried_place moved) shells) i (Some (carried_shell moved new))
 placed-set moved new [] i = refl

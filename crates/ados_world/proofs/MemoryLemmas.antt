@@ -52,7 +52,7 @@ runs-on w k shell t sane here goes none =
     nobody true = refl
     nobody false = refl
 
-left-is : (k : ℕ) (moved : Option Renamed) (t : TurnResult) → is_done k t.frames ≡ false → is_some (shell_after_turn k moved t) ≡ true
+left-is : (k : ℕ) (moved : List Renamed) (t : TurnResult) → is_done k t.frames ≡ false → is_some (shell_after_turn k moved t) ≡ true
 left-is k moved t e = rw e refl
 
 -- its shell is still at its place

@@ -70,10 +70,10 @@ begun-after (Some begun) (Some number) shells k shell now free e =
 abbrev pub codes_of_end : Bool → Codes → Option Codes
 codes_of_end done codes = if done then Some codes else None
 
-pub codes-left : (k : ℕ) (moved : Option Renamed) (t : TurnResult) →
+pub codes-left : (k : ℕ) (moved : List Renamed) (t : TurnResult) →
     final_codes k (Some (carried_or_same moved (shell_of_turn t))) ≡ codes_of_end (is_done k t.frames) t.course.parts.codes
-codes-left k None t = refl
-codes-left k (Some moved) t = refl
+codes-left k [] t = refl
+codes-left k (moved ∷ more) t = refl
 
 pub shells-left : (done : Bool) (codes : Codes) (k : ℕ) (shells : List (Option ShellState)) (shell : ShellState) →
     remaining_shells (codes_of_end done codes) k (slice_set shells (k - 1) (Some shell)) ≡ slice_set shells (k - 1) (if done then None else Some shell)

@@ -1,12 +1,13 @@
 -- What a draft holds, moved in one part at a time, is the machine's world after the turn.
-use Rattle.std.proofs.Common.{◌≡◌, ◌∙◌, ◌-◌, ℕ, List, Bool, Option, Some, None, ap, sym}
+use Rattle.std.proofs.Common.{◌≡◌, ◌∙◌, ◌-◌, ℕ, List, [], ◌∷◌, Bool, Option, Some, None, ap, sym}
 use Rattle.std.specs.Prelude.{option_map, slice_set}
 use Rattle.ados_find.specs.declared.codes.Codes.{Codes}
 use Rattle.ados_find.specs.declared.outcomes.Renamed.{Renamed}
+use Rattle.ados_find.specs.Renames.{renames_in}
 use Rattle.ados_find.specs.Shared.{SharedState, version}
 use Rattle.ados_machine.specs.Items.{reports_of}
 use Rattle.ados_machine.specs.Shells.{ShellState}
-use Rattle.ados_machine.specs.Carrying.{carried_or_same, carried_shell, carried_shells, moved_object}
+use Rattle.ados_machine.specs.Carrying.{carried_or_same, carried_shell, carried_shells, moved_objects}
 use Rattle.ados_machine.specs.Apply.{TurnResult}
 use Rattle.ados_machine.specs.World.{WorldState, numbered_shell}
 use Rattle.ados_machine.specs.Course.{shared_after_event}
@@ -29,14 +30,14 @@ use Rattle.ados_world.specs.Breaks.{shells_with_broken}
 use Rattle.ados_world.proofs.BreakLemmas.{others-broken}
 
 -- the shells after what a turn makes of one of them
-shells-placed : (shells : List (Option ShellState)) (k : ℕ) (draft : ShellDraft) (shell : ShellState) (t : TurnResult) (moved : Option Renamed)
+shells-placed : (shells : List (Option ShellState)) (k : ℕ) (draft : ShellDraft) (shell : ShellState) (t : TurnResult) (moved : List Renamed)
     → found shells k ≡ Some shell → drafted_shell draft shell ≡ shell_of_turn t
     → shells_after_draft k draft moved shells ≡ slice_set (carried_shells moved shells) (k - 1) (Some (carried_or_same moved (shell_of_turn t)))
-shells-placed shells k draft shell t None f b =
+shells-placed shells k draft shell t [] f b =
     ap (λ o. slice_set shells (k - 1) (option_map (drafted_shell draft) o)) f ∙ ap (λ s. slice_set shells (k - 1) (Some s)) b
-shells-placed shells k draft shell t (Some moved) f b =
-    ap (λ o. slice_set (carried_shells (Some moved) shells) (k - 1) (option_map (λ s. carried_shell moved (drafted_shell draft s)) o)) f
-    ∙ ap (λ s. slice_set (carried_shells (Some moved) shells) (k - 1) (Some (carried_shell moved s))) b
+shells-placed shells k draft shell t (moved ∷ more) f b =
+    ap (λ o. slice_set (carried_shells (moved ∷ more) shells) (k - 1) (option_map (λ s. carried_shell (moved ∷ more) (drafted_shell draft s)) o)) f
+    ∙ ap (λ s. slice_set (carried_shells (moved ∷ more) shells) (k - 1) (Some (carried_shell (moved ∷ more) s))) b
 
 -- the shells after the turn, of which another one may then be broken, and its own shell
 abbrev standing : WorldState → TurnResult → List (Option ShellState)
@@ -48,7 +49,7 @@ others w t = shells_after_break t.course.breaking (standing w t)
 abbrev own : WorldState → TurnResult → ShellState
 own w t = carried_or_same (moved_of w t) (shell_of_turn t)
 
-still-there : (w : WorldState) (k : ℕ) (shell : ShellState) (moved : Option Renamed) → numbered_shell w k ≡ Some shell → found (carried_shells moved w.shells) k ≡ Some (carried_or_same moved shell)
+still-there : (w : WorldState) (k : ℕ) (shell : ShellState) (moved : List Renamed) → numbered_shell w k ≡ Some shell → found (carried_shells moved w.shells) k ≡ Some (carried_or_same moved shell)
 still-there w k shell moved here = found-carried moved w.shells k ∙ carried-runs moved (found w.shells k) shell here
 
 -- the shells that a draft holds, before another one is broken and before its own may end
@@ -58,8 +59,8 @@ stood-is : (w : WorldState) (k : ℕ) (shell : ShellState) (scene : Scene) (draf
 stood-is w k shell scene draft t s d =
     let number = free_number w.shells in
     let moved = moved_of w t in
-    ap (λ r. joined_shells (new_shell (option_map (λ b. b.value) draft.begun) number) (shells_after_draft k draft.shell (moved_object w.shared (version w.shared draft.shared) r) w.shells)) d.renamed_is
-    ∙ ap (λ x. joined_shells (new_shell (option_map (λ b. b.value) draft.begun) number) (shells_after_draft k draft.shell (moved_object w.shared x t.course.renamed) w.shells))
+    ap (λ r. joined_shells (new_shell (option_map (λ b. b.value) draft.begun) number) (shells_after_draft k draft.shell (moved_objects w.shared (version w.shared draft.shared) r) w.shells)) d.renamed_is
+    ∙ ap (λ x. joined_shells (new_shell (option_map (λ b. b.value) draft.begun) number) (shells_after_draft k draft.shell (moved_objects w.shared x t.course.renamed) w.shells))
     (ap (λ x. version x draft.shared) (sym s.shared_is) ∙ d.shared_is)
     ∙ ap (joined_shells (new_shell (option_map (λ b. b.value) draft.begun) number))
     (shells-placed w.shells k draft.shell shell t moved s.here (ap (drafted_shell draft.shell) (sym s.shell_is) ∙ d.shell_is))
@@ -105,9 +106,9 @@ after_turn w k t = record w {
 }
 
 -- what a turn changes, moved in one part at a time
-pub taken-by : (w : WorldState) (k : ℕ) (draft : Draft) (begun : Option ShellState) (moved : Option Renamed) (changed stood all rest : List (Option ShellState)) (ended : List Codes) (queue : List (List ℕ)) (input_ended : Bool) (shared : SharedState)
+pub taken-by : (w : WorldState) (k : ℕ) (draft : Draft) (begun : Option ShellState) (moved : List Renamed) (changed stood all rest : List (Option ShellState)) (ended : List Codes) (queue : List (List ℕ)) (input_ended : Bool) (shared : SharedState)
     → begun ≡ new_shell (option_map (λ b. b.value) draft.begun) (free_number w.shells)
-    → moved ≡ moved_object w.shared (version w.shared draft.shared) (option_map (λ r. r.value) draft.renamed)
+    → moved ≡ moved_objects w.shared (version w.shared draft.shared) (renames_in (option_map (λ r. r.value) draft.renamed))
     → changed ≡ shells_after_draft k draft.shell moved w.shells → stood ≡ joined_shells begun changed → all ≡ shells_with_broken k draft.breaking stood
     → rest ≡ remaining_shells (final_codes k (found all k)) k all → ended ≡ recorded_codes (final_codes k (found all k)) k w.ended
     → queue ≡ w.queue → input_ended ≡ w.input_ended → shared ≡ version w.shared draft.shared

@@ -4,7 +4,7 @@ use Rattle.ados_text.specs.Text.{Text, is_same}
 use Rattle.ados_ram.specs.Place.{Place}
 use Rattle.ados_find.specs.declared.outcomes.Renamed.{Renamed}
 use Rattle.ados_machine.specs.Shells.{ShellState, phase_entry}
-use Rattle.ados_machine.specs.Carrying.{carried_directory, carried_shell, carried_shells, in_directory}
+use Rattle.ados_machine.specs.Carrying.{carried_directory, carried_place, carried_shell, in_directory}
 use Rattle.ados_machine.specs.World.{option_flatten, at_number}
 use Rattle.ados_shell.specs.declared.drafts.ShellDraft.{ShellDraft}
 use Rattle.ados_shell.specs.Drafts.{drafted_shell}
@@ -21,15 +21,15 @@ with_shell number change shells others = slice_set others (number - 1) (option_m
 abbrev pub updated_shells : ℕ → ShellDraft → List (Option ShellState) → List (Option ShellState)
 updated_shells number draft shells = with_shell number (drafted_shell draft) shells shells
 
--- the same if an object was moved
-abbrev pub updated_carried_shells : ℕ → Renamed → ShellDraft → List (Option ShellState) → List (Option ShellState)
+-- the same if objects were moved
+abbrev pub updated_carried_shells : ℕ → List Renamed → ShellDraft → List (Option ShellState) → List (Option ShellState)
 updated_carried_shells number moved draft shells =
-    with_shell number (λ shell. carried_shell moved (drafted_shell draft shell)) shells (carried_shells (Some moved) shells)
+    with_shell number (λ shell. carried_shell moved (drafted_shell draft shell)) shells (map (carried_place moved) shells)
 
--- the same if an object may have been moved
-abbrev pub shells_after_draft : ℕ → ShellDraft → Option Renamed → List (Option ShellState) → List (Option ShellState)
-shells_after_draft number draft None shells = updated_shells number draft shells
-shells_after_draft number draft (Some moved) shells = updated_carried_shells number moved draft shells
+-- the same if objects may have been moved
+abbrev pub shells_after_draft : ℕ → ShellDraft → List Renamed → List (Option ShellState) → List (Option ShellState)
+shells_after_draft number draft [] shells = updated_shells number draft shells
+shells_after_draft number draft (moved ∷ more) shells = updated_carried_shells number (moved ∷ more) draft shells
 
 -- a shell runs from the resident entry with this name
 abbrev pub is_entry : Option Text → Text → Bool
@@ -41,7 +41,7 @@ runs_from None name = false
 runs_from (Some shell) name = is_entry (phase_entry shell.phase) name
 
 -- the current directories of all shells, after they moved along with what was moved
-abbrev pub carried_directories : Renamed → List (Option ShellState) → List (Option Place)
+abbrev pub carried_directories : List Renamed → List (Option ShellState) → List (Option Place)
 carried_directories moved shells = map (option_map (carried_directory moved)) shells
 
 -- a shell is in the directory that is given for it, if one is

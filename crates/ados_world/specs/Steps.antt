@@ -1,11 +1,12 @@
 -- What a step commits, and its result.
 use Rattle.std.specs.Prelude.{◌-◌, ℕ, List, [], ◌∷◌, ◌++◌, Option, Some, None, Result, Ok, Err, option_map, slice_set}
 use Rattle.ados_find.specs.declared.codes.Codes.{Codes}
+use Rattle.ados_find.specs.Renames.{renames_in}
 use Rattle.ados_find.specs.Shared.{version}
 use Rattle.ados_machine.specs.declared.outs.Out.{Out}
 use Rattle.ados_machine.specs.declared.refusals.Refusal.{Refusal}
 use Rattle.ados_machine.specs.Shells.{ShellState}
-use Rattle.ados_machine.specs.Carrying.{moved_object}
+use Rattle.ados_machine.specs.Carrying.{moved_objects}
 use Rattle.ados_machine.specs.Numbers.{free_number}
 use Rattle.ados_machine.specs.Requests.{request_of}
 use Rattle.ados_machine.specs.Step.{event_out}
@@ -21,7 +22,7 @@ use Rattle.ados_world.specs.Shells.{shells_after_draft}
 abbrev pub shells_with_begun : ℕ → Draft → WorldState → List (Option ShellState)
 shells_with_begun number draft w =
     joined_shells (new_shell (option_map (λ b. b.value) draft.begun) (free_number w.shells))
-    (shells_after_draft number draft.shell (moved_object w.shared (version w.shared draft.shared) (option_map (λ r. r.value) draft.renamed)) w.shells)
+    (shells_after_draft number draft.shell (moved_objects w.shared (version w.shared draft.shared) (renames_in (option_map (λ r. r.value) draft.renamed))) w.shells)
 
 -- the same when another one may be broken
 abbrev pub shells_after_turn : ℕ → Draft → WorldState → List (Option ShellState)

@@ -1,27 +1,57 @@
-// Carrying: the current directories of all shells move with an object that was moved.
+// Carrying: the current directories of all shells move with the objects that were moved.
 ghost use Rattle.std.specs.Prelude.{◌≡◌, IfOk, None, option_map, replicate};
 ghost use Rattle.std.specs.Option.{option_copied};
+ghost use Rattle.ados_find.specs.Renames.{renames_in};
 ghost use Rattle.ados_find.specs.Shared.{version};
-ghost use Rattle.ados_machine.specs.Carrying.{carried_directory, has_moved, moved_object};
+ghost use Rattle.ados_machine.specs.Carrying.{carried_directory, has_moved, moved_objects};
 ghost use Rattle.ados_world.specs.Shells.{placed_shells, carried_directories, placed_shell};
 
-use ados_find::{Renamed, Shared};
+use ados_find::{Renamed, Renames, Shared};
 use ados_ram::Place;
 use ados_shell::Shell;
 use ados_text::NoMemory;
+use std::alloc::Global;
 
-/// What a turn moved: what it renamed, if that was at its old place and is no longer there.
-pub fn moved_by<'a>(
+/// What a turn moved: what it renamed, as far as that was at its old place and is no longer there.
+pub fn moved_by(
+    alloc: Global,
     old: &Shared,
     new: Option<&Shared>,
-    renamed: Option<&'a Renamed>,
-) -> Option<&'a Renamed>
-    ensures { option_copied result ≡ moved_object old.now (version old.now (option_copied new.entry)) (option_copied renamed.entry) }
+    renamed: Option<&Renames>,
+) -> Result<Vec<Renamed>, NoMemory>
+    ensures { IfOk result (λ moved. moved.items ≡ moved_objects old.now (version old.now (option_copied new.entry)) (renames_in (option_copied renamed.entry))) }
 {
-    match (new, renamed) {
-        (Some(new), Some(renamed)) if has_moved(old, new, renamed) => Some(renamed),
-        _ => None,
+    match renamed {
+        None => Ok(Vec::new(alloc)),
+        Some(renamed) => moved_of(alloc, old, version(old, new), renamed.as_slice()),
     }
+}
+
+// The shared state after the turn.
+fn version<'a>(old: &'a Shared, new: Option<&'a Shared>) -> &'a Shared
+    ensures { result.now ≡ version old.now (option_copied new.entry) }
+{
+    match new {
+        None => old,
+        Some(new) => new,
+    }
+}
+
+fn moved_of(
+    alloc: Global,
+    old: &Shared,
+    new: &Shared,
+    renamed: &[Renamed],
+) -> Result<Vec<Renamed>, NoMemory>
+    ensures { IfOk result (λ moved. moved.items ≡ moved_objects old.now new.now renamed.now) }
+{
+    let mut moved = Vec::new(alloc);
+    for object in renamed {
+        if has_moved(old, new, object) {
+            moved.push(object.copy()?)?;
+        }
+    }
+    Ok(moved)
 }
 
 fn has_moved(old: &Shared, new: &Shared, renamed: &Renamed) -> bool
@@ -33,7 +63,7 @@ fn has_moved(old: &Shared, new: &Shared, renamed: &Renamed) -> bool
 /// The current directories of all shells, moved along with what was moved; none for a number without a shell.
 pub fn carried_directories(
     shells: &[Option<Shell>; 20],
-    moved: &Renamed,
+    moved: &[Renamed],
 ) -> Result<[Option<Place>; 20], NoMemory>
     ensures { IfOk result (λ places. places ≡ carried_directories moved.now shells.now) }
 {
@@ -44,7 +74,7 @@ pub fn carried_directories(
     Ok(directories)
 }
 
-fn carried_directory(shell: &Option<Shell>, moved: &Renamed) -> Result<Option<Place>, NoMemory>
+fn carried_directory(shell: &Option<Shell>, moved: &[Renamed]) -> Result<Option<Place>, NoMemory>
     ensures { IfOk result (λ place. place ≡ option_map (carried_directory moved.now) shell.now) }
 {
     match shell {

@@ -14,46 +14,10 @@ ghost use Rattle.ados_world.specs.Laws.{BreaksEndScriptsIn, QuietShellsAreInvisi
 
 use crate::worlds::World;
 use ados_machine::{Event, Out, Refusal};
-use std::marker::Model;
+use ados_text::Items;
 
 /// The result of each event of a run, in order.
-#[derive(Drop)]
-pub struct Outs {
-    items: Vec<Result<Out, Refusal>>,
-}
-
-impl Model for Outs {
-    ghost use Rattle.std.specs.Prelude.{List, Result};
-    ghost use Rattle.ados_machine.specs.declared.outs.Out.{Out};
-    ghost use Rattle.ados_machine.specs.declared.refusals.Refusal.{Refusal};
-
-    ghost Value = { List (Result Out Refusal) };
-
-    ghost view = { λ o. o.items.items };
-}
-
-impl Outs {
-    /// The results in a vector, taken over without allocation.
-    pub fn from_vec(items: Vec<Result<Out, Refusal>>) -> Outs
-        ensures { result ≡ items.items }
-    {
-        Outs { items }
-    }
-
-    /// The vector of the results, given back without allocation.
-    pub fn into_vec(self) -> Vec<Result<Out, Refusal>>
-        ensures { result.items ≡ self }
-    {
-        self.items
-    }
-
-    /// The results, in order.
-    pub fn as_slice(&self) -> &[Result<Out, Refusal>]
-        ensures { result.now ≡ self.now }
-    {
-        self.items.as_slice()
-    }
-}
+pub type Outs = Items<Result<Out, Refusal>>;
 
 /// What a run leaves.
 #[derive(Drop)]

@@ -80,7 +80,7 @@ pub fn find_shell(shells: &[Option<Shell>; 20], number: u8) -> Option<&Shell>
     }
 }
 
-/// Commits what a turn makes of the shell with this number, which runs; if an object was moved, the current directories of
+/// Commits what a turn makes of the shell with this number, which runs; if objects were moved, the current directories of
 /// all shells are carried.
 ///
 /// `NoMemory` if there is no room for its frames or a directory; the shells are then as they were.
@@ -88,25 +88,25 @@ pub fn change_shell(
     shells: &mut ShellTable,
     number: u8,
     draft: &mut ShellDraft,
-    moved: Option<&Renamed>,
+    moved: &[Renamed],
 ) -> Result<(), NoMemory>
     requires number { IsShellNumber number }
     requires runs { is_some (option_flatten (at_number shells.old number)) ≡ true }
-    ensures ok { OnOk result (shells.new ≡ shells_after_draft number draft.old (option_copied moved.entry) shells.old) }
+    ensures ok { OnOk result (shells.new ≡ shells_after_draft number draft.old moved.now shells.old) }
     ensures err { OnErr result (shells.new ≡ shells.old) }
 {
     match moved {
-        None => shells.commit(number, draft),
-        Some(moved) => carry_in(shells, number, draft, moved),
+        [] => shells.commit(number, draft),
+        _ => carry_in(shells, number, draft, moved),
     }
 }
 
-/// The same of a shell that runs, if an object was moved: the current directories of all shells are carried.
+/// The same of a shell that runs, if objects were moved: the current directories of all shells are carried.
 fn carry_in(
     shells: &mut ShellTable,
     number: u8,
     draft: &mut ShellDraft,
-    moved: &Renamed,
+    moved: &[Renamed],
 ) -> Result<(), NoMemory>
     requires number { IsShellNumber number }
     requires runs { is_some (option_flatten (at_number shells.old number)) ≡ true }

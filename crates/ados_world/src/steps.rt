@@ -187,12 +187,15 @@ impl World {
         let Ok(begun) = new_shell(self.alloc, self.shells.places(), draft.begun.take()) else {
             return Err(Refusal::NoMemory);
         };
-        let moved_object = moved_by(
+        let Ok(moved) = moved_by(
+            self.alloc,
             &self.shared,
             draft.shared.as_ref(),
             draft.renamed.as_deref(),
-        );
-        let Ok(()) = change_shell(&mut self.shells, number, &mut draft.shell, moved_object) else {
+        ) else {
+            return Err(Refusal::NoMemory);
+        };
+        let Ok(()) = change_shell(&mut self.shells, number, &mut draft.shell, &moved) else {
             return Err(Refusal::NoMemory);
         };
         join(&mut self.shells, begun);

@@ -1,10 +1,13 @@
 -- Files of options: each line is an option, as it would be typed.
-use Rattle.std.specs.Prelude.{ℕ, suc, List, [], ◌∷◌, ◌++◌, ◌==◌, ◌||◌, Bool, Option, Some, None, codes, length, if◌then◌else◌}
-use Rattle.std.specs.List.{list_any, slice_split, starts_with}
+use Rattle.std.specs.Prelude.{◌≡◌, ℕ, List, ◌∷◌, ◌++◌, ◌==◌, ◌||◌, Bool, not, Option, Some, None, codes, length, if◌then◌else◌}
+use Rattle.std.specs.List.{enumerate_from, filter_map, find, list_any, slice_split, starts_with}
 use Rattle.std.specs.Option.{option_map, option_or}
+use Rattle.std.specs.Str.{is_utf8}
 use Rattle.std.specs.Str.Lines.{strip_carriage_return}
 use Rattle.ados_text.specs.Text.{Bytes}
 use Rattle.ados_items.specs.Parts.{first_word, rest_of, trimmed_text}
+use Rattle.ados_session.specs.declared.faults.FileFault.{FileFault}
+use Rattle.ados_session.specs.declared.faults.FileFault.TheVariants.{BadLine, NoMemory}
 use Rattle.ados_transfer.specs.Paths.{path_in}
 
 -- an option, as one word of a command line, and the number of its line
@@ -28,19 +31,22 @@ words_of_line line = trimmed_text (strip_carriage_return line)
 abbrev pub option_of : Bytes → Option Bytes
 option_of words = if is_comment words then None else Some (one_word words)
 
--- one option before others, if there is one
-abbrev pub option_before : ℕ → Option Bytes → List NumberedOption → List NumberedOption
-option_before number None options = options
-option_before number (Some word) options = record { number = number; word = word } ∷ options
+-- the option that the line of a number says
+abbrev pub numbered_option : ℕ × Bytes → Option NumberedOption
+numbered_option line = option_map (λ word. record { number = line.0; word = word }) (option_of (words_of_line line.1))
 
--- the options of lines that are numbered from a number on
-abbrev pub options_from : ℕ → List Bytes → List NumberedOption
-options_from number [] = []
-options_from number (line ∷ lines) = option_before number (option_of (words_of_line line)) (options_from (suc number) lines)
-
--- the options of a file's bytes
+-- the options of a file's bytes: those of the lines that say one, each with the number of its line, from 1
 abbrev pub options_of : Bytes → List NumberedOption
-options_of bytes = options_from 1 (slice_split (λ byte. byte == 10) bytes)
+options_of bytes = filter_map numbered_option (enumerate_from 1 (slice_split (λ byte. byte == 10) bytes))
+
+-- the line of the first option that is not UTF-8
+abbrev pub first_bad_line : List NumberedOption → Option ℕ
+first_bad_line options = option_map (λ option. option.number) (find (λ option. not (is_utf8 option.word)) options)
+
+-- A fault names the line of the first option that is not UTF-8. Out of memory names none.
+abbrev pub IsOptionFault : List NumberedOption → FileFault → Type 0
+IsOptionFault options (BadLine number) = first_bad_line options ≡ Some number
+IsOptionFault options NoMemory = Unit {0}
 
 -- a path that begins at the root
 abbrev pub absolute : Option Bytes → Option Bytes

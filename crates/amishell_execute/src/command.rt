@@ -29,7 +29,7 @@ const HOST: &str =
 May be given again";
 
 const COMMON: &str =
-    "Adds stand-ins for commands of Release 2 that the Shell leaves out, as Date, Wait and Search: those of
+    "Adds stand-ins for commands of Release 2 that the Shell leaves out, as Date, Wait and More: those of
 the nearest folder share/amishell above that of this program";
 
 const BRING: &str =

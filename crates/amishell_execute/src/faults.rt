@@ -8,7 +8,7 @@ use ados_launch::DriveFault;
 use ados_text::NoMemory;
 use ados_trace::escaped;
 use ados_transfer::TransferFault;
-use std::alloc::{AllocError, AllocFailed, Global};
+use std::alloc::{AllocFailed, Global};
 use std::fmt::Display;
 use std::io::Eprint;
 use std::rt::Files;
@@ -106,12 +106,6 @@ impl From<NoMemory> for Fault {
     ghost from_gives = { λ _e why. why ≡ Memory };
 
     fn from(_e: NoMemory) -> Fault {
-        Fault::Memory
-    }
-}
-
-impl From<AllocError> for Fault {
-    fn from(_e: AllocError) -> Fault {
         Fault::Memory
     }
 }

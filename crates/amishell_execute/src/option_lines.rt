@@ -1,9 +1,9 @@
 //! The lines of a file of options, each an option as it would be typed.
-ghost use Rattle.std.specs.Prelude.{◌≡◌, ◌==◌, ◌++◌, [], true, IfOk, map};
-ghost use Rattle.std.specs.List.{slice_split};
+ghost use Rattle.std.specs.Prelude.{◌≡◌, ◌==◌, ◌++◌, [], true, IfErr, IfOk, None, OnOk, Some, if◌then◌else◌, map};
+ghost use Rattle.std.specs.List.{cons_option, slice_split};
 ghost use Rattle.std.specs.Option.{option_map};
 ghost use Rattle.std.specs.Str.Lines.{strip_carriage_return};
-ghost use Rattle.amishell_execute.specs.OptionLines.{one_word, option_before, option_of, options_of, words_of_line};
+ghost use Rattle.amishell_execute.specs.OptionLines.{IsOptionFault, first_bad_line, numbered_option, one_word, option_of, options_of, words_of_line};
 
 use ados_items::{first_word, rest_of, trimmed};
 use ados_session::FileFault;
@@ -50,7 +50,9 @@ impl AsStr for OptionLine {
 ///
 /// `BadLine` names the first option that is not UTF-8.
 pub fn options_of(alloc: Global, bytes: &[u8]) -> Result<Vec<OptionLine>, FileFault>
-    ensures { IfOk result (λ options. options.items ≡ options_of bytes.now) }
+    ensures options { IfOk result (λ options. options.items ≡ options_of bytes.now) }
+    ensures good { OnOk result (first_bad_line (options_of bytes.now) ≡ None) }
+    ensures fault { IfErr result (λ fault. IsOptionFault (options_of bytes.now) fault) }
 {
     let lines = lines_of(alloc, bytes)?;
     let mut options = Vec::new(alloc);
@@ -69,7 +71,8 @@ fn take_line(
     line: &[u8],
     options: &mut Vec<OptionLine>,
 ) -> Result<bool, NoMemory>
-    ensures { IfOk result (λ is_good. is_good ≡ true → options.new.items ≡ options.old.items ++ option_before number (option_of (words_of_line line.now)) []) }
+    ensures taken { IfOk result (λ is_good. is_good ≡ true → options.new.items ≡ options.old.items ++ cons_option (numbered_option (number, line.now)) []) }
+    ensures good { IfOk result (λ is_good. first_bad_line (cons_option (numbered_option (number, line.now)) []) ≡ (if is_good then None else Some number)) }
 {
     let Some(word) = option_of(alloc, words_of_line(line))? else {
         return Ok(true);

@@ -137,7 +137,9 @@ impl Share {
         ensures held { session.new.held ≡ session.old.held }
     {
         if let Some(renamed) = session.take_renamed() {
-            self.mirror.follow(&renamed.from, &renamed.to)?;
+            for object in renamed.as_slice() {
+                self.mirror.follow(&object.from, &object.to)?;
+            }
         }
         Ok(self.mirror.forget_deleted(world.files())?)
     }

@@ -18,13 +18,14 @@ syntax keyword amigascriptTodo contained TODO FIXME XXX
 syntax match amigascriptEscape '\*\([NEP"*]\|\d\+\)' contained
 syntax region amigascriptString start='"' skip='\*"' end='"' oneline contains=amigascriptEscape,amigascriptVariable,amigascriptReference
 syntax match amigascriptVariable '\$\({[^}]*}\|[A-Za-z0-9_]\+\)'
-syntax match amigascriptReference '<[A-Za-z0-9_$]\+>'
 syntax region amigascriptTick matchgroup=amigascriptMark start='`' end='`' oneline contains=amigascriptCommand,amigascriptVariable,amigascriptReference
 syntax match amigascriptRedirection '\(^\|\s\)\zs[<>]\{1,2}\ze\S'
+" (below the redirections, so that <name> at the beginning of a word is none)
+syntax match amigascriptReference '<\(\$\$\|\w\+\(\$[^>]*\)\?\)>'
 syntax match amigascriptDevice '\(^\|\s\|["=>]\)\zs[A-Za-z0-9_.-]\+:'
 syntax keyword amigascriptFlow Ask Else EndIf EndSkip Execute FailAt If Lab Quit Run Skip
 syntax keyword amigascriptCommand Alias Assign Break CD Copy Delete Dir Echo Eval Fault Filenote Get GetEnv Join List MakeDir Path
-syntax keyword amigascriptCommand Protect Rename Resident Set SetEnv Sort Status Type Unalias Unset UnsetEnv Which Why
+syntax keyword amigascriptCommand Protect Rename Resident Search Set SetEnv Sort Status Type Unalias Unset UnsetEnv Which Why
 syntax keyword amigascriptCondition NOT WARN ERROR FAIL EQ GT GE VAL EXISTS
 
 highlight default link amigascriptFirst PreProc

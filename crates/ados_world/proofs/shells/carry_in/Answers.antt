@@ -1,6 +1,6 @@
 use Rattle.std.proofs.Common.{◌≡◌, ◌∙◌, ◌-◌, Some, ap, sym}
-use Rattle.std.specs.Prelude.{option_map, slice_set}
-use Rattle.ados_machine.specs.Carrying.{carried_directory, carried_shell, carried_shells}
+use Rattle.std.specs.Prelude.{map, option_map, slice_set}
+use Rattle.ados_machine.specs.Carrying.{carried_directory, carried_place, carried_shell}
 use Rattle.ados_machine.specs.World.{option_flatten, at_number}
 use Rattle.ados_shell.specs.Drafts.{drafted_shell}
 use Rattle.ados_world.specs.Shells.{placed_shells, carried_directories}
@@ -23,4 +23,4 @@ returns-clause-ok c =
     ∙ ap (placed_shells (slice_set (carried_directories moved shells) (n - 1) (Some (carried_directory moved new))))
     (c.in_ok-commit.ensures.ok ∙ ap (λ o. slice_set shells (n - 1) (option_map (drafted_shell draft) o)) here)
     ∙ placed-set moved new shells (n - 1)
-    ∙ ap (λ o. slice_set (carried_shells (Some moved) shells) (n - 1) (option_map (λ s. carried_shell moved (drafted_shell draft s)) o)) (sym here)
+    ∙ ap (λ o. slice_set (map (carried_place moved) shells) (n - 1) (option_map (λ s. carried_shell moved (drafted_shell draft s)) o)) (sym here)

@@ -1,0 +1,95 @@
+-- What Search finds in files: the lines, or the names, that have a hit.
+use Rattle.std.specs.Prelude.{ℕ, ◌+◌, Bool, true, false, not, ◌&&◌, nat_lt, List, [], ◌∷◌, ◌++◌, codes, decimal, length, map, Option, Some, None, if◌then◌else◌}
+use Rattle.std.specs.FinMap as finite
+use Rattle.std.specs.List.{filter, flat_map}
+use Rattle.ados_text.specs.Text.{Bytes, to_ascii}
+use Rattle.ados_text.specs.Columns.{right_aligned_text}
+use Rattle.ados_text.specs.Fault.{fault_text_of}
+use Rattle.ados_text.specs.declared.codes.Result2.{Result2}
+use Rattle.ados_pattern.specs.Matching.{is_match}
+use Rattle.ados_ram.specs.Place.{Place, key_of}
+use Rattle.ados_ram.specs.Files.{Files, entry_bytes}
+use Rattle.ados_ram.specs.FileOperations.{read_fault}
+use Rattle.ados_ram.specs.InUse.{InUse, is_output}
+use Rattle.ados_ram.specs.Written.{full_path}
+use Rattle.ados_ram.specs.declared.entries.Entry.{Entry}
+use Rattle.ados_files.specs.Lines.{say}
+use Rattle.ados_files.specs.Parts.{stands_in}
+use Rattle.ados_files.specs.SortOrder.{plain_lines}
+use Rattle.ados_files.specs.declared.hits.Hits.{Hits as HitsSoFar}
+use Rattle.ados_files.specs.declared.hits.Searching.{Searching}
+use Rattle.ados_files.specs.declared.hits.Wanted.{Wanted}
+use Rattle.ados_files.specs.declared.hits.Wanted.TheVariants.{Inside, Matching}
+
+-- a line is a hit: a text stands in it, with case ignored, or a pattern matches it and it has at most 512 bytes
+abbrev pub is_hit : Wanted → Bytes → Bool
+is_hit (Inside text) line = stands_in text line
+is_hit (Matching pattern) line = not (nat_lt 512 (length line)) && is_match pattern.form (map to_ascii line)
+
+-- what is printed so far, and whether there was a hit
+pub record Hits : Type 0 where
+  pub output : Bytes
+  pub has_hit : Bool
+
+abbrev pub with_hit : Bytes → Hits → Hits
+with_hit line hits = record { output = hits.output ++ line; has_hit = true }
+
+-- lines with their numbers, from one on
+abbrev pub numbered_lines : ℕ → List Bytes → List (ℕ × Bytes)
+numbered_lines number [] = []
+numbered_lines number (line ∷ lines) = (number, line) ∷ numbered_lines (number + 1) lines
+
+-- those that are hits
+abbrev pub hit_lines : Wanted → List (ℕ × Bytes) → List (ℕ × Bytes)
+hit_lines wanted lines = filter (λ line. is_hit wanted line.1) lines
+
+-- what is printed of a hit: the line, with its number in front unless NONUM
+abbrev pub line_start : Bool → ℕ → Bytes
+line_start true number = right_aligned_text 6 (decimal number) ++ 32 ∷ []
+line_start false number = []
+
+abbrev pub hit_text : Bool → ℕ × Bytes → Bytes
+hit_text numbered line = line_start numbered line.0 ++ (line.1 ++ 10 ∷ [])
+
+-- hits behind those so far
+abbrev pub with_hits : Bool → Hits → List (ℕ × Bytes) → Hits
+with_hits numbered hits [] = hits
+with_hits numbered hits (line ∷ lines) = with_hit (flat_map (hit_text numbered) (line ∷ lines)) hits
+
+-- the lines of a file that are hits
+abbrev pub search_lines : Searching → Hits → List Bytes → Hits
+search_lines searching hits lines = with_hits searching.numbered hits (hit_lines searching.wanted (numbered_lines 1 lines))
+
+-- what stands before the lines of a file, unless QUIET
+abbrev pub with_header : Bool → Bytes → Hits → Hits
+with_header quiet path hits = record hits { output = say quiet hits.output (path ++ codes "..\n") }
+
+-- a file that cannot be read is passed over, and reported, with QUIET too
+abbrev pub unread_line : Bytes → Result2 → Bytes
+unread_line path fault = path ++ (codes ": " ++ (fault_text_of fault.0 ++ 10 ∷ []))
+
+abbrev pub search_read : Searching → Bytes → Hits → Option Result2 → Bytes → Hits
+search_read searching path hits None bytes = search_lines searching (with_header searching.quiet path hits) (plain_lines bytes)
+search_read searching path hits (Some fault) bytes = record hits { output = hits.output ++ unread_line path fault }
+
+-- FILE: its name is looked at in place of its lines
+abbrev pub search_name : Searching → Bytes → Hits → Option Entry → Hits
+search_name searching path hits None = hits
+search_name searching path hits (Some e) = if is_hit searching.wanted e.name then with_hit (path ++ 10 ∷ []) hits else hits
+
+abbrev pub search_bytes : Searching → InUse → Files → Place → Hits → Hits
+search_bytes searching busy files place hits =
+    search_read searching (full_path files place) hits (read_fault (is_output busy (key_of place)) (finite.get files (key_of place))) (entry_bytes (finite.get files (key_of place)))
+
+-- one file
+abbrev pub search_file : Searching → InUse → Files → Hits → Place → Hits
+search_file searching busy files hits place =
+    if searching.names then search_name searching (full_path files place) hits (finite.get files (key_of place)) else search_bytes searching busy files place hits
+
+-- one file after the other
+abbrev pub search_files : Searching → InUse → Files → Hits → List Place → Hits
+search_files searching busy files hits [] = hits
+search_files searching busy files hits (place ∷ places) = search_files searching busy files (search_file searching busy files hits place) places
+
+abbrev pub hits_of : HitsSoFar → Hits
+hits_of hits = record { output = hits.output.items; has_hit = hits.has_hit }
