@@ -187,8 +187,10 @@ fn run_script<
         let mut writer = Watched { inner, trail };
         play(rt, world, script, teller, share.as_mut(), &mut writer)
     };
-    let is_alike = close(rt, world, share.as_mut())?;
+    let closed = close(rt, world, share.as_mut());
+    // What is to be taken is taken even if the shared folder could not be brought up to date.
     let is_taken = take_all(rt, options, world);
+    let is_alike = closed?;
     let code = ended.as_ref().ok().map(|end| end.code);
     let status = status_after(rt, options, world, &origins, ended)?;
     if !options.quiet {

@@ -133,7 +133,7 @@ impl<R: AllocGlobal + Files + Eprint + Processes + Clone + Drop + Clock, I: Read
             (playing_moment K.contents K.faults K.stalls world.new self.new.reader writer.new.inner self.new.launcher)) }
     {
         let mut session = Session::new(self.rt.alloc(), world, &[]);
-        match self.drive_session(world, &mut session, share, writer) {
+        match self.drive_followed(world, &mut session, share, writer) {
             Ok(end) => Ok(end),
             Err(fault) => {
                 session.abandon(&mut self.launcher);
@@ -142,9 +142,9 @@ impl<R: AllocGlobal + Files + Eprint + Processes + Clone + Drop + Clock, I: Read
         }
     }
 
-    // Takes events until nothing comes; a shared folder is attended to before each. At a fault, of whatever kind, the session knows
-    // which programs are open, and the caller has to abandon it.
-    fn drive_session<K: Sink>(
+    // Takes events until nothing comes, and follows what the last of them renamed: at a limit nothing attends to it any more. At a
+    // fault, of whatever kind, the session knows which programs are open, and the caller has to abandon it.
+    fn drive_followed<K: Sink>(
         &mut self,
         world: &mut World,
         session: &mut Session<'_>,
@@ -165,8 +165,48 @@ impl<R: AllocGlobal + Files + Eprint + Processes + Clone + Drop + Clock, I: Read
             (playing_moment K.contents K.faults K.stalls world.old self.old.reader writer.old.inner self.old.launcher)
             (playing_moment K.contents K.faults K.stalls world.new self.new.reader writer.new.inner self.new.launcher)) }
     {
+        let ended = self.drive_session(world, session, &mut share, writer);
+        let Some(share) = share else {
+            return ended;
+        };
+        match ended {
+            Ok(end) => {
+                share.follow(world, session)?;
+                Ok(end)
+            }
+            Err(fault) => {
+                // The fault of the run is the one that is told.
+                let _ = share.follow(world, session);
+                Err(fault)
+            }
+        }
+    }
+
+    // Takes events until nothing comes; a shared folder is attended to before each. What the last one renamed is still to be followed.
+    fn drive_session<K: Sink>(
+        &mut self,
+        world: &mut World,
+        session: &mut Session<'_>,
+        share: &mut Option<&mut Share>,
+        writer: &mut Watched<K>,
+    ) -> Result<End, Fault>
+        requires reader { self.old.reader.faults < 2 ^ 64 - 1 }
+        requires writer { K.faults writer.old.inner < 2 ^ 64 - 1 }
+        requires agrees { Agrees world.old self.old.launcher.calls }
+        requires children { IsOpenTable session.old.children self.old.launcher.calls }
+        requires begins { session.old.schedule ≡ first_schedule_state [] }
+        requires held { session.old.held ≡ [] }
+        ensures does { Does world.old world.new (may_be_cut result) (K.contents writer.old.inner) (K.contents writer.new.inner) }
+        ensures children { IsOpenTable session.new.children self.new.launcher.calls }
+        ensures agrees { OnOk result (Agrees world.new self.new.launcher.calls) }
+        ensures over { OnOk result (AreOver self.new.launcher.calls) }
+        ensures alone { is_none share.old ≡ true → is_none share.new ≡ true }
+        ensures drives { is_none share.old ≡ true → IfDriven result (HasDriveResult self.old.turns []
+            (playing_moment K.contents K.faults K.stalls world.old self.old.reader writer.old.inner self.old.launcher)
+            (playing_moment K.contents K.faults K.stalls world.new self.new.reader writer.new.inner self.new.launcher)) }
+    {
         for _ in 0..self.turns {
-            self.attend(world, session, &mut share)?;
+            self.attend(world, session, share)?;
             if !session.take(world, &mut self.launcher, &mut self.reader, writer)? {
                 return Ok(session.end(world));
             }

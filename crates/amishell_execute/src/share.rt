@@ -130,8 +130,8 @@ impl Share {
         Ok(())
     }
 
-    // What the event before renamed is followed, and what it deleted no longer.
-    fn follow(&mut self, world: &World, session: &mut Session<'_>) -> Result<(), Fault>
+    /// What the event before renamed is followed, and what it deleted no longer.
+    pub fn follow(&mut self, world: &World, session: &mut Session<'_>) -> Result<(), Fault>
         ensures children { session.new.children ≡ session.old.children }
         ensures schedule { session.new.schedule ≡ session.old.schedule }
         ensures held { session.new.held ≡ session.old.held }
