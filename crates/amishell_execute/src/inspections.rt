@@ -2,11 +2,11 @@
 
 use crate::faults::{Fault, unread_script};
 use crate::hosts::hosts_for;
-use crate::request::Options;
 use crate::status::Status;
 use ados_check::{Finding, Problem, inspect, mark, mark_printed, strike};
 use ados_resident::HostEntry;
 use ados_transfer::{last_piece, parted, read_script, step_into};
+use execute_options::Options;
 use std::io::Write;
 use std::rt::{Env, Files};
 use std::{fs, io};

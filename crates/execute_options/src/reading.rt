@@ -4,15 +4,14 @@ ghost use Rattle.ados_resident.specs.declared.dialects.Dialect.TheVariants.{Core
 
 use crate::command::matches_of_words;
 use crate::config::Config;
-use crate::faults::Fault;
+use crate::faults::OptionsFault;
 use crate::given::Given;
 use crate::mistakes::{bad_line, refusal};
 use crate::numbers::Numbers;
-use crate::reader::AtEnd;
-use crate::request::{Options, Refused};
+use crate::request::{AtEnd, Options, Refused};
 use ados_find::limits_of;
+use ados_resident::Dialect;
 use ados_transfer::MirrorOptions;
-use ados_world::Dialect;
 use clap::ArgMatches;
 use std::alloc::{AllocError, Global};
 use std::convert::AsStr;
@@ -25,25 +24,30 @@ const TURNS: u64 = 1_000_000;
 /// The words after the program's name.
 ///
 /// `BadLine` if one is not UTF-8.
-pub fn given_words<R: Env + AllocGlobal>(rt: &R) -> Result<Vec<String>, Fault> {
+pub fn given_words<R: Env + AllocGlobal>(rt: &R) -> Result<Vec<String>, OptionsFault> {
     let all = match env::args(rt) {
         Ok(all) => all,
-        Err(error) if error.kind() == io::ErrorKind::OutOfMemory => return Err(Fault::Memory),
+        Err(error) if error.kind() == io::ErrorKind::OutOfMemory => {
+            return Err(OptionsFault::NoMemory);
+        }
         Err(_) => {
             let reason = String::from_str(rt.alloc(), "a word is not UTF-8")?;
-            return Err(Fault::BadLine(reason));
+            return Err(OptionsFault::BadLine(reason));
         }
     };
     match all.skip(1).collect::<Vec<String>>(rt.alloc()) {
         Ok(words) => Ok(words),
-        Err(_) => Err(Fault::Memory),
+        Err(_) => Err(OptionsFault::NoMemory),
     }
 }
 
 /// What `clap` finds in these words.
 ///
 /// `Help` if it answers them with its help or the version; `BadLine` if it finds another fault in them.
-pub fn typed<'a, S: AsStr>(alloc: Global, words: &'a [S]) -> Result<ArgMatches<'a>, Refused> {
+pub fn typed_matches<'a, S: AsStr>(
+    alloc: Global,
+    words: &'a [S],
+) -> Result<ArgMatches<'a>, Refused> {
     match matches_of_words(alloc, words) {
         Ok(typed) => Ok(typed),
         Err(error) => Err(refusal(alloc, &error)),
@@ -54,7 +58,7 @@ pub fn typed<'a, S: AsStr>(alloc: Global, words: &'a [S]) -> Result<ArgMatches<'
 ///
 /// `BadLine` if a line of the file is no option, if a number is not in its range, or if an option of the command line lacks another
 /// one that it needs.
-pub fn asked<'a>(
+pub fn asked_options<'a>(
     alloc: Global,
     typed: ArgMatches<'a>,
     config: &'a Config,

@@ -2,7 +2,7 @@
 ghost use Rattle.std.specs.Prelude.{◌≡◌, ◌++◌, IfOk, map};
 ghost use Rattle.std.specs.Option.{option_map, option_or};
 ghost use Rattle.clap.specs.Matches.{first_value, found_of};
-ghost use Rattle.amishell_execute.specs.Given.{values_of};
+ghost use Rattle.execute_options.specs.Given.{values_of};
 
 use ados_text::same_name;
 use clap::ArgMatches;

@@ -1,7 +1,7 @@
 use Rattle.std.proofs.Common.{◌≡◌, ◌∙◌, ◌+◌, [], true, false, rules, arith, ap}
-use Rattle.amishell_execute.specs.OptionLines.{first_bad_line, options_of}
-use Rattle.amishell_execute.proofs.OptionLineLemmas.{bad_here, good_more, line_more, options_from}
-use Rattle.amishell_execute.proofs.option_lines.options_of.Goals as goal
+use Rattle.execute_options.specs.OptionLines.{first_bad_line, options_of}
+use Rattle.execute_options.proofs.OptionLineLemmas.{bad_here, good_more, line_more, options_from}
+use Rattle.execute_options.proofs.option_lines.options_of.Goals as goal
 
 pub loop-place-preserved : goal.loop-place-preserved
 loop-place-preserved c =

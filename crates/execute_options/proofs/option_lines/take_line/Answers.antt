@@ -1,9 +1,9 @@
 use Rattle.std.proofs.Common.{◌≡◌, Some, false, rules, refl}
 use Rattle.std.proofs.lemmas.Bool.{both_ways}
 use Rattle.std.proofs.lemmas.Str.{IsUtf8-string_bytes, is_utf8-from_IsUtf8}
-use Rattle.amishell_execute.specs.OptionLines.{option_of, words_of_line}
-use Rattle.amishell_execute.proofs.OptionLineLemmas.{not_utf8, one_bad, one_good}
-use Rattle.amishell_execute.proofs.option_lines.take_line.Goals as goal
+use Rattle.execute_options.specs.OptionLines.{option_of, words_of_line}
+use Rattle.execute_options.proofs.OptionLineLemmas.{not_utf8, one_bad, one_good}
+use Rattle.execute_options.proofs.option_lines.take_line.Goals as goal
 
 pub returns-in_default-from_utf8-clause-good : goal.returns-in_default-from_utf8-clause-good
 returns-in_default-from_utf8-clause-good c =

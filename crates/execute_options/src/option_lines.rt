@@ -3,7 +3,7 @@ ghost use Rattle.std.specs.Prelude.{◌≡◌, ◌==◌, ◌++◌, [], true, IfE
 ghost use Rattle.std.specs.List.{cons_option, slice_split};
 ghost use Rattle.std.specs.Option.{option_map};
 ghost use Rattle.std.specs.Str.Lines.{strip_carriage_return};
-ghost use Rattle.amishell_execute.specs.OptionLines.{IsOptionFault, first_bad_line, numbered_option, one_word, option_of, options_of, words_of_line};
+ghost use Rattle.execute_options.specs.OptionLines.{IsOptionFault, first_bad_line, numbered_option, one_word, option_of, options_of, words_of_line};
 
 use ados_items::{first_word, rest_of, trimmed};
 use ados_session::FileFault;
@@ -21,7 +21,7 @@ pub struct OptionLine {
 
 impl Model for OptionLine {
     ghost use Rattle.std.specs.Prelude.{string_bytes};
-    ghost use Rattle.amishell_execute.specs.OptionLines.{NumberedOption};
+    ghost use Rattle.execute_options.specs.OptionLines.{NumberedOption};
 
     ghost Value = { NumberedOption };
 

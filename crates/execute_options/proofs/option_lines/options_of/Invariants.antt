@@ -1,7 +1,7 @@
 use Rattle.std.proofs.Common.{◌≡◌, ◌+◌, ◌++◌, None, drop}
-use Rattle.amishell_execute.specs.OptionLines.{first_bad_line}
-use Rattle.amishell_execute.proofs.OptionLineLemmas.{options_from}
-use Rattle.amishell_execute.proofs.option_lines.options_of.Given as goal
+use Rattle.execute_options.specs.OptionLines.{first_bad_line}
+use Rattle.execute_options.proofs.OptionLineLemmas.{options_from}
+use Rattle.execute_options.proofs.option_lines.options_of.Given as goal
 
 -- what was taken and what is left are all options, and what was taken is UTF-8
 abbrev pub invariant-loop-place : goal.invariant-loop-place

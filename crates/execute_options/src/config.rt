@@ -1,15 +1,17 @@
 //! The file of options: which one is read, and what is wrong with its lines.
 ghost use Rattle.std.specs.Prelude.{◌≡◌, IfOk, option_map, string_bytes};
-ghost use Rattle.amishell_execute.specs.OptionLines.{absolute, default_path};
+ghost use Rattle.ados_transfer.specs.Paths.{path_in};
+ghost use Rattle.execute_options.specs.OptionLines.{absolute, default_path};
 
 use crate::command::matches_of_options;
-use crate::faults::Fault;
+use crate::faults::OptionsFault;
 use crate::mistakes::{bad_line, refusal};
 use crate::numbers::Numbers;
 use crate::option_lines::{OptionLine, options_of};
 use crate::request::Refused;
 use crate::unread::bytes_within;
 use ados_session::FileFault;
+use ados_text::NoMemory;
 use ados_transfer::step_into;
 use clap::ArgMatches;
 use std::alloc::Global;
@@ -42,7 +44,7 @@ impl Config {
     pub fn find<R: AllocGlobal + Env + Files>(
         rt: &R,
         typed: &ArgMatches<'_>,
-    ) -> Result<Config, Fault> {
+    ) -> Result<Config, OptionsFault> {
         if typed.get_flag("no-config") {
             return Ok(Config::empty(rt.alloc()));
         }
@@ -68,16 +70,18 @@ impl Config {
     }
 
     // The options of a file; none if it is not there.
-    fn read_if_there<R: AllocGlobal + Files>(rt: &R, file: &str) -> Result<Config, Fault> {
+    fn read_if_there<R: AllocGlobal + Files>(rt: &R, file: &str) -> Result<Config, OptionsFault> {
         let read = Config::read(rt, file);
         match &read {
-            Err(Fault::CannotRead(unread)) if unread.is_absent() => Ok(Config::empty(rt.alloc())),
+            Err(OptionsFault::CannotRead(unread)) if unread.is_absent() => Ok(Config::empty(
+                rt.alloc(),
+            )),
             _ => read,
         }
     }
 
     // The options of a file.
-    fn read<R: AllocGlobal + Files>(rt: &R, file: &str) -> Result<Config, Fault> {
+    fn read<R: AllocGlobal + Files>(rt: &R, file: &str) -> Result<Config, OptionsFault> {
         let bytes = bytes_within(rt, file, CONFIG_BYTES)?;
         let mut config = Config::empty(rt.alloc());
         config.file.push_str(file)?;
@@ -87,9 +91,9 @@ impl Config {
                 let reason = format!(in rt.alloc();
                     "options {file}: line {line}: it is not UTF-8"
                 )?;
-                return Err(Fault::BadLine(reason));
+                return Err(OptionsFault::BadLine(reason));
             }
-            Err(FileFault::NoMemory) => return Err(Fault::Memory),
+            Err(FileFault::NoMemory) => return Err(OptionsFault::NoMemory),
         }
         Ok(config)
     }
@@ -155,17 +159,27 @@ fn default_path(
     alloc: Global,
     config_home: Option<&str>,
     home: Option<&str>,
-) -> Result<Option<String>, Fault>
+) -> Result<Option<String>, OptionsFault>
     ensures { IfOk result (λ path. option_map string_bytes path ≡ default_path (option_map (λ path. path.now) config_home.entry) (option_map (λ path. path.now) home.entry)) }
 {
     if let Some(folder) = absolute(config_home) {
-        return Ok(Some(step_into(alloc, folder, DEFAULT)?));
+        return Ok(Some(path_in(alloc, folder, DEFAULT)?));
     }
     let Some(home) = absolute(home) else {
         return Ok(None);
     };
-    let folder = step_into(alloc, home, ".config")?;
-    Ok(Some(step_into(alloc, folder.as_str(), DEFAULT)?))
+    let folder = path_in(alloc, home, ".config")?;
+    Ok(Some(path_in(alloc, folder.as_str(), DEFAULT)?))
+}
+
+// The path of a name in a folder. Want of memory is the one reason for which it is not made.
+fn path_in(alloc: Global, folder: &str, name: &str) -> Result<String, NoMemory>
+    ensures { IfOk result (λ path. string_bytes path ≡ path_in folder.now name.now) }
+{
+    match step_into(alloc, folder, name) {
+        Ok(path) => Ok(path),
+        Err(_) => Err(NoMemory),
+    }
 }
 
 // A path that begins at the root.
@@ -179,10 +193,10 @@ fn absolute(path: Option<&str>) -> Option<&str>
 }
 
 // The value of a variable of the environment, if it is set to a text.
-fn variable<R: AllocGlobal + Env>(rt: &R, name: &str) -> Result<Option<String>, Fault> {
+fn variable<R: AllocGlobal + Env>(rt: &R, name: &str) -> Result<Option<String>, OptionsFault> {
     match env::var(rt, name) {
         Ok(value) => Ok(Some(value)),
-        Err(VarError::OutOfMemory) => Err(Fault::Memory),
+        Err(VarError::OutOfMemory) => Err(OptionsFault::NoMemory),
         Err(_) => Ok(None),
     }
 }

@@ -6,7 +6,7 @@ use Rattle.std.specs.List.{cons_option, enumerate_from, filter_map, find}
 use Rattle.std.specs.Option.{option_map}
 use Rattle.std.specs.Str.{IsUtf8, is_utf8}
 use Rattle.ados_text.specs.Text.{Bytes}
-use Rattle.amishell_execute.specs.OptionLines.{NumberedOption, first_bad_line, numbered_option}
+use Rattle.execute_options.specs.OptionLines.{NumberedOption, first_bad_line, numbered_option}
 
 abbrev pub shown : List (Bor (List ℕ)) → List Bytes
 shown lines = map (λ line. line.now) lines

@@ -1,9 +1,8 @@
 //! What a command line asks for.
 
-use crate::reader::AtEnd;
+use ados_resident::Dialect;
 use ados_text::Text;
 use ados_transfer::MirrorOptions;
-use ados_world::Dialect;
 
 /// What the program is to do.
 #[derive(Drop)]
@@ -54,6 +53,15 @@ pub struct Options<'a> {
     pub script: &'a str,
     /// Its arguments.
     pub args: Vec<&'a str>,
+}
+
+/// What is answered at the end of standard input.
+#[derive(Clone, Copy, PartialEq, Eq)]
+pub enum AtEnd {
+    /// Nothing: the run ends.
+    Nothing,
+    /// No, for ever.
+    No,
 }
 
 /// Why the words ask for nothing.

@@ -1,6 +1,6 @@
 //! A small file of this machine, and why a file or a folder can't be read.
 
-use crate::faults::{Fault, cannot_read, unread};
+use crate::faults::OptionsFault;
 use ados_transfer::bytes_of;
 use std::alloc::AllocError;
 use std::io::ErrorKind;
@@ -14,12 +14,12 @@ pub fn bytes_within<R: AllocGlobal + Files>(
     rt: &R,
     file: &str,
     most: usize,
-) -> Result<Vec<u8>, Fault> {
+) -> Result<Vec<u8>, OptionsFault> {
     match bytes_of(rt, file, most) {
         Ok(bytes) if bytes.len() <= most => Ok(bytes),
-        Ok(_) => Err(cannot_read(rt.alloc(), file)),
-        Err(error) if error.kind() == ErrorKind::OutOfMemory => Err(Fault::Memory),
-        Err(_) => Err(unread(rt, file)),
+        Ok(_) => Err(OptionsFault::without_reason(rt.alloc(), file)),
+        Err(error) if error.kind() == ErrorKind::OutOfMemory => { Err(OptionsFault::NoMemory) }
+        Err(_) => Err(OptionsFault::with_reason(rt, file)),
     }
 }
 
