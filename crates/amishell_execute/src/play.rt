@@ -166,18 +166,18 @@ impl<R: AllocGlobal + Files + Eprint + Processes + Clone + Drop + Clock, I: Read
             (playing_moment K.contents K.faults K.stalls world.old self.old.reader writer.old.inner self.old.launcher)
             (playing_moment K.contents K.faults K.stalls world.new self.new.reader writer.new.inner self.new.launcher)) }
     {
-        let ended = self.drive_session(world, session, &mut share, writer);
-        let Some(share) = share else {
-            return ended;
-        };
-        match ended {
+        match self.drive_session(world, session, &mut share, writer) {
             Ok(end) => {
-                share.follow(world, session)?;
+                if let Some(share) = share {
+                    share.follow(world, session)?;
+                }
                 Ok(end)
             }
             Err(fault) => {
-                // The fault of the run is the one that is told.
-                let _ = share.follow(world, session);
+                if let Some(share) = share {
+                    // The fault of the run is the one that is told.
+                    let _ = share.follow(world, session);
+                }
                 Err(fault)
             }
         }
