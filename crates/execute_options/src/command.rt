@@ -1,6 +1,7 @@
 //! The program's command line, in `clap`'s words.
 
 use ados_session::VERSION;
+use clap::error::ErrorKind;
 use clap::{Arg, ArgAction, ArgMatches, Command, Error};
 use std::alloc::{AllocError, Global};
 use std::convert::AsStr;
@@ -133,6 +134,15 @@ pub fn matches_of_options<'a, S: AsStr>(
     options: &'a [S],
 ) -> Result<ArgMatches<'a>, Error> {
     command(alloc)?.try_get_matches_from(options)
+}
+
+/// Whether a word is one of the options, with or without a value.
+pub fn is_option(alloc: Global, word: &str) -> bool {
+    word.starts_with("--")
+        && match matches_of_options(alloc, &[word]) {
+            Ok(_) => true,
+            Err(error) => !matches!(error.kind(), ErrorKind::UnknownArgument),
+        }
 }
 
 // `amishell-execute` with its options.

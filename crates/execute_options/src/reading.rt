@@ -2,7 +2,7 @@
 ghost use Rattle.std.specs.Prelude.{◌≡◌, if◌then◌else◌};
 ghost use Rattle.ados_resident.specs.declared.dialects.Dialect.TheVariants.{Core, Full};
 
-use crate::command::matches_of_words;
+use crate::command::{is_option, matches_of_words};
 use crate::config::Config;
 use crate::faults::OptionsFault;
 use crate::given::Given;
@@ -43,14 +43,31 @@ pub fn given_words<R: Env + AllocGlobal>(rt: &R) -> Result<Vec<String>, OptionsF
 
 /// What `clap` finds in these words.
 ///
-/// `Help` if it answers them with its help or the version; `BadLine` if it finds another fault in them.
+/// `Help` if it answers them with its help or the version; `BadLine` if it finds another fault in them, or if an option comes after
+/// SCRIPT and no word is `--`.
 pub fn typed_matches<'a, S: AsStr>(
     alloc: Global,
     words: &'a [S],
 ) -> Result<ArgMatches<'a>, Refused> {
     match matches_of_words(alloc, words) {
-        Ok(typed) => Ok(typed),
+        Ok(typed) if words.iter().any(|word| word.as_str() == "--") => Ok(typed),
+        Ok(typed) => refuse_late_options(alloc, typed),
         Err(error) => Err(refusal(alloc, &error)),
+    }
+}
+
+// An option after SCRIPT would be an argument of the script: `wipe --dry` would delete.
+fn refuse_late_options<'a>(
+    alloc: Global,
+    typed: ArgMatches<'a>,
+) -> Result<ArgMatches<'a>, Refused> {
+    let words = typed.get_strs("script").unwrap_or(&[]);
+    match words.iter().skip(1).find(|word| is_option(alloc, word)) {
+        None => Ok(typed),
+        Some(word) => Err(bad_line(format!(
+            in alloc;
+            "{word} comes before SCRIPT (-- before SCRIPT gives it to the script)"
+        ))),
     }
 }
 
