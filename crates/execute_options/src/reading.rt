@@ -64,8 +64,7 @@ fn refuse_late_options<'a>(
     let words = typed.get_strs("script").unwrap_or(&[]);
     match words.iter().skip(1).find(|word| is_option(alloc, word)) {
         None => Ok(typed),
-        Some(word) => Err(bad_line(format!(
-            in alloc;
+        Some(word) => Err(bad_line(format!(in alloc;
             "{word} comes before SCRIPT (-- before SCRIPT gives it to the script)"
         ))),
     }
