@@ -9,10 +9,9 @@ use crate::home::Home;
 use crate::launcher::{Bringer, Start};
 use crate::pace::Pace;
 use ados_launch::{Launcher, Listed, Session, SystemEnd, SystemFault, system};
+use ados_share::{Arrival, Mirror, Moment, StartPlace};
 use ados_text::Text;
-use ados_transfer::{
-    Arrival, Mirror, MirrorOptions, Moment, StartPlace, Volume, push_word, volumes_of,
-};
+use ados_transfer::{MirrorOptions, Volume, push_word, volumes_of};
 use ados_world::World;
 use std::alloc::Global;
 use std::io::Eprint;
