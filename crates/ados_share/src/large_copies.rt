@@ -27,7 +27,9 @@ impl Mirror {
         account: &mut Account,
     ) -> Result<(), TransferFault> {
         for place in places {
-            if !files.look(place).is_some_and(is_stand_in) || self.has_stand_in_at(files, place) {
+            if !files.look(place).is_some_and(|entry| is_stand_in(entry))
+                || self.has_stand_in_at(files, place)
+            {
                 continue;
             }
             if let Some(path) = self.path_of(&files.written(place)?)? {
