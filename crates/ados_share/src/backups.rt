@@ -11,7 +11,7 @@ use crate::remainders::Remainder;
 use ados_ram::{Entry, FileBytes, Place, Ram};
 use ados_text::NoMemory;
 use ados_transfer::{
-    Draft, Here, Last, Manner, TransferFault, holds, is_part_of, no_memory, write_beside,
+    Draft, Here, Last, Manner, TransferFault, holds, is_beginning_of, no_memory, write_beside,
 };
 use std::alloc::Global;
 use std::collections::BTreeMap;
@@ -266,7 +266,7 @@ pub fn needs_backup(alloc: Global, draft: &Draft<'_>) -> Result<bool, NoMemory>
 {
     match draft.here {
         Here::File { bytes, .. } if draft.is_last_copy => {
-            Ok(!is_part_of(alloc, bytes, draft.entry)?)
+            Ok(!is_beginning_of(alloc, bytes, draft.entry)?)
         }
         _ => Ok(false),
     }

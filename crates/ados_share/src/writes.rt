@@ -10,7 +10,7 @@ use crate::mirror::Mirror;
 use ados_ram::{Entry, Ram};
 use ados_text::NoMemory;
 use ados_transfer::{
-    Decision, Draft, Here, Last, Record, Stamp, TransferFault, is_part_of, no_memory,
+    Decision, Draft, Here, Last, Record, Stamp, TransferFault, is_beginning_of, no_memory,
 };
 use std::os::unix::fs::PermissionsExt;
 use std::rt::Files;
@@ -229,14 +229,14 @@ fn is_private<R: Files>(rt: &R, path: &str) -> bool {
         && found.permissions().mode() & 0o077 == 0)
 }
 
-// What a file of this machine holds is in a file of the Shell that is not written, and not in the one that takes its place.
+// What a file of this machine holds is in a file of the Shell that is not written, and the one that takes its place does not begin with it.
 fn is_moved_away(draft: &Draft<'_>, account: &Account) -> Result<bool, NoMemory>
     ensures { IfOk result (λ is. is ≡ is_moved_away draft.now.here.now (bytes_of draft.now.entry.now) account.now.bytes.items) }
 {
     let Here::File { bytes, .. } = draft.here else {
         return Ok(false);
     };
-    if is_part_of(account.alloc, bytes, draft.entry)? {
+    if is_beginning_of(account.alloc, bytes, draft.entry)? {
         return Ok(false);
     }
     account.is_in_unwritten(bytes)

@@ -54,6 +54,6 @@ pub use stand_ins::{StandIns, is_stand_in, is_stand_in_of, own_entry};
 pub use taking::{take, taken_place};
 pub use volumes::{Volume, Volumes};
 pub use watch::Watch;
-pub use within::{is_part, is_part_of};
+pub use within::{is_beginning_of, is_part};
 pub use words::push_word;
 pub use writing::{Manner, enter, no_memory, open_beside, path_of, write_beside};
