@@ -24,7 +24,8 @@ pub struct Backups {
     alloc: Global,
     // Each by its path, which is that of a temporary file.
     by_path: BTreeMap<String, Backup>,
-    /// Files that were deleted while the Shell had their bytes, and another file of the folder too.
+    /// Files that were deleted or written over while the Shell had their bytes, and another file of the folder too, or by another
+    /// program.
     pub deleted: Vec<Backup>,
     /// At the end some of them stay.
     pub have_stayed: bool,
@@ -112,6 +113,33 @@ impl Backups {
         Ok(())
     }
 
+    /// A file with this path and these bytes is one of those that were deleted.
+    pub fn is_noted(&self, path: &str, bytes: &FileBytes) -> bool {
+        self.deleted
+            .iter()
+            .any(|backup| backup.original.as_str() == path && backup.bytes == *bytes)
+    }
+
+    /// The backups whose files do not hold their bytes any longer, which are no backups from now on, each with its path.
+    pub fn take_lost<R: AllocGlobal + Files>(
+        &mut self,
+        rt: &R,
+    ) -> Result<Vec<(String, Backup)>, TransferFault> {
+        let mut paths = Vec::new(self.alloc);
+        for (path, backup) in &self.by_path {
+            if !holds(rt, path.as_str(), &backup.bytes) {
+                paths.push(path.clone()?)?;
+            }
+        }
+        let mut lost = Vec::new(self.alloc);
+        for path in &paths {
+            if let Some(entry) = self.by_path.remove_entry(path.as_str()) {
+                lost.push(entry)?;
+            }
+        }
+        Ok(lost)
+    }
+
     /// Keeps the path of a backup.
     pub fn add(&mut self, path: &str, backup: Backup) -> Result<(), TransferFault> {
         self.by_path
@@ -178,7 +206,7 @@ impl Mirror {
             moved,
         };
         let root = self.volumes.root_of(path);
-        let beside = write_beside(rt, root, bytes, Manner::Mode(*mode))?;
+        let beside = write_synced(rt, root, bytes, *mode)?;
         match self.backups.add(beside.as_str(), backup) {
             Ok(()) => Ok(()),
             Err(_) => {
@@ -194,9 +222,13 @@ impl Mirror {
         &mut self,
         rt: &R,
         files: &Ram,
-        moment: Moment,
+        account: &mut Account,
     ) -> Result<(), TransferFault> {
-        self.restore_deleted(rt, files, moment)?;
+        let moment = account.moment;
+        if moment != Moment::Meanwhile {
+            self.renew_backups(rt, files)?;
+            self.restore_deleted(rt, files)?;
+        }
         if self.backups.by_path.is_empty() {
             return Ok(());
         }
@@ -219,8 +251,10 @@ impl Mirror {
                 _ => {}
             }
         }
-        for path in &over {
-            self.let_go(rt, path.as_str())?;
+        if !over.is_empty() && self.is_synced(rt, account)? {
+            for path in &over {
+                self.let_go(rt, path.as_str())?;
+            }
         }
         self.keep_remainders(rt, remainders.as_slice())
     }

@@ -8,10 +8,10 @@ use crate::faults::TransferFault;
 use crate::records::{Record, state_there};
 use crate::stamps::Stamp;
 use ados_ram::{Entry, FileBytes, Limits};
-use std::fs;
 use std::io::ErrorKind;
 use std::os::unix::fs::PermissionsExt;
 use std::rt::Files;
+use std::{fs, io};
 
 /// What this machine has, with the bytes of a file that the Shell can hold.
 #[derive(Drop)]
@@ -143,6 +143,14 @@ impl Here {
             Here::Directory(stamp) | Here::Large(stamp) | Here::File { stamp, .. } => Some(*stamp),
         }
     }
+}
+
+/// Looks at what is at a path, and opens a file: the error says why that can't be done.
+pub fn check_readable<R: AllocGlobal + Files>(rt: &R, path: &str) -> io::Result<()> {
+    if fs::symlink_metadata(rt, path)?.is_file() {
+        drop(fs::open(rt, path)?);
+    }
+    Ok(())
 }
 
 /// Nothing is there, also since what would be above it is a file.
