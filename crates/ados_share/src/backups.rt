@@ -3,15 +3,15 @@ ghost use Rattle.std.specs.Prelude.{◌≡◌, ◌⊎◌, true, false, IfOk};
 ghost use Rattle.ados_ram.specs.Entry.{bytes_of};
 ghost use Rattle.ados_share.specs.Backups.{needs_backup, retention_of};
 
-use crate::account::Moment;
-use crate::last_copies::Holders;
+use crate::account::{Account, Moment};
 use crate::mirror::Mirror;
-use crate::moves::{Destination, Elsewhere};
+use crate::moves::Destination;
 use crate::remainders::Remainder;
+use crate::syncs::write_synced;
 use ados_ram::{Entry, FileBytes, Place, Ram};
 use ados_text::NoMemory;
 use ados_transfer::{
-    Draft, Here, Last, Manner, TransferFault, holds, is_beginning_of, no_memory, write_beside,
+    Draft, Here, Last, TransferFault, is_beginning_of, no_memory,
 };
 use std::alloc::Global;
 use std::collections::BTreeMap;
@@ -21,9 +21,10 @@ use std::{fs, io};
 /// The backups of a share.
 #[derive(Drop)]
 pub struct Backups {
-    alloc: Global,
-    // Each by its path, which is that of a temporary file.
-    by_path: BTreeMap<String, Backup>,
+    /// Where memory comes from.
+    pub alloc: Global,
+    /// Each by its path, which is that of a temporary file.
+    pub by_path: BTreeMap<String, Backup>,
     /// Files that were deleted or written over while the Shell had their bytes, and another file of the folder too, or by another
     /// program.
     pub deleted: Vec<Backup>,
@@ -113,33 +114,6 @@ impl Backups {
         Ok(())
     }
 
-    /// A file with this path and these bytes is one of those that were deleted.
-    pub fn is_noted(&self, path: &str, bytes: &FileBytes) -> bool {
-        self.deleted
-            .iter()
-            .any(|backup| backup.original.as_str() == path && backup.bytes == *bytes)
-    }
-
-    /// The backups whose files do not hold their bytes any longer, which are no backups from now on, each with its path.
-    pub fn take_lost<R: AllocGlobal + Files>(
-        &mut self,
-        rt: &R,
-    ) -> Result<Vec<(String, Backup)>, TransferFault> {
-        let mut paths = Vec::new(self.alloc);
-        for (path, backup) in &self.by_path {
-            if !holds(rt, path.as_str(), &backup.bytes) {
-                paths.push(path.clone()?)?;
-            }
-        }
-        let mut lost = Vec::new(self.alloc);
-        for path in &paths {
-            if let Some(entry) = self.by_path.remove_entry(path.as_str()) {
-                lost.push(entry)?;
-            }
-        }
-        Ok(lost)
-    }
-
     /// Keeps the path of a backup.
     pub fn add(&mut self, path: &str, backup: Backup) -> Result<(), TransferFault> {
         self.by_path
@@ -224,8 +198,7 @@ impl Mirror {
         files: &Ram,
         account: &mut Account,
     ) -> Result<(), TransferFault> {
-        let moment = account.moment;
-        if moment != Moment::Meanwhile {
+        if !account.is_meanwhile() {
             self.renew_backups(rt, files)?;
             self.restore_deleted(rt, files)?;
         }
@@ -239,7 +212,7 @@ impl Mirror {
             let elsewhere = self.elsewhere(files, &holders, backup)?;
             let in_folder = self.is_in_folder(rt, backup)?;
             match (
-                retention_of(elsewhere.is_some(), in_folder, moment == Moment::End),
+                retention_of(elsewhere.is_some(), in_folder, account.moment == Moment::End),
                 elsewhere,
             ) {
                 (Retention::Stays, Some(elsewhere)) => remainders.push(Remainder {
@@ -251,44 +224,26 @@ impl Mirror {
                 _ => {}
             }
         }
-        if !over.is_empty() && self.is_synced(rt, account)? {
-            for path in &over {
-                self.let_go(rt, path.as_str())?;
-            }
-        }
+        self.let_go(rt, over.as_slice(), account)?;
         self.keep_remainders(rt, remainders.as_slice())
     }
 
-    // Where the Shell has the file of a backup: one of the same bytes, or where it was moved if that is not written.
-    pub(crate) fn elsewhere(
-        &self,
-        files: &Ram,
-        holders: &Holders<'_>,
-        backup: &Backup,
-    ) -> Result<Option<Elsewhere>, TransferFault> {
-        if let Some(holder) = holders.first_with(&backup.bytes) {
-            return Ok(Some(Elsewhere::Copy(self.copy_path(files, holder.place())?)));
-        }
-        self.unwritten_elsewhere(files, backup.moved.as_ref())
-    }
-
-    // A file of the folder has the bytes of a backup.
-    pub(crate) fn is_in_folder<R: AllocGlobal + Files>(
-        &self,
+    // Deletes backups.
+    fn let_go<R: AllocGlobal + Files>(
+        &mut self,
         rt: &R,
-        backup: &Backup,
-    ) -> Result<bool, TransferFault> {
-        if holds(rt, backup.original.as_str(), &backup.bytes) {
-            return Ok(true);
+        paths: &[String],
+        account: &mut Account,
+    ) -> Result<(), TransferFault> {
+        if paths.is_empty() || !self.is_synced(rt, account)? {
+            return Ok(());
         }
-        self.is_in_another(rt, "", &backup.bytes)
-    }
-
-    // Deletes a backup.
-    fn let_go<R: Files>(&mut self, rt: &R, path: &str) -> Result<(), TransferFault> {
-        self.backups.by_path.remove(path);
-        if fs::remove_file(rt, path).is_err() && fs::symlink_metadata(rt, path).is_ok() {
-            return self.report_temporary(String::from_str(self.alloc, path)?);
+        for path in paths {
+            let path = path.as_str();
+            self.backups.by_path.remove(path);
+            if fs::remove_file(rt, path).is_err() && fs::symlink_metadata(rt, path).is_ok() {
+                self.report_temporary(String::from_str(self.alloc, path)?)?;
+            }
         }
         Ok(())
     }

@@ -18,12 +18,10 @@ impl Mirror {
         key: &str,
         seen: Option<&Seen>,
     ) -> Result<(), TransferFault> {
-        let Some(record) = self.records.get(key) else {
-            return Ok(());
+        let record = match self.records.get(key) {
+            Some(record) if !seen.is_some_and(|seen| is_of_kind(record, seen.kind)) => record,
+            _ => return Ok(()),
         };
-        if seen.is_some_and(|seen| is_of_kind(record, seen.kind)) {
-            return Ok(());
-        }
         let here = self.look_at(rt, seen)?;
         let place = record.place.copy()?;
         let entry = plan.look(key, &place);

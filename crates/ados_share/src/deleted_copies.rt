@@ -1,19 +1,50 @@
 //! Files whose bytes the Shell has, while the folder of a share has them in another file, or had them until another program deleted or
 //! changed the file that waited. Once no file there has them any longer a backup is made of what the Shell has.
 
-use crate::backups::Backup;
+use crate::backups::{Backup, Backups};
 use crate::departure::Departure;
+use crate::last_copies::Holders;
 use crate::mirror::Mirror;
+use crate::moves::Elsewhere;
 use crate::syncs::write_synced;
-use ados_ram::{Entry, Ram};
+use ados_ram::{Entry, FileBytes, Ram};
 use ados_transfer::{
-    Draft, Here, Last, TransferFault, is_beginning_of, lower,
+    Draft, Here, Last, TransferFault, holds, is_beginning_of, lower,
 };
 use std::rt::Files;
 use std::{fs, mem};
 
 // The mode of a file that was gone before its mode was seen.
 const PRIVATE: u32 = 0o600;
+
+impl Backups {
+    /// A file with this path and these bytes is one of those that were deleted.
+    pub fn is_noted(&self, path: &str, bytes: &FileBytes) -> bool {
+        self.deleted
+            .iter()
+            .any(|backup| backup.original.as_str() == path && backup.bytes == *bytes)
+    }
+
+    /// The backups whose files do not hold their bytes any longer, which are no backups from now on, each with its path.
+    pub fn take_lost<R: AllocGlobal + Files>(
+        &mut self,
+        rt: &R,
+    ) -> Result<Vec<(String, Backup)>, TransferFault> {
+        let mut paths = Vec::new(self.alloc);
+        for (path, backup) in &self.by_path {
+            if !holds(rt, path.as_str(), &backup.bytes) {
+                paths.push(path.clone()?)?;
+            }
+        }
+        let mut lost = Vec::new(self.alloc);
+        for path in &paths {
+            if let Some(entry) = self.by_path.remove_entry(path.as_str()) {
+                lost.push(entry)?;
+            }
+        }
+        Ok(lost)
+    }
+}
 
 impl Mirror {
     // Notes that a file is deleted or written over, if the Shell has its bytes elsewhere. It still has its record.
@@ -75,7 +106,7 @@ impl Mirror {
         if is_here || record.state_there(entry).is_same(&last) {
             return Ok(());
         }
-        self.note(key, PRIVATE)
+        self.note(key, self.waiting.mode(key).unwrap_or(PRIVATE))
     }
 
     // Notes what was the file of a record, once.
@@ -143,6 +174,31 @@ impl Mirror {
             }
         }
         Ok(())
+    }
+
+    // Where the Shell has the file of a backup: one of the same bytes, or where it was moved if that is not written.
+    pub(crate) fn elsewhere(
+        &self,
+        files: &Ram,
+        holders: &Holders<'_>,
+        backup: &Backup,
+    ) -> Result<Option<Elsewhere>, TransferFault> {
+        if let Some(holder) = holders.first_with(&backup.bytes) {
+            return Ok(Some(Elsewhere::Copy(self.copy_path(files, holder.place())?)));
+        }
+        self.unwritten_elsewhere(files, backup.moved.as_ref())
+    }
+
+    // A file of the folder has the bytes of a backup.
+    pub(crate) fn is_in_folder<R: AllocGlobal + Files>(
+        &self,
+        rt: &R,
+        backup: &Backup,
+    ) -> Result<bool, TransferFault> {
+        if holds(rt, backup.original.as_str(), &backup.bytes) {
+            return Ok(true);
+        }
+        self.is_in_another(rt, "", &backup.bytes)
     }
 
     // Writes a backup. That it can't be written is reported, and it is tried again.

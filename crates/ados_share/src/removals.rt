@@ -52,7 +52,7 @@ impl Mirror {
             Removal::Hold => self.hold(key, path, account),
             Removal::Wait => {
                 add_unwritten_within_kind_change(departure, account)?;
-                self.wait(key, departure)
+                self.wait(key, departure, &here)
             }
             Removal::Conflict => {
                 add_unwritten_within_kind_change(departure, account)?;

@@ -44,10 +44,7 @@ impl Mirror {
         let record = self.records.get(key);
         let is_large = record.is_some_and(Record::is_stand_in);
         match here.decision(record, Some(entry)) {
-            Decision::Keep => match here.stamp() {
-                Some(stamp) => self.keep_written(rt, (key, path), entry, stamp),
-                None => Ok(()),
-            },
+            Decision::Keep => self.keep_same(rt, (key, path), entry, &here),
             Decision::Bring => Ok(()),
             Decision::Conflict => {
                 account.add_unwritten_entry(path, entry)?;
@@ -221,6 +218,20 @@ impl Mirror {
             return Err(TransferFault::NoMemory);
         }
         self.reports.fail_for(key, text, path, error.kind())
+    }
+
+    // Keeps an object as it is on both sides already.
+    fn keep_same<R: Clock>(
+        &mut self,
+        rt: &R,
+        object: (&str, &str),
+        entry: &Entry,
+        here: &Here,
+    ) -> Result<(), TransferFault> {
+        match here.stamp() {
+            Some(stamp) => self.keep_written(rt, object, entry, stamp),
+            None => Ok(()),
+        }
     }
 
     // Keeps an object as it is on both sides.

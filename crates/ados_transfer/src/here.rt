@@ -117,6 +117,15 @@ impl Here {
         }
     }
 
+    /// The mode of a file that the Shell can hold.
+    pub fn mode(&self) -> Option<u32> {
+        match self {
+            Here::File { mode, .. } => Some(*mode),
+            Here::Absent | Here::Directory(_) | Here::Large(_) | Here::Foreign | Here::Unread =>
+                None,
+        }
+    }
+
     /// It can't be read or looked at: what it is is not known.
     pub fn is_unread(&self) -> bool {
         matches!(self, Here::Unread)
