@@ -5,6 +5,7 @@ use crate::account::Account;
 use crate::mirror::Mirror;
 use ados_ram::FileBytes;
 use ados_transfer::{Here, Manner, TransferFault, lower, write_beside};
+use std::fs::OpenFile;
 use std::io::ErrorKind;
 use std::rt::Files;
 use std::{fs, io};
