@@ -106,7 +106,8 @@ impl Mirror {
         if is_here || record.state_there(entry).is_same(&last) {
             return Ok(());
         }
-        self.note(key, self.waiting.mode(key).unwrap_or(PRIVATE))
+        let mode = self.waiting.mode(key).unwrap_or(PRIVATE);
+        self.note(key, mode)
     }
 
     // Notes what was the file of a record, once.
