@@ -1,5 +1,5 @@
 //! What one update of the shared folder could not write, and what follows from that.
-ghost use Rattle.std.specs.Prelude.{◌≡◌, ◌++◌, ◌∷◌, [], IfOk, OnOk, string_bytes};
+ghost use Rattle.std.specs.Prelude.{◌≡◌, ◌++◌, ◌∷◌, ◌+◌, ◌-◌, ◌^◌, [], IfOk, OnErr, OnOk, if◌then◌else◌, min, string_bytes};
 ghost use Rattle.std.specs.List.{list_any};
 ghost use Rattle.std.specs.Option.{option_map, is_some};
 ghost use Rattle.ados_share.specs.Account.{first_path, is_in_unwritten, with_bytes_of};
@@ -128,6 +128,7 @@ impl Account {
     /// Notes that the Shell holds an object which is not written.
     pub fn add_unwritten(&mut self, path: &str) -> Result<(), TransferFault>
         ensures unwritten { OnOk result (option_map string_bytes self.new.unwritten ≡ first_path (option_map string_bytes self.old.unwritten) path.now) }
+        ensures unchanged { OnErr result (self.new ≡ self.old) }
         ensures rest { self.new ≡ record self.old { unwritten = self.new.unwritten } }
     {
         if self.unwritten.is_none() {
@@ -140,6 +141,7 @@ impl Account {
     pub fn add_unwritten_entry(&mut self, path: &str, entry: &Entry) -> Result<(), TransferFault>
         ensures unwritten { OnOk result (option_map string_bytes self.new.unwritten ≡ first_path (option_map string_bytes self.old.unwritten) path.now) }
         ensures bytes { OnOk result (self.new.bytes.items ≡ with_bytes_of self.old.bytes.items entry.now.body) }
+        ensures unchanged { OnErr result (self.new.unwritten ≡ self.old.unwritten) }
         ensures rest { self.new ≡ record self.old { unwritten = self.new.unwritten; bytes = self.new.bytes } }
     {
         if let Body::File(bytes) = &entry.body {
@@ -161,6 +163,8 @@ impl Account {
     /// Notes that an object is not deleted.
     pub fn hold(&mut self, path: &str) -> Result<(), TransferFault>
         ensures held { OnOk result (option_map string_bytes self.new.held ≡ first_path (option_map string_bytes self.old.held) path.now) }
+        ensures more { OnOk result (self.new.more ≡ (if is_some self.old.held then min (self.old.more + 1) (2 ^ 64 - 1) else self.old.more)) }
+        ensures unchanged { OnErr result (self.new ≡ self.old) }
         ensures rest { self.new ≡ record self.old { held = self.new.held; more = self.new.more } }
     {
         if self.held.is_none() {
