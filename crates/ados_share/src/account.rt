@@ -6,7 +6,7 @@ ghost use Rattle.ados_share.specs.Account.{first_path, is_in_unwritten, with_byt
 ghost use Rattle.ados_transfer.specs.Within.{is_substring};
 
 use crate::moves::Destination;
-use crate::syncs::Written;
+use crate::syncs::FreshFile;
 use ados_ram::{Body, Entry, FileBytes};
 use ados_text::NoMemory;
 use ados_transfer::{Record, TransferFault, Volumes, is_part};
@@ -49,7 +49,7 @@ pub struct Account {
     /// A file that is gone gave no rights to group and others: a new one may have bytes of it, and gives none either.
     pub is_private: bool,
     /// The files that were written, and that a power cut may empty.
-    pub written: Vec<Written>,
+    pub fresh: Vec<FreshFile>,
 }
 
 /// An object of the folder that was moved out of the way of another one.
@@ -82,7 +82,7 @@ impl Account {
             aside: Vec::new(alloc),
             kept: Vec::new(alloc),
             is_private: false,
-            written: Vec::new(alloc),
+            fresh: Vec::new(alloc),
         }
     }
 
@@ -194,14 +194,14 @@ impl Account {
     }
 
     /// Notes that an object was written. A directory, and a file without bytes, have nothing that a power cut may take.
-    pub fn add_written(&mut self, path: &str, entry: &Entry) -> Result<(), TransferFault>
-        ensures rest { self.new ≡ record self.old { written = self.new.written } }
+    pub fn add_fresh(&mut self, path: &str, entry: &Entry) -> Result<(), TransferFault>
+        ensures rest { self.new ≡ record self.old { fresh = self.new.fresh } }
     {
         match &entry.body {
             Body::File(bytes) if bytes.len() > 0 => {
                 let path = String::from_str(self.alloc, path)?;
                 let bytes = bytes.clone()?;
-                self.written.push(Written { path, bytes })?;
+                self.fresh.push(FreshFile { path, bytes })?;
                 Ok(())
             }
             Body::File(_) | Body::Directory => Ok(()),
@@ -209,10 +209,10 @@ impl Account {
     }
 
     /// The files that were written; none of them is noted any longer.
-    pub fn take_written(&mut self) -> Vec<Written>
-        ensures rest { self.new ≡ record self.old { written = self.new.written } }
+    pub fn take_fresh(&mut self) -> Vec<FreshFile>
+        ensures rest { self.new ≡ record self.old { fresh = self.new.fresh } }
     {
-        std::mem::replace(&mut self.written, Vec::new(self.alloc))
+        std::mem::replace(&mut self.fresh, Vec::new(self.alloc))
     }
 
     /// The mode of a file with these bytes that was moved aside.

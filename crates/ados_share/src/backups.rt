@@ -10,9 +10,7 @@ use crate::remainders::Remainder;
 use crate::syncs::write_synced;
 use ados_ram::{Entry, FileBytes, Place, Ram};
 use ados_text::NoMemory;
-use ados_transfer::{
-    Draft, Here, Last, TransferFault, is_beginning_of, no_memory,
-};
+use ados_transfer::{Draft, Here, Last, TransferFault, is_beginning_of, no_memory};
 use std::alloc::Global;
 use std::collections::BTreeMap;
 use std::rt::Files;
@@ -212,7 +210,11 @@ impl Mirror {
             let elsewhere = self.elsewhere(files, &holders, backup)?;
             let in_folder = self.is_in_folder(rt, backup)?;
             match (
-                retention_of(elsewhere.is_some(), in_folder, account.moment == Moment::End),
+                retention_of(
+                    elsewhere.is_some(),
+                    in_folder,
+                    account.moment == Moment::End,
+                ),
                 elsewhere,
             ) {
                 (Retention::Stays, Some(elsewhere)) => remainders.push(Remainder {

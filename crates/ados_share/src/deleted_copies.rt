@@ -8,9 +8,7 @@ use crate::mirror::Mirror;
 use crate::moves::Elsewhere;
 use crate::syncs::write_synced;
 use ados_ram::{Entry, FileBytes, Ram};
-use ados_transfer::{
-    Draft, Here, Last, TransferFault, holds, is_beginning_of, lower,
-};
+use ados_transfer::{Draft, Here, Last, TransferFault, holds, is_beginning_of, lower};
 use std::rt::Files;
 use std::{fs, mem};
 
@@ -20,9 +18,7 @@ const PRIVATE: u32 = 0o600;
 impl Backups {
     /// A file with this path and these bytes is one of those that were deleted.
     pub fn is_noted(&self, path: &str, bytes: &FileBytes) -> bool {
-        self.deleted
-            .iter()
-            .any(|backup| backup.original.as_str() == path && backup.bytes == *bytes)
+        self.deleted.iter().any(|backup| backup.original.as_str() == path && backup.bytes == *bytes)
     }
 
     /// The backups whose files do not hold their bytes any longer, which are no backups from now on, each with its path.

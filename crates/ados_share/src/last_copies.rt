@@ -16,12 +16,12 @@ use std::rt::Files;
 #[derive(Drop)]
 pub struct Waiting {
     alloc: Global,
-    by_key: BTreeMap<String, Kept>,
+    by_key: BTreeMap<String, Waiter>,
 }
 
 // An object that waits.
 #[derive(Drop)]
-struct Kept {
+struct Waiter {
     // Its path in the folder.
     path: String,
     // Where the Shell has it.
@@ -46,7 +46,7 @@ impl Waiting {
 
     /// The mode of a file that waits.
     pub fn mode(&self, key: &str) -> Option<u32> {
-        self.by_key.get(key).and_then(|kept| kept.mode)
+        self.by_key.get(key).and_then(|waiter| waiter.mode)
     }
 
     // Something in a folder waits.
@@ -58,11 +58,11 @@ impl Waiting {
 
     // The line that reports what waits.
     fn line(&self, volumes: &Volumes) -> Result<Option<String>, TransferFault> {
-        let Some(kept) = self.by_key.values().next() else {
+        let Some(first) = self.by_key.values().next() else {
             return Ok(None);
         };
-        let path = volumes.shown(kept.path.as_str())?;
-        let elsewhere = &kept.elsewhere;
+        let path = volumes.shown(first.path.as_str())?;
+        let elsewhere = &first.elsewhere;
         let more = self.by_key.len().saturating_sub(1);
         if more == 0 {
             return Ok(Some(format!(in self.alloc; "not deleted, since {elsewhere}: {path}")?));
@@ -246,14 +246,14 @@ impl Mirror {
         here: &Here,
     ) -> Result<(), TransferFault> {
         if let Some(elsewhere) = &departure.elsewhere {
-            let kept = Kept {
+            let waiter = Waiter {
                 path: departure.path.clone()?,
                 elsewhere: elsewhere.copy()?,
                 mode: here.mode(),
             };
             self.waiting
                 .by_key
-                .insert(String::from_str(self.alloc, key)?, kept)?;
+                .insert(String::from_str(self.alloc, key)?, waiter)?;
         }
         Ok(())
     }

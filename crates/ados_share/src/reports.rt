@@ -173,7 +173,8 @@ impl Reports {
         if self.failing.insert(String::from_str(self.alloc, key)?)? {
             let path = self.volumes.shown(path)?;
             let reason = with_reason(self.alloc, path.as_str(), kind)?;
-            self.lines.push(format!(in self.alloc; "{text}: {reason}")?)?;
+            self.lines
+                .push(format!(in self.alloc; "{text}: {reason}")?)?;
         }
         Ok(())
     }

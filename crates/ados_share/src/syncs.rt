@@ -12,7 +12,7 @@ use std::{fs, io};
 
 /// A file that an update wrote, and that a power cut may empty.
 #[derive(Drop)]
-pub struct Written {
+pub struct FreshFile {
     /// Its path.
     pub path: String,
     /// What it holds.
@@ -41,8 +41,8 @@ impl Mirror {
         account: &mut Account,
     ) -> Result<bool, TransferFault> {
         let mut is_synced = true;
-        for written in account.take_written() {
-            let path = written.path.as_str();
+        for file in account.take_fresh() {
+            let path = file.path.as_str();
             if let Err(error) = sync(rt, path) {
                 account.add_unwritten(path)?;
                 let key = lower(self.alloc, path)?;
@@ -60,9 +60,9 @@ pub(crate) fn sync_copies<R: AllocGlobal + Files>(
     account: &Account,
     bytes: &FileBytes,
 ) -> io::Result<()> {
-    for written in &account.written {
-        if written.bytes == *bytes {
-            sync(rt, written.path.as_str())?;
+    for file in &account.fresh {
+        if file.bytes == *bytes {
+            sync(rt, file.path.as_str())?;
         }
     }
     Ok(())
@@ -90,10 +90,10 @@ fn sync<R: AllocGlobal + Files>(rt: &R, path: &str) -> io::Result<()> {
     match fs::open(rt, path) {
         Ok(file) => file.sync_all(),
         Err(error)
-            if matches!(error.kind(), ErrorKind::NotFound | ErrorKind::PermissionDenied) =>
-        {
-            Ok(())
-        }
+            if matches!(
+                error.kind(),
+                ErrorKind::NotFound | ErrorKind::PermissionDenied
+            ) => { Ok(()) }
         Err(error) => Err(error),
     }
 }

@@ -81,7 +81,7 @@ impl Mirror {
         }
         match self.replace(rt, object, draft, account) {
             Ok(Some(stamp)) => {
-                account.add_written(path, draft.entry)?;
+                account.add_fresh(path, draft.entry)?;
                 self.keep_written(rt, object, draft.entry, stamp)
             }
             Ok(None) => {
