@@ -17,7 +17,7 @@ fn reason_of(kind: ErrorKind) -> Option<&'static str> {
         ErrorKind::NotFound => Some("no such file or folder"),
         ErrorKind::PermissionDenied => Some("permission denied"),
         ErrorKind::AlreadyExists => Some("another program made it"),
-        ErrorKind::NotADirectory => Some("not a folder"),
+        ErrorKind::NotADirectory => Some("no folder, or a link"),
         ErrorKind::IsADirectory => Some("it is a folder"),
         ErrorKind::ReadOnlyFilesystem => Some("read-only file system"),
         ErrorKind::StorageFull => Some("no space left on device"),
