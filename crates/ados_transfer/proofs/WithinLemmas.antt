@@ -1,5 +1,5 @@
 -- Bytes within others, from one place to the next.
-use Rattle.std.proofs.Common.{ℕ, zero, suc, ◌≡◌, ◌<◌, ◌+◌, ◌-◌, ◌==◌, ◌||◌, ◌&&◌, ◌∙◌, Bool, true, false, refl, [], ◌∷◌, length, take, drop, length-drop, ap, sym, add-one, arith}
+use Rattle.std.proofs.Common.{ℕ, zero, suc, ◌≡◌, ◌<◌, ◌+◌, ◌-◌, ◌==◌, ◌||◌, ◌&&◌, ◌∙◌, Bool, true, false, refl, [], ◌∷◌, length, take, drop, length-drop, ap, sym, add-one, arith, nat_tests}
 use Rattle.std.proofs.lemmas.List.{take_all}
 use Rattle.std.specs.List.{starts_with}
 use Rattle.ados_text.specs.Text.{Bytes}
@@ -31,7 +31,9 @@ no_start (y ∷ ys) (x ∷ xs) fewer = ap (λ b. (y == x) && b) (no_start ys xs 
 -- with no bytes only no bytes begin
 pub none_begin : (bytes : Bytes) → starts_with ◌==◌ [] bytes ≡ (length bytes == 0)
 none_begin [] = refl
-none_begin (y ∷ ys) = refl
+none_begin (y ∷ ys) =
+    let some : (length (y ∷ ys) == 0) ≡ false = grind (arith, nat_tests) in
+    sym some
 
 -- bytes are not within fewer ones
 pub longer_is_no_part : (bytes all : Bytes) → length all < length bytes → is_substring bytes all ≡ false
