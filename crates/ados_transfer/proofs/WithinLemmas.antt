@@ -1,5 +1,6 @@
 -- Bytes within others, from one place to the next.
-use Rattle.std.proofs.Common.{ℕ, zero, suc, ◌≡◌, ◌<◌, ◌+◌, ◌-◌, ◌==◌, ◌||◌, ◌&&◌, ◌∙◌, Bool, true, false, refl, [], ◌∷◌, length, take, drop, length-drop, ap, sym, add-one, arith, nat_tests}
+use Rattle.std.proofs.Common.{ℕ, zero, suc, ◌≡◌, ◌<◌, ◌+◌, ◌-◌, ◌==◌, ◌||◌, ◌&&◌, ◌∙◌, Bool, true, false, refl, [], ◌∷◌, length, take, drop, length-drop, ap, sym, add-one, arith}
+use Rattle.std.proofs.lemmas.Bool.Decides.{nat_tests}
 use Rattle.std.proofs.lemmas.List.{take_all}
 use Rattle.std.specs.List.{starts_with}
 use Rattle.ados_text.specs.Text.{Bytes}
