@@ -5,7 +5,8 @@
    Of these the one whose number, from 1, FAIL_AT gives fails with the error FAIL_ERRNO, or if that is 0 moves no byte, and
    so does each after it if FAIL_ON is given; if it is made, the file FAIL_MARK is created. Calls of a path are counted only when there is
    the file FAIL_FROM, if that is given; and if FAIL_RUN is, they do not fail: before they are made this program runs to its end, with the kind and the path
-   as its words. Each read or write of the kind moves at most FAIL_BYTES bytes, if that is
+   as its words. With FAIL_EMPTY, before it is run, each file is emptied that was written and neither brought to the disk since nor given
+   the name of another file, as after a power cut. Each read or write of the kind moves at most FAIL_BYTES bytes, if that is
    given. A wait that fails has waited, unless it was interrupted. */
 #define _GNU_SOURCE
 #include <dlfcn.h>
@@ -55,6 +56,48 @@ static int fails(const char *kind) {
 
 static size_t room(const char *kind, size_t count) { return is_kind(kind) && most < count ? most : count; }
 
+/* Files that were written, and what a power cut leaves of them. */
+static int unsynced[4096];
+static size_t count_unsynced;
+
+static int is_of(int file, const struct stat *about) {
+    struct stat own;
+    return fstat(file, &own) == 0 && own.st_dev == about->st_dev && own.st_ino == about->st_ino;
+}
+
+static void forget_written(const struct stat *about) {
+    for (size_t i = count_unsynced; i-- > 0;)
+        if (is_of(unsynced[i], about)) {
+            close(unsynced[i]);
+            unsynced[i] = unsynced[--count_unsynced];
+        }
+}
+
+static void note_written(int file) {
+    struct stat about;
+    if (!getenv("FAIL_EMPTY") || fstat(file, &about) != 0 || !S_ISREG(about.st_mode)) return;
+    forget_written(&about);
+    int copy = fcntl(file, F_DUPFD_CLOEXEC, 2048);
+    if (copy >= 0 && count_unsynced < sizeof unsynced / sizeof *unsynced) unsynced[count_unsynced++] = copy;
+}
+
+static void empty_unsynced(void) {
+    for (size_t i = 0; i < count_unsynced; i++)
+        if (ftruncate(unsynced[i], 0) != 0) _exit(99);
+}
+
+#define SYNC(name)                                        \
+    int name(int file) {                                  \
+        static int (*next)(int);                          \
+        if (!next) next = dlsym(RTLD_NEXT, #name);        \
+        struct stat about;                                \
+        if (fstat(file, &about) == 0) forget_written(&about); \
+        return next(file);                                \
+    }
+
+SYNC(fsync)
+SYNC(fdatasync)
+
 /* The kind of a read. */
 static const char *read_kind(int file) {
     struct stat about;
@@ -81,7 +124,7 @@ ssize_t readv(int file, const struct iovec *parts, int count) {
 ssize_t write(int file, const void *from, size_t count) {
     static ssize_t (*next)(int, const void *, size_t);
     if (!next) next = dlsym(RTLD_NEXT, "write");
-    if (file != STDOUT_FILENO) return next(file, from, count);
+    if (file != STDOUT_FILENO) return note_written(file), next(file, from, count);
     if (fails("write")) return error ? -1 : 0;
     return next(file, from, room("write", count));
 }
@@ -90,7 +133,7 @@ ssize_t writev(int file, const struct iovec *parts, int count) {
     static ssize_t (*next)(int, const struct iovec *, int);
     if (!next) next = dlsym(RTLD_NEXT, "writev");
     if (file == STDOUT_FILENO && count > 0) return write(file, parts[0].iov_base, parts[0].iov_len);
-    return next(file, parts, count);
+    return note_written(file), next(file, parts, count);
 }
 
 /* A wait, or its result if it fails. */
@@ -154,7 +197,7 @@ static int path_fails(const char *kind, const char *path) {
     if (!is_kind("path") && !is_kind(kind)) return 0;
     if (from && access(from, F_OK) != 0) return errno = before, 0;
     if (!is_met()) return 0;
-    if (run) return run_before(run, kind, path), errno = before, 0;
+    if (run) return empty_unsynced(), run_before(run, kind, path), errno = before, 0;
     errno = error;
     return 1;
 }
@@ -196,9 +239,25 @@ OPEN(open)
 OPEN(open64)
 OPEN_AT(openat)
 OPEN_AT(openat64)
-PATH(rename, "rename", old, (const char *old, const char *new), (old, new))
-PATH(renameat, "rename", old, (int from, const char *old, int to, const char *new), (from, old, to, new))
-PATH(renameat2, "rename", old, (int from, const char *old, int to, const char *new, unsigned flags), (from, old, to, new, flags))
+
+/* What takes the name of another file is brought to the disk by the file systems. */
+static void settle(int from, const char *old, int to, const char *new) {
+    struct stat about, other;
+    if (fstatat(to, new, &other, 0) == 0 && fstatat(from, old, &about, 0) == 0) forget_written(&about);
+}
+
+#define RENAME(name, from, to, parameters, words)          \
+    int name parameters {                                  \
+        static int(*next) parameters;                      \
+        if (!next) next = dlsym(RTLD_NEXT, #name);         \
+        if (path_fails("rename", old)) return -1;          \
+        settle(from, old, to, new);                        \
+        return next words;                                 \
+    }
+
+RENAME(rename, AT_FDCWD, AT_FDCWD, (const char *old, const char *new), (old, new))
+RENAME(renameat, from, to, (int from, const char *old, int to, const char *new), (from, old, to, new))
+RENAME(renameat2, from, to, (int from, const char *old, int to, const char *new, unsigned flags), (from, old, to, new, flags))
 PATH(link, "link", old, (const char *old, const char *new), (old, new))
 PATH(linkat, "link", old, (int from, const char *old, int to, const char *new, int flags), (from, old, to, new, flags))
 PATH(unlink, "unlink", path, (const char *path), (path))

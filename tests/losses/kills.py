@@ -1,4 +1,5 @@
-"""Runs that are killed before a call of a path: what the script did not delete stands somewhere, and no file is torn.
+"""Runs that are killed before a call of a path: what the script did not delete stands somewhere, and no file is torn. After a power cut
+what was written and not brought to the disk is empty.
 
 A kill can leave a temporary file, and that may be the only one that has the bytes of a file whose place another object was given.
 """
@@ -50,9 +51,14 @@ def judge(before, kept, made):
     return of
 
 
-def killed(name, before, lines):
+def killed(name, before, lines, by="a kill"):
     kept = [path for path in before if path not in DELETED.get(name, [])]
-    return Race(f"a kill while {name}", before, started(*lines), "kill -KILL $PPID", judge(before, kept, list(before.values())))
+    return Race(f"{by} while {name}", before, started(*lines), "kill -KILL $PPID", judge(before, kept, list(before.values())), is_power_cut=by != "a kill")
 
 
-KILLS = [killed(*case) for case in SCRIPTS]
+RENAMED = [
+    ("files are renamed", DATA, ["Rename a a2", "Rename b b2", PROGRAM, "Rename c c2"]),
+    ("a file is copied and deleted", DATA, ["Copy a a2 QUIET", "Delete a QUIET"]),
+]
+
+KILLS = [killed(*case) for case in SCRIPTS] + [killed(*case, by="a power cut") for case in SCRIPTS + RENAMED]

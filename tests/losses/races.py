@@ -23,6 +23,7 @@ class Race:
     options: list = field(default_factory=lambda: SHARED)
     prepare: str = "true"
     is_after_start: bool = True
+    is_power_cut: bool = False
 
 
 def started(*lines, mark="../go"):
@@ -215,4 +216,21 @@ PIPES = [
          most=1, named="open .*a$", options=["--bring", "d"], is_after_start=False),
 ]
 
-RACES = EXCHANGED + BOTH + CHANGED + MOVED + PIPES
+
+# What is taken replaces nothing that another program makes after the look at its place: by then there is a call of a temporary file.
+
+def line_is_at_its_place(trial):
+    stands = trial.stands.get("out")
+    is_after_look = "acted" in trial.stands and ".amishell-execute." in trial.call[1]
+    return "the line is lost" if is_after_look and (stands is None or LINE.encode() not in stands) else None
+
+
+TAKEN = [
+    Race("what is taken comes where another program makes a file", {}, "Echo >RAM:out new\n", f'[ ! -e out ] && echo "{LINE}" >out', line_is_at_its_place,
+         options=["--take", "RAM:out"], is_after_start=False),
+    Race("what is taken takes the place of a file that another program replaces", {"out": b"old\n"}, "Echo >RAM:out new\n",
+         f'grep -q old out && echo "{LINE}" >theirs && mv theirs out', line_is_at_its_place, most=1, named=MOMENT, options=["--take", "RAM:out"],
+         is_after_start=False),
+]
+
+RACES = EXCHANGED + BOTH + CHANGED + MOVED + PIPES + TAKEN

@@ -6,7 +6,7 @@ use Rattle.ados_ram.specs.declared.entries.Body.{Body}
 use Rattle.ados_ram.specs.declared.entries.Body.TheVariants.{Directory, File}
 use Rattle.ados_transfer.specs.declared.here.Here.{Here}
 use Rattle.ados_transfer.specs.declared.here.Here.TheVariants.{Absent, Directory as Folder, File as Seen, Large, Foreign, Unread}
-use Rattle.ados_transfer.specs.Within.{is_substring}
+use Rattle.ados_transfer.specs.Within.{is_beginning, is_substring}
 
 -- the path of the first object that could not be written: a later path does not replace it
 abbrev pub first_path : Option Bytes → Bytes → Option Bytes
@@ -22,8 +22,8 @@ with_bytes_of all (File bytes) = all ++ bytes ∷ []
 abbrev pub is_in_unwritten : List Bytes → Bytes → Bool
 is_in_unwritten all bytes = not (length bytes == 0) && list_any (is_substring bytes) all
 
--- The bytes of a file that was seen were moved: they occur in a file that could not be written, and not in `new`, the bytes that are
--- to replace the file.
+-- The bytes of a file that was seen were moved: they occur in a file that could not be written, and `new`, the bytes that are to replace
+-- the file, does not begin with them.
 abbrev pub is_moved_away : Here → Bytes → List Bytes → Bool
-is_moved_away (Seen bytes stamp mode) new unwritten = not (is_substring bytes new) && is_in_unwritten unwritten bytes
+is_moved_away (Seen bytes stamp mode) new unwritten = not (is_beginning bytes new) && is_in_unwritten unwritten bytes
 is_moved_away _ new unwritten = false

@@ -1,11 +1,12 @@
 //! What one update of the shared folder could not write, and what follows from that.
-ghost use Rattle.std.specs.Prelude.{◌≡◌, ◌++◌, ◌∷◌, [], IfOk, OnOk, string_bytes};
+ghost use Rattle.std.specs.Prelude.{◌≡◌, ◌++◌, ◌∷◌, ◌+◌, ◌-◌, ◌^◌, [], IfOk, OnErr, OnOk, if◌then◌else◌, min, string_bytes};
 ghost use Rattle.std.specs.List.{list_any};
 ghost use Rattle.std.specs.Option.{option_map, is_some};
 ghost use Rattle.ados_share.specs.Account.{first_path, is_in_unwritten, with_bytes_of};
 ghost use Rattle.ados_transfer.specs.Within.{is_substring};
 
 use crate::moves::Destination;
+use crate::syncs::FreshFile;
 use ados_ram::{Body, Entry, FileBytes};
 use ados_text::NoMemory;
 use ados_transfer::{Record, TransferFault, Volumes, is_part};
@@ -47,6 +48,8 @@ pub struct Account {
     pub kept: Vec<String>,
     /// A file that is gone gave no rights to group and others: a new one may have bytes of it, and gives none either.
     pub is_private: bool,
+    /// The files that were written, and that a power cut may empty.
+    pub fresh: Vec<FreshFile>,
 }
 
 /// An object of the folder that was moved out of the way of another one.
@@ -79,6 +82,7 @@ impl Account {
             aside: Vec::new(alloc),
             kept: Vec::new(alloc),
             is_private: false,
+            fresh: Vec::new(alloc),
         }
     }
 
@@ -124,6 +128,7 @@ impl Account {
     /// Notes that the Shell holds an object which is not written.
     pub fn add_unwritten(&mut self, path: &str) -> Result<(), TransferFault>
         ensures unwritten { OnOk result (option_map string_bytes self.new.unwritten ≡ first_path (option_map string_bytes self.old.unwritten) path.now) }
+        ensures unchanged { OnErr result (self.new ≡ self.old) }
         ensures rest { self.new ≡ record self.old { unwritten = self.new.unwritten } }
     {
         if self.unwritten.is_none() {
@@ -136,6 +141,7 @@ impl Account {
     pub fn add_unwritten_entry(&mut self, path: &str, entry: &Entry) -> Result<(), TransferFault>
         ensures unwritten { OnOk result (option_map string_bytes self.new.unwritten ≡ first_path (option_map string_bytes self.old.unwritten) path.now) }
         ensures bytes { OnOk result (self.new.bytes.items ≡ with_bytes_of self.old.bytes.items entry.now.body) }
+        ensures unchanged { OnErr result (self.new.unwritten ≡ self.old.unwritten) }
         ensures rest { self.new ≡ record self.old { unwritten = self.new.unwritten; bytes = self.new.bytes } }
     {
         if let Body::File(bytes) = &entry.body {
@@ -157,6 +163,8 @@ impl Account {
     /// Notes that an object is not deleted.
     pub fn hold(&mut self, path: &str) -> Result<(), TransferFault>
         ensures held { OnOk result (option_map string_bytes self.new.held ≡ first_path (option_map string_bytes self.old.held) path.now) }
+        ensures more { OnOk result (self.new.more ≡ (if is_some self.old.held then min (self.old.more + 1) (2 ^ 64 - 1) else self.old.more)) }
+        ensures unchanged { OnErr result (self.new ≡ self.old) }
         ensures rest { self.new ≡ record self.old { held = self.new.held; more = self.new.more } }
     {
         if self.held.is_none() {
@@ -183,6 +191,28 @@ impl Account {
         ensures rest { self.new ≡ record self.old { aside = self.new.aside } }
     {
         std::mem::replace(&mut self.aside, Vec::new(self.alloc))
+    }
+
+    /// Notes that an object was written. A directory, and a file without bytes, have nothing that a power cut may take.
+    pub fn add_fresh(&mut self, path: &str, entry: &Entry) -> Result<(), TransferFault>
+        ensures rest { self.new ≡ record self.old { fresh = self.new.fresh } }
+    {
+        match &entry.body {
+            Body::File(bytes) if bytes.len() > 0 => {
+                let path = String::from_str(self.alloc, path)?;
+                let bytes = bytes.clone()?;
+                self.fresh.push(FreshFile { path, bytes })?;
+                Ok(())
+            }
+            Body::File(_) | Body::Directory => Ok(()),
+        }
+    }
+
+    /// The files that were written; none of them is noted any longer.
+    pub fn take_fresh(&mut self) -> Vec<FreshFile>
+        ensures rest { self.new ≡ record self.old { fresh = self.new.fresh } }
+    {
+        std::mem::replace(&mut self.fresh, Vec::new(self.alloc))
     }
 
     /// The mode of a file with these bytes that was moved aside.

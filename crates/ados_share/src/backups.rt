@@ -3,16 +3,14 @@ ghost use Rattle.std.specs.Prelude.{◌≡◌, ◌⊎◌, true, false, IfOk};
 ghost use Rattle.ados_ram.specs.Entry.{bytes_of};
 ghost use Rattle.ados_share.specs.Backups.{needs_backup, retention_of};
 
-use crate::account::Moment;
-use crate::last_copies::Holders;
+use crate::account::{Account, Moment};
 use crate::mirror::Mirror;
-use crate::moves::{Destination, Elsewhere};
+use crate::moves::Destination;
 use crate::remainders::Remainder;
+use crate::syncs::write_synced;
 use ados_ram::{Entry, FileBytes, Place, Ram};
 use ados_text::NoMemory;
-use ados_transfer::{
-    Draft, Here, Last, Manner, TransferFault, holds, is_part_of, no_memory, write_beside,
-};
+use ados_transfer::{Draft, Here, Last, TransferFault, is_beginning_of, no_memory};
 use std::alloc::Global;
 use std::collections::BTreeMap;
 use std::rt::Files;
@@ -21,10 +19,12 @@ use std::{fs, io};
 /// The backups of a share.
 #[derive(Drop)]
 pub struct Backups {
-    alloc: Global,
-    // Each by its path, which is that of a temporary file.
-    by_path: BTreeMap<String, Backup>,
-    /// Files that were deleted while the Shell had their bytes, and another file of the folder too.
+    /// Where memory comes from.
+    pub alloc: Global,
+    /// Each by its path, which is that of a temporary file.
+    pub by_path: BTreeMap<String, Backup>,
+    /// Files that were deleted or written over while the Shell had their bytes, and another file of the folder too, or by another
+    /// program.
     pub deleted: Vec<Backup>,
     /// At the end some of them stay.
     pub have_stayed: bool,
@@ -178,7 +178,7 @@ impl Mirror {
             moved,
         };
         let root = self.volumes.root_of(path);
-        let beside = write_beside(rt, root, bytes, Manner::Mode(*mode))?;
+        let beside = write_synced(rt, root, bytes, *mode)?;
         match self.backups.add(beside.as_str(), backup) {
             Ok(()) => Ok(()),
             Err(_) => {
@@ -194,9 +194,12 @@ impl Mirror {
         &mut self,
         rt: &R,
         files: &Ram,
-        moment: Moment,
+        account: &mut Account,
     ) -> Result<(), TransferFault> {
-        self.restore_deleted(rt, files, moment)?;
+        if !account.is_meanwhile() {
+            self.renew_backups(rt, files)?;
+            self.restore_deleted(rt, files)?;
+        }
         if self.backups.by_path.is_empty() {
             return Ok(());
         }
@@ -207,7 +210,11 @@ impl Mirror {
             let elsewhere = self.elsewhere(files, &holders, backup)?;
             let in_folder = self.is_in_folder(rt, backup)?;
             match (
-                retention_of(elsewhere.is_some(), in_folder, moment == Moment::End),
+                retention_of(
+                    elsewhere.is_some(),
+                    in_folder,
+                    account.moment == Moment::End,
+                ),
                 elsewhere,
             ) {
                 (Retention::Stays, Some(elsewhere)) => remainders.push(Remainder {
@@ -219,42 +226,26 @@ impl Mirror {
                 _ => {}
             }
         }
-        for path in &over {
-            self.let_go(rt, path.as_str())?;
-        }
+        self.let_go(rt, over.as_slice(), account)?;
         self.keep_remainders(rt, remainders.as_slice())
     }
 
-    // Where the Shell has the file of a backup: one of the same bytes, or where it was moved if that is not written.
-    pub(crate) fn elsewhere(
-        &self,
-        files: &Ram,
-        holders: &Holders<'_>,
-        backup: &Backup,
-    ) -> Result<Option<Elsewhere>, TransferFault> {
-        if let Some(holder) = holders.first_with(&backup.bytes) {
-            return Ok(Some(Elsewhere::Copy(self.copy_path(files, holder.place())?)));
-        }
-        self.unwritten_elsewhere(files, backup.moved.as_ref())
-    }
-
-    // A file of the folder has the bytes of a backup.
-    pub(crate) fn is_in_folder<R: AllocGlobal + Files>(
-        &self,
+    // Deletes backups.
+    fn let_go<R: AllocGlobal + Files>(
+        &mut self,
         rt: &R,
-        backup: &Backup,
-    ) -> Result<bool, TransferFault> {
-        if holds(rt, backup.original.as_str(), &backup.bytes) {
-            return Ok(true);
+        paths: &[String],
+        account: &mut Account,
+    ) -> Result<(), TransferFault> {
+        if paths.is_empty() || !self.is_synced(rt, account)? {
+            return Ok(());
         }
-        self.is_in_another(rt, "", &backup.bytes)
-    }
-
-    // Deletes a backup.
-    fn let_go<R: Files>(&mut self, rt: &R, path: &str) -> Result<(), TransferFault> {
-        self.backups.by_path.remove(path);
-        if fs::remove_file(rt, path).is_err() && fs::symlink_metadata(rt, path).is_ok() {
-            return self.report_temporary(String::from_str(self.alloc, path)?);
+        for path in paths {
+            let path = path.as_str();
+            self.backups.by_path.remove(path);
+            if fs::remove_file(rt, path).is_err() && fs::symlink_metadata(rt, path).is_ok() {
+                self.report_temporary(String::from_str(self.alloc, path)?)?;
+            }
         }
         Ok(())
     }
@@ -266,7 +257,7 @@ pub fn needs_backup(alloc: Global, draft: &Draft<'_>) -> Result<bool, NoMemory>
 {
     match draft.here {
         Here::File { bytes, .. } if draft.is_last_copy => {
-            Ok(!is_part_of(alloc, bytes, draft.entry)?)
+            Ok(!is_beginning_of(alloc, bytes, draft.entry)?)
         }
         _ => Ok(false),
     }

@@ -18,12 +18,10 @@ impl Mirror {
         key: &str,
         seen: Option<&Seen>,
     ) -> Result<(), TransferFault> {
-        let Some(record) = self.records.get(key) else {
-            return Ok(());
+        let record = match self.records.get(key) {
+            Some(record) if !seen.is_some_and(|seen| is_of_kind(record, seen.kind)) => record,
+            _ => return Ok(()),
         };
-        if seen.is_some_and(|seen| is_of_kind(record, seen.kind)) {
-            return Ok(());
-        }
         let here = self.look_at(rt, seen)?;
         let place = record.place.copy()?;
         let entry = plan.look(key, &place);
@@ -32,6 +30,7 @@ impl Mirror {
         let (is_absent, is_foreign) = (state.is_absent(), matches!(state, State::Foreign));
         let gone = (key, record.path.as_str());
         let arrival = Arrival::new(self.alloc, gone, Coming::Nothing, Stamp::NONE)?;
+        self.note_vanished(key, &here, entry)?;
         if decision == Decision::Conflict {
             self.reports.report_kept(key, arrival.path.as_str(), false)?;
             let is_there = entry.is_some() && !is_foreign;
@@ -83,6 +82,7 @@ impl Mirror {
         if here.is_unread() {
             return self.reports.report_unread(key, seen.path.as_str());
         }
+        self.note_vanished(key, &here, entry)?;
         let record = self.records.get(key).filter(|_| !plan.deletes(key));
         if entry.is_some() && record.is_some_and(|record| !is_of_kind(record, seen.kind)) {
             return Ok(());

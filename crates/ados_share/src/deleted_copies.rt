@@ -1,39 +1,149 @@
-//! Files that were deleted in the folder of a share while another file there had their bytes, and the Shell too. Once no file there has
-//! them any longer, as another program deleted that one, a backup is made of what the Shell has.
+//! Files whose bytes the Shell has, while the folder of a share has them in another file, or had them until another program deleted or
+//! changed the file that waited. Once no file there has them any longer a backup is made of what the Shell has.
 
-use crate::account::Moment;
-use crate::backups::Backup;
+use crate::backups::{Backup, Backups};
 use crate::departure::Departure;
+use crate::last_copies::Holders;
 use crate::mirror::Mirror;
-use ados_ram::Ram;
-use ados_transfer::{Here, Last, Manner, TransferFault, lower, write_beside};
-use std::mem;
+use crate::moves::Elsewhere;
+use crate::syncs::write_synced;
+use ados_ram::{Entry, FileBytes, Ram};
+use ados_transfer::{Draft, Here, Last, TransferFault, holds, is_beginning_of, lower};
 use std::rt::Files;
+use std::{fs, mem};
+
+// The mode of a file that was gone before its mode was seen.
+const PRIVATE: u32 = 0o600;
+
+impl Backups {
+    /// A file with this path and these bytes is one of those that were deleted.
+    pub fn is_noted(&self, path: &str, bytes: &FileBytes) -> bool {
+        self.deleted.iter().any(|backup| backup.original.as_str() == path && backup.bytes == *bytes)
+    }
+
+    /// The backups whose files do not hold their bytes any longer, which are no backups from now on, each with its path.
+    pub fn take_lost<R: AllocGlobal + Files>(
+        &mut self,
+        rt: &R,
+    ) -> Result<Vec<(String, Backup)>, TransferFault> {
+        let mut paths = Vec::new(self.alloc);
+        for (path, backup) in &self.by_path {
+            if !holds(rt, path.as_str(), &backup.bytes) {
+                paths.push(path.clone()?)?;
+            }
+        }
+        let mut lost = Vec::new(self.alloc);
+        for path in &paths {
+            if let Some(entry) = self.by_path.remove_entry(path.as_str()) {
+                lost.push(entry)?;
+            }
+        }
+        Ok(lost)
+    }
+}
 
 impl Mirror {
-    // Notes that a file is deleted, if the Shell has its bytes elsewhere. It still has its record.
+    // Notes that a file is deleted or written over, if the Shell has its bytes elsewhere. It still has its record.
     pub(crate) fn note_gone(
         &mut self,
         key: &str,
         departure: &Departure<'_>,
         here: &Here,
     ) -> Result<(), TransferFault> {
-        let (Here::File { mode, .. }, Some(record)) = (here, self.records.get(key)) else {
+        match here {
+            Here::File { mode, .. } if departure.elsewhere.is_some() => self.note(key, *mode),
+            _ => Ok(()),
+        }
+    }
+
+    // Notes that a file of which there is no backup is to be written over, unless what is written begins with its bytes.
+    pub(crate) fn note_written_over(
+        &mut self,
+        key: &str,
+        departure: &Departure<'_>,
+        draft: &Draft<'_>,
+    ) -> Result<(), TransferFault> {
+        match draft.here {
+            Here::File { bytes, .. } if departure.elsewhere.is_some() && !draft.is_last_copy => {
+                if is_beginning_of(self.alloc, bytes, draft.entry)? {
+                    return Ok(());
+                }
+                self.note_gone(key, departure, draft.here)
+            }
+            _ => Ok(()),
+        }
+    }
+
+    // What this machine has in the place of an object of the Shell. What another program deleted or changed there is noted.
+    pub(crate) fn look_here<R: AllocGlobal + Files>(
+        &mut self,
+        rt: &R,
+        key: &str,
+        departure: &Departure<'_>,
+    ) -> Result<Here, TransferFault> {
+        let here = Here::look(rt, self.options.limits, departure.path.as_str())?;
+        self.note_vanished(key, &here, departure.entry)?;
+        Ok(here)
+    }
+
+    // Notes that another program deleted or changed a file which the Shell does not have in its place either: it may have its bytes
+    // elsewhere. It still has its record.
+    pub(crate) fn note_vanished(
+        &mut self,
+        key: &str,
+        here: &Here,
+        entry: Option<&Entry>,
+    ) -> Result<(), TransferFault> {
+        let Some(record) = self.records.get(key) else {
+            return Ok(());
+        };
+        let last = record.state();
+        let is_here = here.is_unread() || here.state(Some(record)).is_same(&last);
+        if is_here || record.state_there(entry).is_same(&last) {
+            return Ok(());
+        }
+        let mode = self.waiting.mode(key).unwrap_or(PRIVATE);
+        self.note(key, mode)
+    }
+
+    // Notes what was the file of a record, once.
+    fn note(&mut self, key: &str, mode: u32) -> Result<(), TransferFault> {
+        let Some(record) = self.records.get(key) else {
             return Ok(());
         };
         let Last::File(bytes) = &record.last else {
             return Ok(());
         };
-        if departure.elsewhere.is_none() {
+        let is_noted = self.backups.is_noted(record.path.as_str(), bytes);
+        if bytes.len() == 0 || is_noted || self.options.dry {
             return Ok(());
         }
         let backup = Backup {
-            original: departure.path.clone()?,
+            original: record.path.clone()?,
             bytes: bytes.clone()?,
-            mode: *mode,
+            mode,
             moved: self.moves.copy(key)?,
         };
         self.backups.deleted.push(backup)?;
+        Ok(())
+    }
+
+    // Backups that another program deleted or changed are made anew if they are still needed. What is in place of one stays, and is told.
+    pub(crate) fn renew_backups<R: AllocGlobal + Files>(
+        &mut self,
+        rt: &R,
+        files: &Ram,
+    ) -> Result<(), TransferFault> {
+        for (path, backup) in self.backups.take_lost(rt)? {
+            let holders = self.holders(files)?;
+            let elsewhere = self.elsewhere(files, &holders, &backup)?;
+            if elsewhere.is_some() && !self.is_in_folder(rt, &backup)? {
+                self.restore(rt, backup)?;
+            }
+            if fs::symlink_metadata(rt, path.as_str()).is_ok() {
+                self.report_temporary(path)?;
+            }
+        }
         Ok(())
     }
 
@@ -43,9 +153,8 @@ impl Mirror {
         &mut self,
         rt: &R,
         files: &Ram,
-        moment: Moment,
     ) -> Result<(), TransferFault> {
-        if moment == Moment::Meanwhile || self.backups.deleted.is_empty() {
+        if self.backups.deleted.is_empty() {
             return Ok(());
         }
         let holders = self.holders(files)?;
@@ -64,6 +173,31 @@ impl Mirror {
         Ok(())
     }
 
+    // Where the Shell has the file of a backup: one of the same bytes, or where it was moved if that is not written.
+    pub(crate) fn elsewhere(
+        &self,
+        files: &Ram,
+        holders: &Holders<'_>,
+        backup: &Backup,
+    ) -> Result<Option<Elsewhere>, TransferFault> {
+        if let Some(holder) = holders.first_with(&backup.bytes) {
+            return Ok(Some(Elsewhere::Copy(self.copy_path(files, holder.place())?)));
+        }
+        self.unwritten_elsewhere(files, backup.moved.as_ref())
+    }
+
+    // A file of the folder has the bytes of a backup.
+    pub(crate) fn is_in_folder<R: AllocGlobal + Files>(
+        &self,
+        rt: &R,
+        backup: &Backup,
+    ) -> Result<bool, TransferFault> {
+        if holds(rt, backup.original.as_str(), &backup.bytes) {
+            return Ok(true);
+        }
+        self.is_in_another(rt, "", &backup.bytes)
+    }
+
     // Writes a backup. That it can't be written is reported, and it is tried again.
     fn restore<R: AllocGlobal + Files>(
         &mut self,
@@ -73,11 +207,8 @@ impl Mirror {
         let path = backup.original.as_str();
         let key = lower(self.alloc, path)?;
         let root = self.volumes.root_of(path);
-        match write_beside(rt, root, &backup.bytes, Manner::Mode(backup.mode)) {
-            Ok(beside) => {
-                self.reports.agree(key.as_str());
-                self.backups.add(beside.as_str(), backup)
-            }
+        match write_synced(rt, root, &backup.bytes, backup.mode) {
+            Ok(beside) => self.backups.add(beside.as_str(), backup),
             Err(error) => {
                 self.not_done(&error, "cannot write", key.as_str(), path)?;
                 self.backups.deleted.push(backup)?;

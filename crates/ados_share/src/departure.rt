@@ -3,7 +3,7 @@ ghost use Rattle.std.specs.Prelude.{◌≡◌, [], ◌||◌, IfOk, OnOk, string_
 ghost use Rattle.std.specs.BTreeMap.{IsEmpty};
 ghost use Rattle.std.specs.Str.{bytes_eq};
 ghost use Rattle.ados_text.specs.Text.{Bytes};
-ghost use Rattle.ados_transfer.specs.Paths.{IsBelow};
+ghost use Rattle.ados_transfer.specs.Paths.{IsBelow, path_in};
 ghost use Rattle.ados_share.specs.Records.{has_key};
 
 use crate::moves::Elsewhere;
@@ -14,6 +14,7 @@ use ados_transfer::{
 };
 use std::alloc::Global;
 use std::collections::BTreeMap;
+use std::io::ErrorKind;
 use std::os::unix::fs::PermissionsExt;
 use std::rt::Files;
 use std::{fs, io};
@@ -198,7 +199,8 @@ pub fn move_aside<R: AllocGlobal + Files>(
 /// The path of an object below the folder of its volume, and in no other. Folders on the way are made; one that is a link is refused.
 #[tactic(auto, using(crate::proofs::PathLemmas::below_step))]
 pub fn own_path<R: AllocGlobal + Files>(rt: &R, path: &str) -> io::Result<String>
-    ensures { IfOk result (λ path. IsBelow [] (string_bytes path)) }
+    ensures below { IfOk result (λ own. IsBelow [] (string_bytes own)) }
+    ensures named { IfOk result (λ own. string_bytes own ≡ path.now) }
 {
     let (folder, name) = way(rt, path)?;
     let whole = path_of(rt.alloc(), folder.as_str(), name)?;
@@ -213,7 +215,8 @@ fn is_still<R: Files>(rt: &R, path: &str, here: &Here) -> io::Result<bool> {
 // The folder of a path's last name, and that name. Folders on the way are made; one that is a link is refused.
 #[tactic(auto, using(crate::proofs::PathLemmas::below_itself, crate::proofs::PathLemmas::below_step))]
 fn way<'a, R: AllocGlobal + Files>(rt: &R, path: &'a str) -> io::Result<(String, &'a str)>
-    ensures { IfOk result (λ way. IsBelow [] (string_bytes way.0)) }
+    ensures below { IfOk result (λ way. IsBelow [] (string_bytes way.0)) }
+    ensures named { IfOk result (λ way. path_in (string_bytes way.0) way.1.now ≡ path.now) }
 {
     let mut folder = String::new(rt.alloc());
     let Some((above, name)) = path.rsplit_once('/') else {
@@ -221,6 +224,10 @@ fn way<'a, R: AllocGlobal + Files>(rt: &R, path: &'a str) -> io::Result<(String,
     };
     for step in above.split('/') {
         folder = enter(rt, folder.as_str(), step)?;
+    }
+    // The steps are all of it.
+    if path_of(rt.alloc(), folder.as_str(), name)?.as_str() != path {
+        return Err(io::Error::from(ErrorKind::InvalidInput));
     }
     Ok((folder, name))
 }

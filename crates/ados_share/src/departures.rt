@@ -29,7 +29,7 @@ impl Mirror {
         let rt = &Below::new(rt, &volumes);
         let mut account = Account::new(self.alloc, moment);
         let updated = self.update(rt, files, &mut account);
-        let finished = self.finish_backups(rt, files, moment);
+        let finished = self.finish_backups(rt, files, &mut account);
         self.report_temporaries(rt, &account)?;
         updated?;
         finished

@@ -16,8 +16,18 @@ use std::rt::Files;
 #[derive(Drop)]
 pub struct Waiting {
     alloc: Global,
-    // The path in the folder, and where the Shell has it, by key.
-    by_key: BTreeMap<String, (String, Elsewhere)>,
+    by_key: BTreeMap<String, Waiter>,
+}
+
+// An object that waits.
+#[derive(Drop)]
+struct Waiter {
+    // Its path in the folder.
+    path: String,
+    // Where the Shell has it.
+    elsewhere: Elsewhere,
+    // The mode of a file.
+    mode: Option<u32>,
 }
 
 impl Waiting {
@@ -34,6 +44,11 @@ impl Waiting {
         self.by_key.is_empty()
     }
 
+    /// The mode of a file that waits.
+    pub fn mode(&self, key: &str) -> Option<u32> {
+        self.by_key.get(key).and_then(|waiter| waiter.mode)
+    }
+
     // Something in a folder waits.
     fn is_in(&self, folder: &str) -> bool {
         self.by_key
@@ -43,10 +58,11 @@ impl Waiting {
 
     // The line that reports what waits.
     fn line(&self, volumes: &Volumes) -> Result<Option<String>, TransferFault> {
-        let Some((path, elsewhere)) = self.by_key.values().next() else {
+        let Some(first) = self.by_key.values().next() else {
             return Ok(None);
         };
-        let path = volumes.shown(path.as_str())?;
+        let path = volumes.shown(first.path.as_str())?;
+        let elsewhere = &first.elsewhere;
         let more = self.by_key.len().saturating_sub(1);
         if more == 0 {
             return Ok(Some(format!(in self.alloc; "not deleted, since {elsewhere}: {path}")?));
@@ -227,13 +243,17 @@ impl Mirror {
         &mut self,
         key: &str,
         departure: &Departure<'_>,
+        here: &Here,
     ) -> Result<(), TransferFault> {
         if let Some(elsewhere) = &departure.elsewhere {
-            let path = departure.path.clone()?;
-            self.waiting.by_key.insert(
-                String::from_str(self.alloc, key)?,
-                (path, elsewhere.copy()?),
-            )?;
+            let waiter = Waiter {
+                path: departure.path.clone()?,
+                elsewhere: elsewhere.copy()?,
+                mode: here.mode(),
+            };
+            self.waiting
+                .by_key
+                .insert(String::from_str(self.alloc, key)?, waiter)?;
         }
         Ok(())
     }

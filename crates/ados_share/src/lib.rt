@@ -23,6 +23,7 @@ mod removals;
 mod reports;
 mod second_look;
 mod start_place;
+mod syncs;
 mod temporaries;
 mod watches;
 mod writes;

@@ -24,7 +24,7 @@ impl Mirror {
         account: &mut Account,
     ) -> Result<(), TransferFault> {
         let path = departure.path.as_str();
-        let here = Here::look(rt, self.options.limits, path)?;
+        let here = self.look_here(rt, key, departure)?;
         let is_last_copy = self.is_last_copy(rt, key, departure)?
             && !self.is_backed_up(rt, (key, path), departure, &here, account)?;
         let Some(record) = self.records.get(key) else {
@@ -49,22 +49,27 @@ impl Mirror {
                 Ok(())
             }
             Removal::Delete => self.delete(rt, key, departure, &here, account),
-            Removal::Hold if account.is_meanwhile() => Ok(()),
-            Removal::Hold => {
-                // It comes in again: later its bytes may be nowhere else.
-                self.forget(key);
-                account.hold(path)
-            }
+            Removal::Hold => self.hold(key, path, account),
             Removal::Wait => {
                 add_unwritten_within_kind_change(departure, account)?;
-                self.wait(key, departure)
+                self.wait(key, departure, &here)
             }
             Removal::Conflict => {
                 add_unwritten_within_kind_change(departure, account)?;
-                self.not_touched(key, path, &here, "cannot delete", is_large)
+                self.not_touched(rt, (key, path), &here, "cannot delete", is_large)
             }
             Removal::Leave => Ok(()),
         }
+    }
+
+    // Something that the script has is not written, so that an object is not deleted. It comes in again, unless the script goes on: later
+    // its bytes may be nowhere else.
+    fn hold(&mut self, key: &str, path: &str, account: &mut Account) -> Result<(), TransferFault> {
+        if account.is_meanwhile() {
+            return Ok(());
+        }
+        self.forget(key);
+        account.hold(path)
     }
 
     // A file that is in the way of an object of another kind has a backup from now on, so that it may go. There is none if the file changed,
@@ -107,6 +112,9 @@ impl Mirror {
         let path = departure.path.as_str();
         if self.options.dry {
             return self.reports.report_once("would delete", path);
+        }
+        if !departure.is_within_kind_change && !self.is_synced_before(rt, here, account)? {
+            return self.hold(key, path, account);
         }
         let is_done = if departure.is_within_kind_change {
             self.set_aside(rt, key, path, here, account)
@@ -189,8 +197,10 @@ impl Mirror {
         account: &mut Account,
         is_written: bool,
     ) -> Result<(), TransferFault> {
+        let is_safe = is_written
+            && (account.aside.is_empty() || matches!(self.is_synced(rt, account), Ok(true)));
         for one in account.take_aside().into_iter().rev() {
-            if account.has_unwritten() || !is_written {
+            if account.has_unwritten() || !is_safe {
                 self.put_back(rt, one, account)?;
             } else if let Some(beside) = &one.beside {
                 let _ = fs::remove_file(rt, beside.as_str());

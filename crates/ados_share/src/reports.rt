@@ -1,9 +1,10 @@
 //! What a share reports on standard error: each line about an object once in a run, or once until it is settled.
 
 use ados_ram::Limits;
-use ados_transfer::{TransferFault, Volumes};
+use ados_transfer::{TransferFault, Volumes, with_reason};
 use std::alloc::Global;
 use std::collections::BTreeSet;
+use std::io::ErrorKind;
 
 /// The lines to report, and what was reported before.
 #[derive(Drop)]
@@ -157,6 +158,23 @@ impl Reports {
     pub fn fail(&mut self, key: &str, text: &str, path: &str) -> Result<(), TransferFault> {
         if self.failing.insert(String::from_str(self.alloc, key)?)? {
             self.report(text, path)?;
+        }
+        Ok(())
+    }
+
+    /// The same, with the reason for an error of this kind.
+    pub fn fail_for(
+        &mut self,
+        key: &str,
+        text: &str,
+        path: &str,
+        kind: ErrorKind,
+    ) -> Result<(), TransferFault> {
+        if self.failing.insert(String::from_str(self.alloc, key)?)? {
+            let path = self.volumes.shown(path)?;
+            let reason = with_reason(self.alloc, path.as_str(), kind)?;
+            self.lines
+                .push(format!(in self.alloc; "{text}: {reason}")?)?;
         }
         Ok(())
     }

@@ -7,10 +7,12 @@ use crate::account::Account;
 use crate::backups::needs_backup;
 use crate::departure::{Departure, Departures, write_entry};
 use crate::mirror::Mirror;
+use crate::syncs::sync_copies;
 use ados_ram::{Entry, Ram};
 use ados_text::NoMemory;
 use ados_transfer::{
-    Decision, Draft, Here, Last, Record, Stamp, TransferFault, is_part_of, no_memory,
+    Decision, Draft, Here, Last, Record, Stamp, TransferFault, check_readable, is_beginning_of,
+    no_memory,
 };
 use std::os::unix::fs::PermissionsExt;
 use std::rt::Files;
@@ -38,24 +40,22 @@ impl Mirror {
         if departure.is_within_kind_change && self.options.dry {
             return self.reports.report_once("would write", path);
         }
-        let here = Here::look(rt, self.options.limits, path)?;
+        let here = self.look_here(rt, key, departure)?;
         let record = self.records.get(key);
         let is_large = record.is_some_and(Record::is_stand_in);
         match here.decision(record, Some(entry)) {
-            Decision::Keep => match here.stamp() {
-                Some(stamp) => self.keep_written(rt, (key, path), entry, stamp),
-                None => Ok(()),
-            },
+            Decision::Keep => self.keep_same(rt, (key, path), entry, &here),
             Decision::Bring => Ok(()),
             Decision::Conflict => {
                 account.add_unwritten_entry(path, entry)?;
-                self.not_touched(key, path, &here, "cannot write", is_large)
+                self.not_touched(rt, (key, path), &here, "cannot write", is_large)
             }
             Decision::Write if self.options.dry => self.reports.report_once("would write", path),
             Decision::Write => {
                 let mode = self.mode_of(rt, files, entry, account)?;
                 let is_last = self.is_lost_below(rt, files, key, departure)?;
                 let draft = Draft::new(entry, &here, mode, is_last);
+                self.note_written_over(key, departure, &draft)?;
                 self.write(rt, (key, path), &draft, account)
             }
         }
@@ -79,8 +79,11 @@ impl Mirror {
             self.forget(key);
             return account.hold(path);
         }
-        match self.replace(rt, object, draft) {
-            Ok(Some(stamp)) => self.keep_written(rt, object, draft.entry, stamp),
+        match self.replace(rt, object, draft, account) {
+            Ok(Some(stamp)) => {
+                account.add_fresh(path, draft.entry)?;
+                self.keep_written(rt, object, draft.entry, stamp)
+            }
             Ok(None) => {
                 account.add_unwritten_entry(path, draft.entry)?;
                 self.reports.report_kept(key, path, false)
@@ -92,18 +95,23 @@ impl Mirror {
         }
     }
 
-    // Writes an object to this machine, after a backup of what it takes the place of, if that needs one.
+    // Writes an object to this machine, after a backup of what it takes the place of, if that needs one. What this update wrote with the
+    // bytes of that is on the disk before.
     fn replace<R: AllocGlobal + Files>(
         &mut self,
         rt: &R,
         object: (&str, &str),
         draft: &Draft<'_>,
+        account: &Account,
     ) -> io::Result<Option<Stamp>> {
         let Ok(needs_backup) = needs_backup(rt.alloc(), draft) else {
             return Err(no_memory());
         };
         if needs_backup {
             self.back_up(rt, object, draft.here)?;
+        }
+        if let Here::File { bytes, .. } = draft.here {
+            sync_copies(rt, account, bytes)?;
         }
         write_entry(rt, object.1, draft)
     }
@@ -179,23 +187,26 @@ impl Mirror {
         }
     }
 
-    // Reports that this machine's object stays, or with this text that it can't be looked at.
-    pub(crate) fn not_touched(
+    // Reports that this machine's object stays, or with this text that it can't be looked at, and why, as that is found now.
+    pub(crate) fn not_touched<R: AllocGlobal + Files>(
         &mut self,
-        key: &str,
-        path: &str,
+        rt: &R,
+        object: (&str, &str),
         here: &Here,
         text: &str,
         is_large: bool,
     ) -> Result<(), TransferFault> {
-        if here.is_unread() {
-            self.reports.fail(key, text, path)
-        } else {
-            self.reports.report_kept(key, path, is_large)
+        let (key, path) = object;
+        if !here.is_unread() {
+            return self.reports.report_kept(key, path, is_large);
+        }
+        match check_readable(rt, path) {
+            Ok(()) => self.reports.fail(key, text, path),
+            Err(error) => self.not_done(&error, text, key, path),
         }
     }
 
-    // Reports that something could not be done.
+    // Reports that something could not be done, and why.
     pub(crate) fn not_done(
         &mut self,
         error: &io::Error,
@@ -206,7 +217,21 @@ impl Mirror {
         if error.kind() == io::ErrorKind::OutOfMemory {
             return Err(TransferFault::NoMemory);
         }
-        self.reports.fail(key, text, path)
+        self.reports.fail_for(key, text, path, error.kind())
+    }
+
+    // Keeps an object as it is on both sides already.
+    fn keep_same<R: Clock>(
+        &mut self,
+        rt: &R,
+        object: (&str, &str),
+        entry: &Entry,
+        here: &Here,
+    ) -> Result<(), TransferFault> {
+        match here.stamp() {
+            Some(stamp) => self.keep_written(rt, object, entry, stamp),
+            None => Ok(()),
+        }
     }
 
     // Keeps an object as it is on both sides.
@@ -229,14 +254,14 @@ fn is_private<R: Files>(rt: &R, path: &str) -> bool {
         && found.permissions().mode() & 0o077 == 0)
 }
 
-// What a file of this machine holds is in a file of the Shell that is not written, and not in the one that takes its place.
+// What a file of this machine holds is in a file of the Shell that is not written, and the one that takes its place does not begin with it.
 fn is_moved_away(draft: &Draft<'_>, account: &Account) -> Result<bool, NoMemory>
     ensures { IfOk result (λ is. is ≡ is_moved_away draft.now.here.now (bytes_of draft.now.entry.now) account.now.bytes.items) }
 {
     let Here::File { bytes, .. } = draft.here else {
         return Ok(false);
     };
-    if is_part_of(account.alloc, bytes, draft.entry)? {
+    if is_beginning_of(account.alloc, bytes, draft.entry)? {
         return Ok(false);
     }
     account.is_in_unwritten(bytes)

@@ -1,5 +1,6 @@
 -- Bytes within others, from one place to the next.
 use Rattle.std.proofs.Common.{ℕ, zero, suc, ◌≡◌, ◌<◌, ◌+◌, ◌-◌, ◌==◌, ◌||◌, ◌&&◌, ◌∙◌, Bool, true, false, refl, [], ◌∷◌, length, take, drop, length-drop, ap, sym, add-one, arith}
+use Rattle.std.proofs.lemmas.Bool.Decides.{nat_tests}
 use Rattle.std.proofs.lemmas.List.{take_all}
 use Rattle.std.specs.List.{starts_with}
 use Rattle.ados_text.specs.Text.{Bytes}
@@ -23,12 +24,19 @@ and-false : (b : Bool) → (b && false) ≡ false
 and-false true = refl
 and-false false = refl
 
-no-start : (bytes all : Bytes) → length all < length bytes → starts_with ◌==◌ all bytes ≡ false
-no-start [] all fewer = absurd (omega (arith, fewer))
-no-start (y ∷ ys) [] fewer = refl
-no-start (y ∷ ys) (x ∷ xs) fewer = ap (λ b. (y == x) && b) (no-start ys xs (omega (arith, fewer))) ∙ and-false (y == x)
+pub no_start : (bytes all : Bytes) → length all < length bytes → starts_with ◌==◌ all bytes ≡ false
+no_start [] all fewer = absurd (omega (arith, fewer))
+no_start (y ∷ ys) [] fewer = refl
+no_start (y ∷ ys) (x ∷ xs) fewer = ap (λ b. (y == x) && b) (no_start ys xs (omega (arith, fewer))) ∙ and-false (y == x)
+
+-- with no bytes only no bytes begin
+pub none_begin : (bytes : Bytes) → starts_with ◌==◌ [] bytes ≡ (length bytes == 0)
+none_begin [] = refl
+none_begin (y ∷ ys) =
+    let some : (length (y ∷ ys) == 0) ≡ false = grind (arith, nat_tests) in
+    sym some
 
 -- bytes are not within fewer ones
 pub longer_is_no_part : (bytes all : Bytes) → length all < length bytes → is_substring bytes all ≡ false
 longer_is_no_part bytes [] fewer = refl
-longer_is_no_part bytes (x ∷ xs) fewer = rw (no-start bytes (x ∷ xs) fewer) (longer_is_no_part bytes xs (omega (arith, fewer)))
+longer_is_no_part bytes (x ∷ xs) fewer = rw (no_start bytes (x ∷ xs) fewer) (longer_is_no_part bytes xs (omega (arith, fewer)))

@@ -1,4 +1,4 @@
--- Bytes that occur in others.
+-- Bytes that occur in others, or with which others begin.
 use Rattle.std.specs.Prelude.{[], ◌∷◌, Bool, false, ◌||◌, ◌==◌}
 use Rattle.std.specs.List.{starts_with}
 use Rattle.ados_text.specs.Text.{Bytes}
@@ -7,3 +7,7 @@ use Rattle.ados_text.specs.Text.{Bytes}
 abbrev pub is_substring : Bytes → Bytes → Bool
 is_substring bytes [] = false
 is_substring bytes (c ∷ cs) = starts_with ◌==◌ (c ∷ cs) bytes || is_substring bytes cs
+
+-- the second bytes begin with the first ones: they are those, or more was appended
+abbrev pub is_beginning : Bytes → Bytes → Bool
+is_beginning bytes all = starts_with ◌==◌ all bytes

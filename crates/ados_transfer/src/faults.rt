@@ -33,7 +33,7 @@ pub enum TransferFault {
     /// The line that is typed for this would have more bytes than one may have.
     #[error("more than 512 bytes in the line for {0}")]
     LongLine(String),
-    /// The object of this name cannot be taken.
+    /// What these words name cannot be taken, with the reason if there is one.
     #[error("cannot take {0}")]
     CannotTake(String),
     /// What is to be taken is the stand-in of a file that is too large for the Shell, or such a stand-in is in it.

@@ -8,10 +8,10 @@ use crate::faults::TransferFault;
 use crate::records::{Record, state_there};
 use crate::stamps::Stamp;
 use ados_ram::{Entry, FileBytes, Limits};
-use std::fs;
 use std::io::ErrorKind;
 use std::os::unix::fs::PermissionsExt;
 use std::rt::Files;
+use std::{fs, io};
 
 /// What this machine has, with the bytes of a file that the Shell can hold.
 #[derive(Drop)]
@@ -117,6 +117,15 @@ impl Here {
         }
     }
 
+    /// The mode of a file that the Shell can hold.
+    pub fn mode(&self) -> Option<u32> {
+        match self {
+            Here::File { mode, .. } => Some(*mode),
+            Here::Absent | Here::Directory(_) | Here::Large(_) | Here::Foreign | Here::Unread =>
+                None,
+        }
+    }
+
     /// It can't be read or looked at: what it is is not known.
     pub fn is_unread(&self) -> bool {
         matches!(self, Here::Unread)
@@ -143,6 +152,14 @@ impl Here {
             Here::Directory(stamp) | Here::Large(stamp) | Here::File { stamp, .. } => Some(*stamp),
         }
     }
+}
+
+/// Looks at what is at a path, and opens a file: the error says why that can't be done.
+pub fn check_readable<R: AllocGlobal + Files>(rt: &R, path: &str) -> io::Result<()> {
+    if fs::symlink_metadata(rt, path)?.is_file() {
+        drop(fs::open(rt, path)?);
+    }
+    Ok(())
 }
 
 /// Nothing is there, also since what would be above it is a file.

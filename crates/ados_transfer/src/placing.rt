@@ -6,7 +6,7 @@
 use crate::bringing::bytes_of;
 use crate::here::Here;
 use crate::paths::{folder_of, last_piece};
-use crate::writing::{Manner, link_beside, open_beside, write_beside};
+use crate::writing::{Manner, link_beside, open_beside, place_new, write_beside};
 use ados_ram::{Entry, FileBytes};
 use std::fs::Metadata;
 use std::io::{Error, ErrorKind};
@@ -77,27 +77,6 @@ fn manner(draft: &Draft<'_>) -> io::Result<Manner> {
         (_, Some(mode)) => Ok(Manner::Mode(mode)),
         _ if draft.entry.bits.script => Ok(Manner::Executable),
         _ => Ok(Manner::Plain),
-    }
-}
-
-/// Gives a file a name that nothing has; `false` if something has it.
-pub fn place_new<R: AllocGlobal + Files>(rt: &R, beside: &str, target: &str) -> io::Result<bool> {
-    match fs::hard_link(rt, beside, target) {
-        Ok(()) => {
-            fs::remove_file(rt, beside)?;
-            return Ok(true);
-        }
-        Err(error) if error.kind() == ErrorKind::AlreadyExists => return Ok(false),
-        // Not every file system has second names.
-        Err(_) => {}
-    }
-    match fs::symlink_metadata(rt, target) {
-        Ok(_) => Ok(false),
-        Err(error) if error.kind() == ErrorKind::NotFound => {
-            fs::rename(rt, beside, target)?;
-            Ok(true)
-        }
-        Err(error) => Err(error),
     }
 }
 

@@ -2,6 +2,7 @@
 
 use crate::faults::{TransferFault, named};
 use crate::paths::{ascii, last_piece};
+use crate::reasons::with_reason;
 use crate::stand_ins::own_entry;
 use crate::writing::{enter, no_memory, spelled, write_whole};
 use ados_assign::Assigns;
@@ -26,10 +27,10 @@ pub fn take<R: AllocGlobal + Files>(
 ) -> Result<(), TransferFault> {
     let (name, path) = parted(rt.alloc(), files, assigns, words)?;
     let Some(place) = place_of(rt.alloc(), files, assigns, name)? else {
-        return Err(not_taken(rt.alloc(), words));
+        return Err(not_taken(rt.alloc(), words, ErrorKind::NotFound));
     };
     let Some(entry) = files.look(&place) else {
-        return Err(not_taken(rt.alloc(), words));
+        return Err(not_taken(rt.alloc(), words, ErrorKind::NotFound));
     };
     let own = own_name(rt.alloc(), entry)?;
     let taken = if entry.is_directory() {
@@ -43,7 +44,7 @@ pub fn take<R: AllocGlobal + Files>(
         Err(error) if error.kind() == ErrorKind::InvalidData => {
             Err(named(rt.alloc(), words, TransferFault::StandIn))
         }
-        Err(_) => Err(not_taken(rt.alloc(), words)),
+        Err(error) => Err(not_taken(rt.alloc(), words, error.kind())),
     }
 }
 
@@ -58,8 +59,12 @@ pub fn taken_place(
     place_of(alloc, files, assigns, name)
 }
 
-fn not_taken(alloc: Global, words: &str) -> TransferFault {
-    named(alloc, words, TransferFault::CannotTake)
+// The fault of words that cannot be taken, with the reason.
+fn not_taken(alloc: Global, words: &str, kind: ErrorKind) -> TransferFault {
+    match with_reason(alloc, words, kind) {
+        Ok(words) => TransferFault::CannotTake(words),
+        Err(fault) => fault,
+    }
 }
 
 // The name and the path of `NAME=PATH`. A name that exists is taken as a whole.

@@ -1,7 +1,7 @@
-//! Bytes that occur in others.
+//! Bytes that occur in others, or with which others begin.
 ghost use Rattle.std.specs.Prelude.{◌≡◌, IfOk};
 ghost use Rattle.ados_ram.specs.Entry.{bytes_of};
-ghost use Rattle.ados_transfer.specs.Within.{is_substring};
+ghost use Rattle.ados_transfer.specs.Within.{is_beginning, is_substring};
 
 use ados_ram::{Entry, FileBytes};
 use ados_text::NoMemory;
@@ -18,13 +18,15 @@ pub fn is_part(alloc: Global, bytes: &FileBytes, all: &FileBytes) -> Result<bool
     Ok(is_substring(&bytes.to_vec(alloc)?, &all.to_vec(alloc)?))
 }
 
-/// The bytes of an entry have others in them.
-pub fn is_part_of(alloc: Global, bytes: &FileBytes, entry: &Entry) -> Result<bool, NoMemory>
-    ensures { IfOk result (λ is. is ≡ is_substring bytes.now (bytes_of entry.now)) }
+/// The bytes of an entry begin with others: they are those, or more was appended.
+#[tactic(auto, using(crate::proofs::WithinLemmas::no_start, crate::proofs::WithinLemmas::none_begin))]
+pub fn is_beginning_of(alloc: Global, bytes: &FileBytes, entry: &Entry) -> Result<bool, NoMemory>
+    ensures { IfOk result (λ is. is ≡ is_beginning bytes.now (bytes_of entry.now)) }
 {
     match entry.bytes() {
-        None => Ok(false),
-        Some(all) => is_part(alloc, bytes, all),
+        None => Ok(bytes.len() == 0),
+        Some(all) if all.len() < bytes.len() => Ok(false),
+        Some(all) => Ok(all.starts_with(&bytes.to_vec(alloc)?)),
     }
 }
 

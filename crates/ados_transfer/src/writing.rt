@@ -4,6 +4,7 @@ ghost use Rattle.std.specs.Prelude.{◌≡◌, true, IfOk, OnOk, string_bytes};
 ghost use Rattle.ados_transfer.specs.Paths.{is_file_name, path_in};
 
 use crate::paths::{is_file_name, step_into};
+use crate::stamps::Stamp;
 use ados_ram::FileBytes;
 use ados_text::Name;
 use std::alloc::Global;
@@ -106,7 +107,8 @@ pub fn no_memory() -> io::Error {
 }
 
 /// Writes a file with this name in a folder: a temporary file beside it, which then takes the name. A file that is there keeps its
-/// permissions; one that may not be written is refused, and so are a link, a device, and a name that leads elsewhere.
+/// permissions; one that may not be written is refused, and so are a link, a device, and a name that leads elsewhere. What came to be
+/// there since the look at it is not replaced: `AlreadyExists`.
 pub fn write_whole<R: AllocGlobal + Files>(
     rt: &R,
     folder: &str,
@@ -114,18 +116,60 @@ pub fn write_whole<R: AllocGlobal + Files>(
     bytes: &FileBytes,
 ) -> io::Result<()> {
     let target = path_of(rt.alloc(), folder, name)?;
-    let manner = match fs::symlink_metadata(rt, target.as_str()) {
-        Ok(found) if found.is_file() => Manner::over(found.permissions().mode())?,
+    let seen = match fs::symlink_metadata(rt, target.as_str()) {
+        Ok(found) if found.is_file() => Some(found),
+        Ok(found) if found.is_dir() => return Err(io::Error::from(ErrorKind::IsADirectory)),
         Ok(_) => return Err(io::Error::from(ErrorKind::InvalidInput)),
-        Err(error) if error.kind() == ErrorKind::NotFound => Manner::Plain,
+        Err(error) if error.kind() == ErrorKind::NotFound => None,
         Err(error) => return Err(error),
     };
+    let manner = match &seen {
+        Some(seen) => Manner::over(seen.permissions().mode())?,
+        None => Manner::Plain,
+    };
     let beside = write_beside(rt, folder, bytes, manner)?;
-    let moved = fs::rename(rt, beside.as_str(), target.as_str());
-    if moved.is_err() {
+    let placed = match &seen {
+        Some(seen) => place_again(rt, beside.as_str(), target.as_str(), &Stamp::of(seen)),
+        None => place_new(rt, beside.as_str(), target.as_str()),
+    };
+    if !matches!(placed, Ok(true)) {
         let _ = fs::remove_file(rt, beside.as_str());
     }
-    moved
+    if placed? {
+        Ok(())
+    } else {
+        Err(io::Error::from(ErrorKind::AlreadyExists))
+    }
+}
+
+/// Gives a file a name that nothing has; `false` if something has it.
+pub fn place_new<R: AllocGlobal + Files>(rt: &R, beside: &str, target: &str) -> io::Result<bool> {
+    match fs::hard_link(rt, beside, target) {
+        Ok(()) => {
+            fs::remove_file(rt, beside)?;
+            return Ok(true);
+        }
+        Err(error) if error.kind() == ErrorKind::AlreadyExists => return Ok(false),
+        // Not every file system has second names.
+        Err(_) => {}
+    }
+    match fs::symlink_metadata(rt, target) {
+        Ok(_) => Ok(false),
+        Err(error) if error.kind() == ErrorKind::NotFound => {
+            fs::rename(rt, beside, target)?;
+            Ok(true)
+        }
+        Err(error) => Err(error),
+    }
+}
+
+// Gives a file the name of one that was looked at; `false` if that has changed since.
+fn place_again<R: Files>(rt: &R, beside: &str, target: &str, seen: &Stamp) -> io::Result<bool> {
+    if !Stamp::of(&fs::symlink_metadata(rt, target)?).is_same(seen) {
+        return Ok(false);
+    }
+    fs::rename(rt, beside, target)?;
+    Ok(true)
 }
 
 /// Writes a temporary file in a folder, with these permissions, and gives its path.
