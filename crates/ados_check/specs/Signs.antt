@@ -7,7 +7,7 @@ use Rattle.ados_items.specs.Items.{is_blank}
 use Rattle.ados_line.specs.Comment.{without_comment}
 use Rattle.ados_check.specs.declared.findings.Finding.{Finding}
 use Rattle.ados_check.specs.declared.findings.Problem.{Problem}
-use Rattle.ados_check.specs.declared.findings.Problem.TheVariants.{NotAscii, PrintedByte}
+use Rattle.ados_check.specs.declared.findings.Problem.TheVariants.{ByteOrderMark, NotAscii, PrintedByte}
 
 -- after the dot comes a blank or `\`: a directive that says nothing
 abbrev pub is_remark : Bytes → Bool
@@ -41,6 +41,7 @@ signs_at bytes (suc k) = listed (sign_of (is_dotted bytes) (file_line bytes k))
 abbrev pub told_sign : Problem → Option ℕ
 told_sign (NotAscii byte) = Some byte
 told_sign (PrintedByte byte) = Some byte
+told_sign ByteOrderMark = Some 239
 told_sign problem = None
 
 -- it is a problem of the line of this number

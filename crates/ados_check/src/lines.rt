@@ -1,7 +1,9 @@
 //! The check of a script's lines, all problems in their order.
-ghost use Rattle.std.specs.Prelude.{◌≡◌, ◌++◌, [], ◌∷◌, ℕ, None, IfOk, OnOk, get_or, map};
+ghost use Rattle.std.specs.Prelude.{◌≡◌, ◌++◌, [], ◌∷◌, ℕ, List, None, IfOk, OnOk, get_or, map};
 ghost use Rattle.std.specs.List.{slice_split};
 ghost use Rattle.ados_text.specs.Lines.{is_newline};
+ghost use Rattle.ados_text.specs.Text.{Text};
+ghost use Rattle.ados_check.specs.Errors.{AreSo, SaysSo};
 ghost use Rattle.ados_check.specs.Signs.{SaysTheSame, signs_at, signs_told, told_sign};
 
 use crate::findings::{Finding, Problem};
@@ -26,6 +28,8 @@ pub fn check(
 ) -> Result<Vec<Finding>, NoMemory>
     // In each line of the file the first byte above 127 where it matters is found, and no other is said to be there.
     ensures signs { IfOk result (λ found. (number : ℕ) → signs_told number found.items ≡ signs_at bytes.now number) }
+    // And options are found that are left out: no error of another kind.
+    ensures so { IfOk result (λ found. (world : Dialect) (script : List Text) → AreSo world script found.items) }
 {
     let mut found = signs_found(alloc, dialect, aliases, lines, bytes)?;
     for (place, line) in lines.iter().enumerate() {
@@ -37,7 +41,8 @@ pub fn check(
 
 /// Puts findings in the order of their lines; those of a line keep theirs.
 pub fn sort(found: &mut Vec<Finding>) -> Result<(), NoMemory>
-    ensures { OnOk result (SaysTheSame found.old.items found.new.items) }
+    ensures same { OnOk result (SaysTheSame found.old.items found.new.items) }
+    ensures so { OnOk result ((dialect : Dialect) (lines : List Text) → AreSo dialect lines found.old.items → AreSo dialect lines found.new.items) }
 {
     found.sort_by(|a, b| a.line.cmp(&b.line))?;
     Ok(())
@@ -52,7 +57,8 @@ fn signs_found(
     lines: &[Text],
     bytes: &[u8],
 ) -> Result<Vec<Finding>, NoMemory>
-    ensures { IfOk result (λ found. (number : ℕ) → signs_told number found.items ≡ signs_at bytes.now number) }
+    ensures signs { IfOk result (λ found. (number : ℕ) → signs_told number found.items ≡ signs_at bytes.now number) }
+    ensures so { IfOk result (λ found. (world : Dialect) (script : List Text) → AreSo world script found.items) }
 {
     if bytes.is_ascii() {
         return Ok(Vec::new(alloc));
@@ -67,7 +73,7 @@ fn signs_found(
         match sign_in(is_dotted, line) {
             None => {}
             Some(byte) => {
-                let problem = sign_problem(is_told_only, line, byte);
+                let problem = sign_problem(place, is_told_only, line, byte);
                 push_problem(&mut found, place + 1, problem)?;
             }
         }
@@ -104,7 +110,9 @@ fn push_problem(found: &mut Vec<Finding>, line: usize, problem: Problem) -> Resu
 #[tactic(auto, using(crate::proofs::SignLemmas::told_other))]
 pub fn push_other(found: &mut Vec<Finding>, line: usize, problem: Problem) -> Result<(), NoMemory>
     requires { told_sign problem ≡ None }
-    ensures { OnOk result (SaysTheSame found.old.items found.new.items) }
+    ensures same { OnOk result (SaysTheSame found.old.items found.new.items) }
+    ensures so { OnOk result ((dialect : Dialect) (lines : List Text) → AreSo dialect lines found.old.items → SaysSo dialect lines line problem
+        → AreSo dialect lines found.new.items) }
 {
     push_problem(found, line, problem)
 }
@@ -117,7 +125,8 @@ fn push_options(
     text: &Text,
     found: &mut Vec<Finding>,
 ) -> Result<(), NoMemory>
-    ensures { OnOk result (SaysTheSame found.old.items found.new.items) }
+    ensures same { OnOk result (SaysTheSame found.old.items found.new.items) }
+    ensures so { OnOk result ((world : Dialect) (script : List Text) → AreSo world script found.old.items → AreSo world script found.new.items) }
 {
     let alloc = *found.allocator();
     for left_out in options_left_out(alloc, dialect, aliases, 0, text.as_bytes())? {
