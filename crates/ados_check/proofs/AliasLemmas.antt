@@ -38,7 +38,7 @@ set-past false p ps name value word same rest =
 
 -- one more name
 pub set_value : (pairs : Pairs) (name value word : Text) → is_some (value_in (set_pair pairs name value) word) ≡ (is_some (value_in pairs word) || is_same word name)
-unfolding set_pair, value_in
+unfolding set_pair value_in
 set_value [] name value word = first-held (is_same word name) value
 set_value (p ∷ ps) name value word = set-past (is_same name p.0) p ps name value word refl (set_value ps name value word)
 

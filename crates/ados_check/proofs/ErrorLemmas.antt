@@ -87,7 +87,7 @@ pub all_so : (dialect : Dialect) (bytes : Bytes) (found : List Finding) → ((nu
 all_so dialect bytes found signs are k d inside = (
   are k d inside,
   if-some (told_sign (slice_index_or found k d).problem) (λ byte. signs_at bytes (slice_index_or found k d).line ≡ byte ∷ [])
-  (λ byte told.
+      (λ byte told.
       let line = (slice_index_or found k d).line in
       only-at bytes line byte (subst (Has byte) (signs line) (told-at found k d byte inside told))),
 )

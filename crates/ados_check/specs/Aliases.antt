@@ -1,5 +1,5 @@
 -- The words that lines of a script make aliases of.
-use Rattle.std.specs.Prelude.{ℕ, List, [], ◌∷◌, ◌==◌, ◌||◌, Bool, true, false, not, Option, Some, None, is_some, take, codes, if◌then◌else◌}
+use Rattle.std.specs.Prelude.{ℕ, ◌≡◌, List, [], ◌∷◌, ◌==◌, ◌||◌, Bool, true, false, not, Option, Some, None, is_some, take, codes, if◌then◌else◌}
 use Rattle.std.specs.List.{list_any, prefix_len}
 use Rattle.ados_text.specs.Text.{Bytes, Text, is_same}
 use Rattle.ados_items.specs.Parts.{first_word, rest_of, trimmed_text}
@@ -38,3 +38,15 @@ may_be_alias lines word = list_any (makes_alias word) lines
 -- the word is among those that were sought out
 abbrev pub has_made : MadeAliases → Text → Bool
 has_made made word = made.is_any || is_some (value_in made.names word)
+
+-- it has those that it had, and that of one more line
+abbrev pub HasLine : MadeAliases → MadeAliases → Text → Type 0
+HasLine old new line = (word : Text) → has_made new word ≡ (has_made old word || makes_alias word line)
+
+-- those that it had, and those of lines
+abbrev pub HasLines : MadeAliases → MadeAliases → List Text → Type 0
+HasLines old new lines = (word : Text) → has_made new word ≡ (has_made old word || may_be_alias lines word)
+
+-- those of these lines
+abbrev pub HasAll : MadeAliases → List Text → List Text → Type 0
+HasAll made typed lines = (word : Text) → has_made made word ≡ (may_be_alias typed word || may_be_alias lines word)

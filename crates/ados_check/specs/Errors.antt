@@ -94,6 +94,25 @@ IsSound dialect lines number what = (told_sign what ≡ None) × SaysSo dialect 
 abbrev pub AreSo : Dialect → List Text → List Finding → Type 0
 AreSo dialect lines found = All (λ one. SaysSo dialect lines one.line one.problem) found
 
+-- so it is whatever the world and the script are
+abbrev pub IsAlwaysSound : ℕ → Problem → Type 0
+IsAlwaysSound number what = (dialect : Dialect) (lines : List Text) → IsSound dialect lines number what
+
+abbrev pub AreAlwaysSo : List Finding → Type 0
+AreAlwaysSo found = (dialect : Dialect) (lines : List Text) → AreSo dialect lines found
+
+-- findings that were so still are
+abbrev pub StaySo : List Finding → List Finding → Type 0
+StaySo old new = (dialect : Dialect) (lines : List Text) → AreSo dialect lines old → AreSo dialect lines new
+
+-- they are, with one more that is
+abbrev pub AreSoWith : ℕ → Problem → List Finding → List Finding → Type 0
+AreSoWith number what old new = (dialect : Dialect) (lines : List Text) → AreSo dialect lines old → SaysSo dialect lines number what → AreSo dialect lines new
+
+abbrev pub AreSoWithFound : ℕ → Option Problem → List Finding → List Finding → Type 0
+AreSoWithFound number found old new =
+    (dialect : Dialect) (lines : List Text) → AreSo dialect lines old → IfSome found (SaysSo dialect lines number) → AreSo dialect lines new
+
 -- what a finding in a file of these bytes says is so: a byte above 127 of which it speaks is the one that is to be found there
 abbrev pub IsSo : Dialect → Bytes → Finding → Type 0
 IsSo dialect bytes one = SaysSo dialect (lines_of bytes) one.line one.problem × IfSome (told_sign one.problem) (λ byte. signs_at bytes one.line ≡ byte ∷ [])

@@ -72,7 +72,11 @@ fn after<'a>(word: &'a [u8], start: &[u8]) -> Option<&'a [u8]>
         return None;
     }
     let (first, rest) = word.split_at(start.len());
-    if same_name(first, start) { Some(rest) } else { None }
+    if same_name(first, start) {
+        Some(rest)
+    } else {
+        None
+    }
 }
 
 /// The template of a command in a dialect.

@@ -1,9 +1,9 @@
 //! The look at a script that is not to run: all that is wrong with it, as far as that does not depend on variables, on arguments
 //! or on what commands print.
-ghost use Rattle.std.specs.Prelude.{◌≡◌, ℕ, List, IfOk, OnOk};
+ghost use Rattle.std.specs.Prelude.{◌≡◌, ℕ, IfOk, OnOk};
 ghost use Rattle.std.specs.List.{All};
-ghost use Rattle.ados_text.specs.Text.{Text};
-ghost use Rattle.ados_check.specs.Errors.{AreSo, IsSo};
+ghost use Rattle.ados_check.specs.Directives.{IfBad, IfLines, IsNeverCalled, IsSample};
+ghost use Rattle.ados_check.specs.Errors.{AreSo, IsSo, StaySo};
 ghost use Rattle.ados_check.specs.Signs.{SaysTheSame, signs_at, signs_told};
 
 use crate::directives::{Sample, is_directive, sample_of};
@@ -35,27 +35,47 @@ pub fn inspect(
     let written = lines_of(alloc, bytes)?;
     let lines = written.as_slice();
     let mut found = check(alloc, dialect, &Aliases::new(alloc), lines, bytes)?;
-    if !is_dotted(bytes) {
-        push_idle_directives(lines, &mut found)?;
-    }
-    match sample_of(alloc, lines, bytes)? {
-        Sample::Unknown => {}
-        Sample::Bad(line) => push_other(&mut found, line, Problem::BadDirective)?,
-        Sample::Lines(sample) => {
-            Look::of(alloc, dialect, typed, lines, sample)?.push_problems(&mut found)?;
-        }
-    }
+    push_idle_directives(lines, is_dotted(bytes), &mut found)?;
+    let sample = sample_of(alloc, lines, bytes)?;
+    push_problems(dialect, typed, lines, sample, &mut found)?;
     sort(&mut found)?;
     Ok(found)
 }
 
-// Adds each directive of a script that has none.
-fn push_idle_directives(written: &[Text], found: &mut Vec<Finding>) -> Result<(), NoMemory>
+// Adds the bad directive of a script, or what is wrong with its lines, as they are written and with some arguments.
+fn push_problems(
+    dialect: Dialect,
+    typed: &[Text],
+    written: &[Text],
+    sample: Sample,
+    found: &mut Vec<Finding>,
+) -> Result<(), NoMemory>
+    requires bad { IfBad sample (IsNeverCalled written.now) }
+    requires lines { IfLines sample (IsSample written.now) }
     ensures same { OnOk result (SaysTheSame found.old.items found.new.items) }
-    ensures so { OnOk result ((dialect : Dialect) (lines : List Text) → AreSo dialect lines found.old.items → AreSo dialect lines found.new.items) }
+    ensures so { OnOk result (AreSo dialect written.now found.old.items → AreSo dialect written.now found.new.items) }
+{
+    match sample {
+        Sample::Unknown => Ok(()),
+        Sample::Bad(line) => push_other(found, line, Problem::BadDirective),
+        Sample::Lines(sample) => {
+            let look = Look::of(*found.allocator(), dialect, typed, written, sample)?;
+            look.push_problems(found)
+        }
+    }
+}
+
+// Adds each directive of a script that has none, since its first line does not begin with a dot.
+fn push_idle_directives(
+    written: &[Text],
+    is_dotted: bool,
+    found: &mut Vec<Finding>,
+) -> Result<(), NoMemory>
+    ensures same { OnOk result (SaysTheSame found.old.items found.new.items) }
+    ensures so { OnOk result (StaySo found.old.items found.new.items) }
 {
     for (place, line) in written.iter().enumerate() {
-        if is_directive(line.as_bytes()) {
+        if !is_dotted && is_directive(line.as_bytes()) {
             push_other(found, place.saturating_add(1), Problem::IdleDirective)?;
         }
     }

@@ -1,9 +1,8 @@
 //! The check of a script's lines, all problems in their order.
-ghost use Rattle.std.specs.Prelude.{◌≡◌, ◌++◌, [], ◌∷◌, ℕ, List, None, IfOk, OnOk, get_or, map};
+ghost use Rattle.std.specs.Prelude.{◌≡◌, ◌++◌, [], ◌∷◌, ℕ, None, IfOk, OnOk, get_or, map};
 ghost use Rattle.std.specs.List.{slice_split};
 ghost use Rattle.ados_text.specs.Lines.{is_newline};
-ghost use Rattle.ados_text.specs.Text.{Text};
-ghost use Rattle.ados_check.specs.Errors.{AreSo, SaysSo};
+ghost use Rattle.ados_check.specs.Errors.{AreAlwaysSo, AreSoWith, StaySo};
 ghost use Rattle.ados_check.specs.Signs.{SaysTheSame, signs_at, signs_told, told_sign};
 
 use crate::findings::{Finding, Problem};
@@ -29,7 +28,7 @@ pub fn check(
     // In each line of the file the first byte above 127 where it matters is found, and no other is said to be there.
     ensures signs { IfOk result (λ found. (number : ℕ) → signs_told number found.items ≡ signs_at bytes.now number) }
     // And options are found that are left out: no error of another kind.
-    ensures so { IfOk result (λ found. (world : Dialect) (script : List Text) → AreSo world script found.items) }
+    ensures so { IfOk result (λ found. AreAlwaysSo found.items) }
 {
     let mut found = signs_found(alloc, dialect, aliases, lines, bytes)?;
     for (place, line) in lines.iter().enumerate() {
@@ -42,7 +41,7 @@ pub fn check(
 /// Puts findings in the order of their lines; those of a line keep theirs.
 pub fn sort(found: &mut Vec<Finding>) -> Result<(), NoMemory>
     ensures same { OnOk result (SaysTheSame found.old.items found.new.items) }
-    ensures so { OnOk result ((dialect : Dialect) (lines : List Text) → AreSo dialect lines found.old.items → AreSo dialect lines found.new.items) }
+    ensures so { OnOk result (StaySo found.old.items found.new.items) }
 {
     found.sort_by(|a, b| a.line.cmp(&b.line))?;
     Ok(())
@@ -58,7 +57,7 @@ fn signs_found(
     bytes: &[u8],
 ) -> Result<Vec<Finding>, NoMemory>
     ensures signs { IfOk result (λ found. (number : ℕ) → signs_told number found.items ≡ signs_at bytes.now number) }
-    ensures so { IfOk result (λ found. (world : Dialect) (script : List Text) → AreSo world script found.items) }
+    ensures so { IfOk result (λ found. AreAlwaysSo found.items) }
 {
     if bytes.is_ascii() {
         return Ok(Vec::new(alloc));
@@ -107,12 +106,11 @@ fn push_problem(found: &mut Vec<Finding>, line: usize, problem: Problem) -> Resu
 }
 
 /// Adds a problem of a line that is not of a byte above 127.
-#[tactic(auto, using(crate::proofs::SignLemmas::told_other))]
+#[tactic(auto, using(crate::proofs::ErrorLemmas::one_so, crate::proofs::SignLemmas::told_other))]
 pub fn push_other(found: &mut Vec<Finding>, line: usize, problem: Problem) -> Result<(), NoMemory>
     requires { told_sign problem ≡ None }
     ensures same { OnOk result (SaysTheSame found.old.items found.new.items) }
-    ensures so { OnOk result ((dialect : Dialect) (lines : List Text) → AreSo dialect lines found.old.items → SaysSo dialect lines line problem
-        → AreSo dialect lines found.new.items) }
+    ensures so { OnOk result (AreSoWith line problem found.old.items found.new.items) }
 {
     push_problem(found, line, problem)
 }
@@ -126,7 +124,7 @@ fn push_options(
     found: &mut Vec<Finding>,
 ) -> Result<(), NoMemory>
     ensures same { OnOk result (SaysTheSame found.old.items found.new.items) }
-    ensures so { OnOk result ((world : Dialect) (script : List Text) → AreSo world script found.old.items → AreSo world script found.new.items) }
+    ensures so { OnOk result (StaySo found.old.items found.new.items) }
 {
     let alloc = *found.allocator();
     for left_out in options_left_out(alloc, dialect, aliases, 0, text.as_bytes())? {

@@ -1,9 +1,9 @@
 //! The look at the lines of a script: the problem of each one.
-ghost use Rattle.std.specs.Prelude.{◌≡◌, List, None, Ok, IfOk, IfSome, OnOk};
-ghost use Rattle.ados_text.specs.Text.{Text};
+ghost use Rattle.std.specs.Prelude.{◌≡◌, Some, None, Ok, IfOk, IfSome, OnOk};
+ghost use Rattle.ados_script.specs.Lines.{line_of};
 ghost use Rattle.ados_line.specs.declared.lines.Expanded.TheVariants.{Ready};
 ghost use Rattle.ados_check.specs.Directives.{IsSample};
-ghost use Rattle.ados_check.specs.Errors.{AreSo, IsCommand, IsHere, IsReadAs, IsSound, SaysSo};
+ghost use Rattle.ados_check.specs.Errors.{AreSo, AreSoWithFound, IsAlwaysSound, IsCommand, IsHere, IsReadAs, IsSound};
 ghost use Rattle.ados_check.specs.Signs.{SaysTheSame, told_sign};
 
 use crate::arguments::next_argument;
@@ -111,7 +111,7 @@ impl<'a> Look<'a> {
 
     // The problem of a line where a block begins or ends that is not whole; `depth` is how many blocks are open.
     fn block_problem(&self, number: usize, depth: &mut usize) -> Option<Problem>
-        ensures { IfSome result (λ what. (dialect : Dialect) (lines : List Text) → IsSound dialect lines number what) }
+        ensures { IfSome result (IsAlwaysSound number) }
     {
         let line = self.script.line(number)?;
         let word = first_word(trimmed(line.as_bytes()));
@@ -133,23 +133,40 @@ impl<'a> Look<'a> {
         requires { IsSample self.now.written.now self.now.script }
         ensures { IfOk result (λ found. IfSome found (IsSound self.now.dialect self.now.written.now number)) }
     {
-        let Some(place) = number.checked_sub(1) else {
-            return Ok(None);
-        };
-        let (Some(written), Some(line)) = (self.written.get(place), self.script.line(number)) else {
-            return Ok(None);
-        };
+        match self.plain_line(number) {
+            Some(line) => self.plain_problem(number, line),
+            None => Ok(None),
+        }
+    }
+
+    // The line of a number, if it stays as it is written.
+    fn plain_line(&self, number: usize) -> Option<&Text>
+        ensures written { IfSome result (λ line. line_of self.now.written.now number ≡ Some line.now) }
+        ensures taken { IfSome result (λ line. line_of self.now.script number ≡ Some line.now) }
+    {
+        let written = self.written.get(number.checked_sub(1)?)?;
+        let line = self.script.line(number)?;
         if *written != *line {
+            return None;
+        }
+        Some(line)
+    }
+
+    // The problem of a line that stays as it is written, if its first word is no alias of the script.
+    fn plain_problem(&self, number: usize, raw: &Text) -> Result<Option<Problem>, NoMemory>
+        requires sample { IsSample self.now.written.now self.now.script }
+        requires written { line_of self.now.written.now number ≡ Some raw.now }
+        requires taken { line_of self.now.script number ≡ Some raw.now }
+        ensures { IfOk result (λ found. IfSome found (IsSound self.now.dialect self.now.written.now number)) }
+    {
+        let bytes = raw.as_bytes();
+        if bytes.len() > LINE_BYTES {
+            return Ok(Some(Problem::LongLine(bytes.len())));
+        }
+        if self.is_alias(raw)? {
             return Ok(None);
         }
-        let count = written.as_bytes().len();
-        if count > LINE_BYTES {
-            return Ok(Some(Problem::LongLine(count)));
-        }
-        if self.is_alias(written)? {
-            return Ok(None);
-        }
-        match read_line(self.alloc, written) {
+        match read_line(self.alloc, raw) {
             Some(Ok(Expanded::Ready(line))) => self.command_problem(number, &line),
             Some(Err(LineFault::NoMemory)) => Err(NoMemory),
             Some(Err(fault)) => Ok(Some(Problem::Line(fault))),
@@ -159,7 +176,8 @@ impl<'a> Look<'a> {
 
     // The first word of a line may be an alias.
     fn is_alias(&self, line: &Text) -> Result<bool, NoMemory> {
-        self.made.has(self.alloc, first_word(trimmed(line.as_bytes())))
+        self.made
+            .has(self.alloc, first_word(trimmed(line.as_bytes())))
     }
 
     // The problem of a command, as the line of that number is read.
@@ -248,8 +266,7 @@ fn push_sound(
 ) -> Result<(), NoMemory>
     requires { IfSome problem (λ what. told_sign what ≡ None) }
     ensures same { OnOk result (SaysTheSame found.old.items found.new.items) }
-    ensures so { OnOk result ((dialect : Dialect) (lines : List Text) → AreSo dialect lines found.old.items
-        → IfSome problem (SaysSo dialect lines number) → AreSo dialect lines found.new.items) }
+    ensures so { OnOk result (AreSoWithFound number problem found.old.items found.new.items) }
 {
     match problem {
         Some(problem) => push_other(found, number, problem),

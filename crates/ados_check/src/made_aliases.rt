@@ -1,9 +1,9 @@
 //! The words that lines of a script make aliases of: sought out once for all of its lines.
-ghost use Rattle.std.specs.Prelude.{◌≡◌, ◌≤◌, ◌||◌, length, map, IfOk, IfSome, OnOk};
+ghost use Rattle.std.specs.Prelude.{◌≡◌, ◌≤◌, length, map, IfOk, IfSome, OnOk};
 ghost use Rattle.std.specs.List.{prefix_len};
 ghost use Rattle.std.specs.Option.{option_map};
-ghost use Rattle.ados_text.specs.Text.{Text, IsText, to_ascii};
-ghost use Rattle.ados_check.specs.Aliases.{alias_name, bare, has_made, is_open, makes_alias, may_be_alias, not_quote};
+ghost use Rattle.ados_text.specs.Text.{IsText, to_ascii};
+ghost use Rattle.ados_check.specs.Aliases.{HasAll, HasLine, HasLines, alias_name, bare, has_made, is_open, not_quote};
 
 use ados_items::{first_word, rest_of, trimmed};
 use ados_text::{Name, NoMemory, Text, same_name};
@@ -22,7 +22,7 @@ pub struct MadeAliases {
 impl MadeAliases {
     /// Those of the lines that are typed before a script, and of its own.
     pub fn of(alloc: Global, typed: &[Text], lines: &[Text]) -> Result<MadeAliases, NoMemory>
-        ensures { IfOk result (λ made. (word : Text) → has_made made word ≡ (may_be_alias typed.now word || may_be_alias lines.now word)) }
+        ensures { IfOk result (λ made. HasAll made typed.now lines.now) }
     {
         let mut made = MadeAliases {
             is_any: false,
@@ -46,7 +46,7 @@ impl MadeAliases {
 
     // Adds those of lines.
     fn add_lines(&mut self, alloc: Global, lines: &[Text]) -> Result<(), NoMemory>
-        ensures { OnOk result ((word : Text) → has_made self.new word ≡ (has_made self.old word || may_be_alias lines.now word)) }
+        ensures { OnOk result (HasLines self.old self.new lines.now) }
     {
         for line in lines {
             self.add_line(alloc, line)?;
@@ -57,7 +57,7 @@ impl MadeAliases {
     // Adds that of a line, if it makes one.
     #[tactic(auto, using(crate::proofs::AliasLemmas::one_known, crate::proofs::AliasLemmas::all_known, crate::proofs::AliasLemmas::none_known))]
     fn add_line(&mut self, alloc: Global, line: &Text) -> Result<(), NoMemory>
-        ensures { OnOk result ((word : Text) → has_made self.new word ≡ (has_made self.old word || makes_alias word line.now)) }
+        ensures { OnOk result (HasLine self.old self.new line.now) }
     {
         let Some(name) = alias_name(line.as_bytes()) else {
             return Ok(());

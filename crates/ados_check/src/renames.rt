@@ -53,7 +53,8 @@ fn calls(alloc: Global, dialect: Dialect, line: &[u8]) -> Result<bool, NoMemory>
     }
     let name = Text::from_bytes(alloc, name_in(between(line, word.from, word.to)))?;
     Ok(match Meaning::of(dialect, &name) {
-        Meaning::Builtin(Builtin::Flow(FlowCommand::Execute)) | Meaning::Run | Meaning::Other => true,
+        Meaning::Builtin(Builtin::Flow(FlowCommand::Execute)) | Meaning::Run | Meaning::Other =>
+            true,
         Meaning::Builtin(_) => false,
     })
 }

@@ -156,7 +156,8 @@ impl Inspector<'_> {
             return Ok(false);
         };
         // Where another device leads is not known, nor what is above a shared folder.
-        let is_elsewhere = word.contains(':') && !is_path_to_c || word.starts_with('/') && self.is_shared();
+        let is_elsewhere = word.contains(':') && !is_path_to_c
+            || word.starts_with('/') && self.is_shared();
         Ok(is_elsewhere || self.brings(rt, word, in_c) || self.shared(rt, word, true)?.is_some())
     }
 
@@ -209,7 +210,8 @@ impl Inspector<'_> {
             };
             let folder = if folder == "." { "" } else { folder };
             let path = step_into(rt.alloc(), folder, below)?;
-            if fs::metadata(rt, path.as_str()).is_ok_and(|found| may_be_directory || !found.is_dir())
+            if fs::metadata(rt, path.as_str()).is_ok_and(|found| may_be_directory
+                || !found.is_dir())
             {
                 return Ok(Some(path));
             }

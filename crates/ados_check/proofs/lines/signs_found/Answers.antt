@@ -15,18 +15,17 @@ loop-place-preserved c =
     sym (c.sign_in.ensures ∙ ap (λ d. sign_of d c.line_at-line.result.now) c.is_dotted-is_dotted.ensures ∙ ap (sign_of (is_dotted bytes)) line) in
     elim c.match-sign_in.branch [
       | in-None w ↦ (
-          subst (λ f. ToldUpTo (place + 1) bytes f.items) (sym w.found-is)
-          (none_more place bytes c.loop-place.found.items c.loop-place.invariant.0 (sign ∙ w.in-None.is)),
-          λ world script. subst (λ f. AreSo world script f.items) (sym w.found-is) (c.loop-place.invariant.1 world script),
-        )
+        subst (λ f. ToldUpTo (place + 1) bytes f.items) (sym w.found-is)
+            (none_more place bytes c.loop-place.found.items c.loop-place.invariant.0 (sign ∙ w.in-None.is)),
+        λ world script. subst (λ f. AreSo world script f.items) (sym w.found-is) (c.loop-place.invariant.1 world script),
+      )
       | in-Some+in_ok-push_problem-in-Some w ↦
           let added = ap (λ f. f.items) w.found-is ∙ w.in_ok-push_problem-in-Some.ensures in
-          let speaks = w.sign_problem-problem.ensures in
-          (
+          let speaks = w.sign_problem-problem.ensures in (
             subst (ToldUpTo (place + 1) bytes) (sym added)
-            (one_more place w.in-Some.byte bytes c.loop-place.found.items w.sign_problem-problem.result c.loop-place.invariant.0 (sign ∙ w.in-Some.is) speaks),
+                (one_more place w.in-Some.byte bytes c.loop-place.found.items w.sign_problem-problem.result c.loop-place.invariant.0 (sign ∙ w.in-Some.is) speaks),
             λ world script. subst (AreSo world script) (sym added)
-            (one_so world script c.loop-place.found.items (place + 1) w.sign_problem-problem.result (c.loop-place.invariant.1 world script)
-            (sign_so world script (place + 1) w.in-Some.byte w.sign_problem-problem.result speaks)),
+                (one_so world script c.loop-place.found.items (place + 1) w.sign_problem-problem.result (c.loop-place.invariant.1 world script)
+                (sign_so world script (place + 1) w.in-Some.byte w.sign_problem-problem.result speaks)),
           )
     ]

@@ -1,0 +1,11 @@
+use Rattle.std.proofs.Common.{◌≡◌, ◌∙◌, subst, sym}
+use Rattle.ados_text.specs.Lines.{lines_of}
+use Rattle.ados_check.specs.Errors.{AreSo}
+use Rattle.ados_check.proofs.ErrorLemmas.{all_so}
+use Rattle.ados_check.proofs.inspection.inspect.Goals as goal
+
+pub returns-clause-so : goal.returns-clause-so
+returns-clause-so c =
+    all_so c.args.dialect c.args.bytes.now _
+    (λ number. c.in_ok-sort.ensures.same number ∙ (c.in_ok-push_problems.ensures.same number ∙ (c.in_ok-push_idle_directives.ensures.same number ∙ c.in_ok-found.ensures.signs number)))
+    ?
