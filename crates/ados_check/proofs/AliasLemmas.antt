@@ -4,6 +4,8 @@ use Rattle.std.specs.Str.{bytes_eq}
 use Rattle.std.proofs.lemmas.Slice.Eq.{bytes_eq-Decides}
 use Rattle.ados_text.specs.Text.{Text, folded_text, is_same}
 use Rattle.ados_vars.specs.Vars.{Pairs, set_pair, value_in}
+use Rattle.ados_check.specs.Aliases.{HasAll, HasLines, HasNone, may_be_alias}
+use Rattle.ados_check.specs.declared.made_aliases.MadeAliases.{MadeAliases}
 
 -- the same name is the same as each other word
 alike : (word name other : Text) → is_same name other ≡ true → is_same word name ≡ is_same word other
@@ -55,3 +57,8 @@ all_known false same = refl
 
 pub none_known : (known : Bool) → known ≡ (known || false)
 none_known = or-none
+
+-- those of both lists of lines are known
+pub both_added : (none first all : MadeAliases) (typed lines : List Text) → HasNone none → HasLines none first typed → HasLines first all lines → HasAll all typed lines
+both_added none first all typed lines empty one two word =
+    two word ∙ ap (λ known. known || may_be_alias lines word) (one word ∙ ap (λ known. known || may_be_alias typed word) (empty word))

@@ -107,4 +107,4 @@ told_template lines args process line result why of_args (inr gives) is args-is 
 pub is_sample : (lines : List Text) (args : Bytes) (process : Text) (result : Result (List Text) SubstFault) (found : List Text) → Gives result (script_of lines args process) → result ≡ Ok found
     → IsSample lines found
 is_sample lines args process result found (inl none) is = cc
-is_sample lines args process result found (inr gives) is = (args, (process, sym gives ∙ is))
+is_sample lines args process result found (inr gives) is = (args, process, sym gives ∙ is)

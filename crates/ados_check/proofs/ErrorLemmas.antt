@@ -1,5 +1,5 @@
 -- What errors say of their lines.
-use Rattle.std.proofs.Common.{ℕ, zero, suc, ◌≡◌, ◌∙◌, ◌==◌, ◌||◌, ◌<◌, List, [], ◌∷◌, ◌++◌, Bool, true, false, cond, Option, Some, None, refl, ap, sym, subst, tt, arith, length, slice_index_or}
+use Rattle.std.proofs.Common.{ℕ, zero, suc, ◌≡◌, ◌∙◌, ◌==◌, ◌||◌, ◌<◌, List, [], ◌∷◌, ◌++◌, Bool, true, false, cond, Option, Some, None, refl, ap, sym, subst, arith, length, slice_index_or}
 use Rattle.std.specs.Prelude.{IfSome}
 use Rattle.std.specs.List.{All, filter, flat_map, list_any}
 use Rattle.std.proofs.lemmas.Bool.{eq-eqb, eqb-true}
@@ -8,7 +8,10 @@ use Rattle.std.proofs.lemmas.List.Folds.{list_any-append}
 use Rattle.ados_text.specs.Lines.{lines_of}
 use Rattle.ados_text.specs.Text.{Bytes, Text}
 use Rattle.ados_resident.specs.declared.dialects.Dialect.{Dialect}
-use Rattle.ados_check.specs.Errors.{AreSo, IsSo, SaysSo}
+use Rattle.ados_check.specs.declared.directives.Sample.{Sample}
+use Rattle.ados_check.specs.declared.directives.Sample.TheVariants.{Bad}
+use Rattle.ados_check.specs.Directives.{IfBad, IsNeverCalled}
+use Rattle.ados_check.specs.Errors.{AreAlwaysSo, AreSo, AreSoWith, AreSoWithFound, IsAlwaysSound, IsSo, IsSound, SaysSo, StaySo}
 use Rattle.ados_check.specs.Signs.{file_line, is_at, is_dotted, listed, sign_of, signs_at, signs_told, told_sign}
 use Rattle.ados_check.specs.declared.findings.Finding.{Finding}
 use Rattle.ados_check.specs.declared.findings.Problem.{Problem}
@@ -28,6 +31,34 @@ sign_so dialect lines line byte problem.BadDirective e = cc
 sign_so dialect lines line byte (problem.NoLab label) e = cc
 sign_so dialect lines line byte problem.ElseWithoutEndIf e = cc
 sign_so dialect lines line byte other e = tt
+
+-- one that is found
+pub found_so : (number : ℕ) (found : Option Problem) (what : Problem) (old new : List Finding) → found ≡ Some what → AreSoWith number what old new → AreSoWithFound number found old new
+found_so number found what old new is more dialect lines are holds = more dialect lines are (subst (λ one. IfSome one (IsSound dialect lines number)) is holds).1
+
+pub sound_told : (dialect : Dialect) (lines : List Text) (number : ℕ) (found : Option Problem) → IfSome found (IsSound dialect lines number) → IfSome found (λ what. told_sign what ≡ None)
+sound_told dialect lines number None holds = tt
+sound_told dialect lines number (Some what) holds = holds.0
+
+pub stay_so : (old new : List Finding) → AreAlwaysSo old → StaySo old new → AreAlwaysSo new
+stay_so old new always stay dialect lines = stay dialect lines (always dialect lines)
+
+pub stay_again : (first old new : List Finding) → StaySo first old → StaySo old new → StaySo first new
+stay_again first old new one two dialect lines are = two dialect lines (one dialect lines are)
+
+-- a bad directive
+pub bad_so : (dialect : Dialect) (lines : List Text) (sample : Sample) (line : ℕ) (old new : List Finding) → IfBad sample (IsNeverCalled lines) → sample ≡ Bad line
+    → AreSoWith line problem.BadDirective old new → AreSo dialect lines old → AreSo dialect lines new
+bad_so dialect lines sample line old new holds is more are = more dialect lines are (subst (λ one. IfBad one (IsNeverCalled lines)) is holds)
+
+pub same_so : (one dialect : Dialect) (others lines : List Text) (old new : List Finding) → one ≡ dialect → others ≡ lines → (AreSo one others old → AreSo one others new)
+    → AreSo dialect lines old → AreSo dialect lines new
+same_so one dialect others lines old new same alike stay =
+    subst (λ d. AreSo d lines old → AreSo d lines new) same (subst (λ l. AreSo one l old → AreSo one l new) alike stay)
+
+-- one of which nothing is said
+pub note_so : (number : ℕ) (what : Problem) (old new : List Finding) → IsAlwaysSound number what → AreSoWith number what old new → StaySo old new
+note_so number what old new quiet more dialect lines are = more dialect lines are (quiet dialect lines).1
 
 abbrev Has : ℕ → List ℕ → Type 0
 Has byte bytes = list_any (λ b. b == byte) bytes ≡ true

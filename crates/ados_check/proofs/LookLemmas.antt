@@ -1,6 +1,6 @@
 -- What is said of a line by what it is read as.
-use Rattle.std.proofs.Common.{ℕ, ◌≡◌, ◌∙◌, ◌<◌, List, Option, Some, None, Result, Ok, Err, refl, ap, sym, subst, tt, inl, inr, arith, length}
-use Rattle.std.specs.Prelude.{IfSome}
+use Rattle.std.proofs.Common.{ℕ, ◌≡◌, ◌∙◌, ◌<◌, List, true, is_some, Option, Some, None, Result, Ok, Err, refl, ap, sym, subst, inl, inr, arith, length}
+use Rattle.std.specs.Prelude.{IfOk, IfSome}
 use Rattle.ados_text.specs.declared.codes.TheConstants.Result2.{OBJECT_NOT_FOUND}
 use Rattle.ados_text.specs.Text.{Text}
 use Rattle.ados_find.specs.Codes.{fail_codes}
@@ -42,10 +42,8 @@ use Rattle.ados_check.proofs.ReadingLemmas.{long_line}
 -- a line of more than 512 bytes
 pub long_so : (dialect : Dialect) (lines sample : List Text) (number count : ℕ) (line : Text) → IsSample lines sample → line_of lines number ≡ Some line → line_of sample number ≡ Some line
     → length line ≡ count → 512 < count → IsSound dialect lines number (problem.LongLine count)
-long_so dialect lines sample number count line is written taken len more = (
-  refl,
-  (sample, (is, (line, (written, (taken, (len, (more, λ aliases variables alias. long_line aliases variables line (omega (arith, len, more))))))))),
-)
+long_so dialect lines sample number count line is written taken len more =
+    (refl, (sample, is, (line, written, taken, (len, more, λ aliases variables alias. long_line aliases variables line (omega (arith, len, more))))))
 
 -- what a line is read as, whatever the variables are
 abbrev pub IsGiven : Text → Result Expanded LineFault → Type 0
@@ -64,27 +62,25 @@ pub fault_so : (dialect : Dialect) (lines sample : List Text) (number : ℕ) (li
     → (fault ≡ NoMemory → ⊥) → IsGiven line (Err fault) → IsSound dialect lines number (problem.Line fault)
 fault_so dialect lines sample number line fault is written taken other given = (
   refl,
-  (sample, (is, (line, (written, (taken, λ aliases variables alias. fault-given fault (expand_raw_line aliases variables line) other (given aliases variables alias)))))),
+  (sample, is, (line, written, taken, λ aliases variables alias. fault-given fault (expand_raw_line aliases variables line) other (given aliases variables alias))),
 )
 
 -- a line that has a command
 pub ready_here : (lines sample : List Text) (number : ℕ) (line : Text) (read : Line) → line_of lines number ≡ Some line → line_of sample number ≡ Some line
     → IsGiven line (Ok (Ready read)) → IsHere lines sample number (λ raw. IsReadAs raw (Ok (Ready read)))
 ready_here lines sample number line read written taken given =
-    (line, (written, (taken, λ aliases variables alias. ready-given read (expand_raw_line aliases variables line) (given aliases variables alias))))
+    (line, written, taken, λ aliases variables alias. ready-given read (expand_raw_line aliases variables line) (given aliases variables alias))
 
 -- a command of the Shell
 pub command_here : (dialect : Dialect) (lines sample : List Text) (number : ℕ) (read : Line) (command : Builtin) → IsHere lines sample number (λ raw. IsReadAs raw (Ok (Ready read)))
     → meaning_of dialect read.command ≡ meaning.Builtin command → IsHere lines sample number (λ raw. IsCommand dialect raw command read.args)
-command_here dialect lines sample number read command here means = (here.0, (here.1.0, (here.1.1.0, (read, (here.1.1.1, (means, refl))))))
+command_here dialect lines sample number read command here means = (here.0, here.1, here.2, (read, here.3, means, refl))
 
 -- its arguments have a fault
 pub refused_so : (dialect : Dialect) (lines sample : List Text) (number : ℕ) (command : Builtin) (args name template : Text) (fault : ArgFault) → IsSample lines sample
     → IsHere lines sample number (λ raw. IsCommand dialect raw command args) → Answers dialect command args fault → IsSound dialect lines number (problem.Arguments name template fault)
-refused_so dialect lines sample number command args name template fault is here answers = (
-  refl,
-  (sample, (is, (here.0, (here.1.0, (here.1.1.0, (command, (args, (here.1.1.1, answers)))))))),
-)
+refused_so dialect lines sample number command args name template fault is here answers =
+    (refl, (sample, is, (here.0, here.1, here.2, (command, args, here.3, answers))))
 
 ends : (dialect : Dialect) (command : FlowCommand) (text : Text) (args : List Arg) (sample : List Text) (number : ℕ) → fill_of (template_of dialect (Flow command)) text ≡ Ok args
     → ((shared : SharedState) (view : View) → shared.dialect ≡ dialect → row_of command shared (Some (record { lines = sample; line = number })) view args ≡ Quits (fail_codes OBJECT_NOT_FOUND))
@@ -95,7 +91,7 @@ ends dialect command text args sample number fill quits shared view same =
 
 lost-is : (dialect : Dialect) (lines sample : List Text) (number : ℕ) (command : FlowCommand) (text : Text) → IsSample lines sample
     → IsHere lines sample number (λ raw. IsCommand dialect raw (Flow command) text) → EndsScript dialect command text sample number → IsLine lines number (IsLost dialect number command)
-lost-is dialect lines sample number command text is here last = (sample, (is, (here.0, (here.1.0, (here.1.1.0, (text, (here.1.1.1, last)))))))
+lost-is dialect lines sample number command text is here last = (sample, is, (here.0, here.1, here.2, (text, here.3, last)))
 
 by-kind : (dialect : Dialect) (lines : List Text) (number : ℕ) (command : FlowCommand) (what : Problem) → lost_jump what ≡ Some command
     → IsLine lines number (IsLost dialect number command) → SaysSo dialect lines number what
@@ -114,3 +110,18 @@ pub lost_so : (dialect : Dialect) (lines sample : List Text) (number : ℕ) (com
     → told_sign what ≡ None → lost_jump what ≡ Some command → IsSound dialect lines number what
 lost_so dialect lines sample number command text args what is here fill quits told kind =
     (told, by-kind dialect lines number command what kind (lost-is dialect lines sample number command text is here (ends dialect command text args sample number fill quits)))
+
+-- what is found of a command that may be a jump
+pub jump_so : {E : Type 0} (dialect : Dialect) (lines sample : List Text) (number : ℕ) (command : Builtin) (flow : FlowCommand) (template text bytes : Text) (args : List Arg)
+    (result : Result (Option Problem) E) → command ≡ Flow flow → template ≡ template_of dialect command → bytes ≡ text → fill_of template bytes ≡ Ok args
+    → IsSample lines sample → IsHere lines sample number (λ raw. IsCommand dialect raw command text)
+    → IfOk result (λ found. IfSome found (λ what. told_sign what ≡ None)) → IfOk result (λ found. IfSome found (λ what. lost_jump what ≡ Some flow))
+    → IfOk result (λ found. is_some found ≡ true → (shared : SharedState) (view : View) → shared.dialect ≡ dialect
+    → row_of flow shared (Some (record { lines = sample; line = number })) view args ≡ Quits (fail_codes OBJECT_NOT_FOUND))
+    → IfOk result (λ found. IfSome found (IsSound dialect lines number))
+jump_so dialect lines sample number command flow template text bytes args (Err e) flows same whole fill is here told kind quits = tt
+jump_so dialect lines sample number command flow template text bytes args (Ok None) flows same whole fill is here told kind quits = tt
+jump_so dialect lines sample number command flow template text bytes args (Ok (Some what)) flows same whole fill is here told kind quits =
+    lost_so dialect lines sample number flow text args what is (subst (λ c. IsHere lines sample number (λ raw. IsCommand dialect raw c text)) flows here)
+    (subst (λ c. fill_of (template_of dialect c) text ≡ Ok args) flows (subst (λ b. fill_of (template_of dialect command) b ≡ Ok args) whole (subst (λ t. fill_of t bytes ≡ Ok args) same fill)))
+    (quits refl) told kind

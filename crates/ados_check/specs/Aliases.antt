@@ -47,6 +47,10 @@ HasLine old new line = (word : Text) → has_made new word ≡ (has_made old wor
 abbrev pub HasLines : MadeAliases → MadeAliases → List Text → Type 0
 HasLines old new lines = (word : Text) → has_made new word ≡ (has_made old word || may_be_alias lines word)
 
+-- it has none
+abbrev pub HasNone : MadeAliases → Type 0
+HasNone made = (word : Text) → has_made made word ≡ false
+
 -- those of these lines
 abbrev pub HasAll : MadeAliases → List Text → List Text → Type 0
 HasAll made typed lines = (word : Text) → has_made made word ≡ (may_be_alias typed word || may_be_alias lines word)

@@ -111,7 +111,7 @@ AreSoWith number what old new = (dialect : Dialect) (lines : List Text) → AreS
 
 abbrev pub AreSoWithFound : ℕ → Option Problem → List Finding → List Finding → Type 0
 AreSoWithFound number found old new =
-    (dialect : Dialect) (lines : List Text) → AreSo dialect lines old → IfSome found (SaysSo dialect lines number) → AreSo dialect lines new
+    (dialect : Dialect) (lines : List Text) → AreSo dialect lines old → IfSome found (IsSound dialect lines number) → AreSo dialect lines new
 
 -- what a finding in a file of these bytes says is so: a byte above 127 of which it speaks is the one that is to be found there
 abbrev pub IsSo : Dialect → Bytes → Finding → Type 0

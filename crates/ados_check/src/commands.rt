@@ -87,6 +87,11 @@ pub fn template_in(alloc: Global, dialect: Dialect, command: Builtin) -> Result<
     Template::known(alloc, template(dialect, command))
 }
 
+/// The text of a command's template in a dialect.
+pub fn template_text(alloc: Global, dialect: Dialect, command: Builtin) -> Result<Text, NoMemory> {
+    Text::from_bytes(alloc, template(dialect, command).as_bytes())
+}
+
 /// The fault that a command answers in a dialect for the text of its arguments, if it has one.
 #[tactic(auto, unfolding(ados_machine::specs::Commands::action_of))]
 pub fn argument_fault(

@@ -42,7 +42,7 @@ pub fn bad_directive(alloc: Global, bytes: &[u8]) -> Result<Option<Finding>, NoM
 }
 
 /// The lines of a script, as it is written and by its bytes, with some arguments.
-#[tactic(auto, using(crate::proofs::DirectiveLemmas::bad_line))]
+#[tactic(auto, using(crate::proofs::DirectiveLemmas::bad_line, crate::proofs::DirectiveLemmas::is_sample))]
 pub fn sample_of(alloc: Global, written: &[Text], bytes: &[u8]) -> Result<Sample, NoMemory>
     // The script of a bad directive is never called: Execute answers the fault of that line, or one of the arguments.
     ensures bad { IfOk result (λ sample. IfBad sample (IsNeverCalled (lines_of bytes.now))) }

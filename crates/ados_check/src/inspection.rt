@@ -8,7 +8,7 @@ ghost use Rattle.ados_check.specs.Signs.{SaysTheSame, signs_at, signs_told};
 
 use crate::directives::{Sample, is_directive, sample_of};
 use crate::findings::{Finding, Problem};
-use crate::lines::{check, push_other, sort};
+use crate::lines::{check, push_note, push_other, sort};
 use crate::look::Look;
 use crate::signs::is_dotted;
 use ados_resident::Dialect;
@@ -43,6 +43,7 @@ pub fn inspect(
 }
 
 // Adds the bad directive of a script, or what is wrong with its lines, as they are written and with some arguments.
+#[tactic(auto, using(crate::proofs::ErrorLemmas::bad_so, crate::proofs::ErrorLemmas::same_so))]
 fn push_problems(
     dialect: Dialect,
     typed: &[Text],
@@ -57,15 +58,20 @@ fn push_problems(
 {
     match sample {
         Sample::Unknown => Ok(()),
-        Sample::Bad(line) => push_other(found, line, Problem::BadDirective),
+        Sample::Bad(line) => {
+            push_other(found, line, Problem::BadDirective)?;
+            Ok(())
+        }
         Sample::Lines(sample) => {
             let look = Look::of(*found.allocator(), dialect, typed, written, sample)?;
-            look.push_problems(found)
+            look.push_problems(found)?;
+            Ok(())
         }
     }
 }
 
 // Adds each directive of a script that has none, since its first line does not begin with a dot.
+#[tactic(auto, using(crate::proofs::ErrorLemmas::stay_again))]
 fn push_idle_directives(
     written: &[Text],
     is_dotted: bool,
@@ -76,7 +82,7 @@ fn push_idle_directives(
 {
     for (place, line) in written.iter().enumerate() {
         if !is_dotted && is_directive(line.as_bytes()) {
-            push_other(found, place.saturating_add(1), Problem::IdleDirective)?;
+            push_note(found, place.saturating_add(1), Problem::IdleDirective)?;
         }
     }
     Ok(())

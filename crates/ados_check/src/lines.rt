@@ -1,8 +1,8 @@
 //! The check of a script's lines, all problems in their order.
-ghost use Rattle.std.specs.Prelude.{◌≡◌, ◌++◌, [], ◌∷◌, ℕ, None, IfOk, OnOk, get_or, map};
+ghost use Rattle.std.specs.Prelude.{◌≡◌, ◌++◌, [], ◌∷◌, ℕ, None, IfOk, IfSome, OnOk, get_or, map};
 ghost use Rattle.std.specs.List.{slice_split};
 ghost use Rattle.ados_text.specs.Lines.{is_newline};
-ghost use Rattle.ados_check.specs.Errors.{AreAlwaysSo, AreSoWith, StaySo};
+ghost use Rattle.ados_check.specs.Errors.{AreAlwaysSo, AreSoWith, AreSoWithFound, IsAlwaysSound, StaySo};
 ghost use Rattle.ados_check.specs.Signs.{SaysTheSame, signs_at, signs_told, told_sign};
 
 use crate::findings::{Finding, Problem};
@@ -18,6 +18,7 @@ use std::alloc::{AllocError, Global};
 ///
 /// `aliases` are those of its shell, `lines` are those that are to be taken, with the script's arguments in them, and `bytes` are
 /// those of the file that they come from, in which bytes above 127 are still there; there may be none, if they are not known.
+#[tactic(auto, using(crate::proofs::ErrorLemmas::stay_so))]
 pub fn check(
     alloc: Global,
     dialect: Dialect,
@@ -115,7 +116,39 @@ pub fn push_other(found: &mut Vec<Finding>, line: usize, problem: Problem) -> Re
     push_problem(found, line, problem)
 }
 
+/// Adds what is no error of a line.
+#[tactic(auto, using(crate::proofs::ErrorLemmas::note_so))]
+pub fn push_note(found: &mut Vec<Finding>, line: usize, note: Problem) -> Result<(), NoMemory>
+    requires { IsAlwaysSound line note }
+    ensures same { OnOk result (SaysTheSame found.old.items found.new.items) }
+    ensures so { OnOk result (StaySo found.old.items found.new.items) }
+{
+    push_other(found, line, note)?;
+    Ok(())
+}
+
+/// Adds the problem of a line, if it has one.
+#[tactic(auto, using(crate::proofs::ErrorLemmas::found_so))]
+pub fn push_sound(
+    found: &mut Vec<Finding>,
+    number: usize,
+    problem: Option<Problem>,
+) -> Result<(), NoMemory>
+    requires { IfSome problem (λ what. told_sign what ≡ None) }
+    ensures same { OnOk result (SaysTheSame found.old.items found.new.items) }
+    ensures so { OnOk result (AreSoWithFound number problem found.old.items found.new.items) }
+{
+    match problem {
+        Some(problem) => {
+            push_other(found, number, problem)?;
+            Ok(())
+        }
+        None => Ok(()),
+    }
+}
+
 // Adds the options of a line that the Shell leaves out.
+#[tactic(auto, using(crate::proofs::ErrorLemmas::stay_again))]
 fn push_options(
     dialect: Dialect,
     aliases: &Aliases,
@@ -128,7 +161,7 @@ fn push_options(
 {
     let alloc = *found.allocator();
     for left_out in options_left_out(alloc, dialect, aliases, 0, text.as_bytes())? {
-        push_other(found, line, Problem::LeftOut(left_out))?;
+        push_note(found, line, Problem::LeftOut(left_out))?;
     }
     Ok(())
 }

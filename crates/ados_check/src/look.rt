@@ -1,17 +1,18 @@
 //! The look at the lines of a script: the problem of each one.
 ghost use Rattle.std.specs.Prelude.{◌≡◌, Some, None, Ok, IfOk, IfSome, OnOk};
+ghost use Rattle.std.specs.Option.{option_copied};
 ghost use Rattle.ados_script.specs.Lines.{line_of};
 ghost use Rattle.ados_line.specs.declared.lines.Expanded.TheVariants.{Ready};
 ghost use Rattle.ados_check.specs.Directives.{IsSample};
-ghost use Rattle.ados_check.specs.Errors.{AreSo, AreSoWithFound, IsAlwaysSound, IsCommand, IsHere, IsReadAs, IsSound};
-ghost use Rattle.ados_check.specs.Signs.{SaysTheSame, told_sign};
+ghost use Rattle.ados_check.specs.Errors.{AreSo, IsCommand, IsHere, IsReadAs, IsSound};
+ghost use Rattle.ados_check.specs.Signs.{SaysTheSame};
 
 use crate::arguments::next_argument;
-use crate::commands::{Meaning, argument_fault, template_in};
+use crate::commands::{Meaning, argument_fault, template_in, template_text};
 use crate::findings::{Finding, Problem};
 use crate::jumps::jump_problem;
 use crate::left_out::name_in;
-use crate::lines::push_other;
+use crate::lines::push_sound;
 use crate::made_aliases::MadeAliases;
 use crate::readings::read_line;
 use ados_flow::gather;
@@ -63,6 +64,7 @@ impl<'a> Look<'a> {
     }
 
     /// Adds what is wrong with each line.
+    #[tactic(auto, using(crate::proofs::ErrorLemmas::sound_told))]
     pub fn push_problems(&self, found: &mut Vec<Finding>) -> Result<(), NoMemory>
         requires { IsSample self.now.written.now self.now.script }
         ensures same { OnOk result (SaysTheSame found.old.items found.new.items) }
@@ -74,13 +76,13 @@ impl<'a> Look<'a> {
             let number = place.saturating_add(1);
             let of_block = self.block_problem(number, &mut depth);
             push_sound(found, number, of_block)?;
-            if gathered > 0 {
-                gathered -= 1;
+            let of_line = self.problem_unless(gathered > 0, number)?;
+            push_sound(found, number, of_line)?;
+            gathered = if gathered > 0 {
+                gathered - 1
             } else {
-                let of_line = self.line_problem(number)?;
-                push_sound(found, number, of_line)?;
-                gathered = self.gathered_by(number)?;
-            }
+                self.gathered_by(number)?
+            };
         }
         Ok(())
     }
@@ -111,7 +113,7 @@ impl<'a> Look<'a> {
 
     // The problem of a line where a block begins or ends that is not whole; `depth` is how many blocks are open.
     fn block_problem(&self, number: usize, depth: &mut usize) -> Option<Problem>
-        ensures { IfSome result (IsAlwaysSound number) }
+        ensures { IfSome result (IsSound self.now.dialect self.now.written.now number) }
     {
         let line = self.script.line(number)?;
         let word = first_word(trimmed(line.as_bytes()));
@@ -128,6 +130,17 @@ impl<'a> Look<'a> {
         None
     }
 
+    // The problem of a line, unless a line above it takes it.
+    fn problem_unless(&self, is_taken: bool, number: usize) -> Result<Option<Problem>, NoMemory>
+        requires { IsSample self.now.written.now self.now.script }
+        ensures { IfOk result (λ found. IfSome found (IsSound self.now.dialect self.now.written.now number)) }
+    {
+        if is_taken {
+            return Ok(None);
+        }
+        self.line_problem(number)
+    }
+
     // The problem of a line that depends neither on arguments nor on an alias of the script.
     fn line_problem(&self, number: usize) -> Result<Option<Problem>, NoMemory>
         requires { IsSample self.now.written.now self.now.script }
@@ -139,12 +152,19 @@ impl<'a> Look<'a> {
         }
     }
 
+    // The line of a number as it is written.
+    fn written_line(&self, number: usize) -> Option<&Text>
+        ensures { option_copied result ≡ line_of self.now.written.now number }
+    {
+        self.written.get(number.checked_sub(1)?)
+    }
+
     // The line of a number, if it stays as it is written.
     fn plain_line(&self, number: usize) -> Option<&Text>
         ensures written { IfSome result (λ line. line_of self.now.written.now number ≡ Some line.now) }
         ensures taken { IfSome result (λ line. line_of self.now.script number ≡ Some line.now) }
     {
-        let written = self.written.get(number.checked_sub(1)?)?;
+        let written = self.written_line(number)?;
         let line = self.script.line(number)?;
         if *written != *line {
             return None;
@@ -153,6 +173,7 @@ impl<'a> Look<'a> {
     }
 
     // The problem of a line that stays as it is written, if its first word is no alias of the script.
+    #[tactic(auto, using(crate::proofs::LookLemmas::ready_here, crate::proofs::LookLemmas::fault_so))]
     fn plain_problem(&self, number: usize, raw: &Text) -> Result<Option<Problem>, NoMemory>
         requires sample { IsSample self.now.written.now self.now.script }
         requires written { line_of self.now.written.now number ≡ Some raw.now }
@@ -181,6 +202,7 @@ impl<'a> Look<'a> {
     }
 
     // The problem of a command, as the line of that number is read.
+    #[tactic(auto, using(crate::proofs::LookLemmas::command_here))]
     fn command_problem(&self, number: usize, line: &Line) -> Result<Option<Problem>, NoMemory>
         requires sample { IsSample self.now.written.now self.now.script }
         requires read { IsHere self.now.written.now self.now.script number (λ raw. IsReadAs raw (Ok (Ready line.now))) }
@@ -203,6 +225,7 @@ impl<'a> Look<'a> {
     }
 
     // The problem of a command by its arguments.
+    #[tactic(auto, using(crate::proofs::LookLemmas::refused_so))]
     fn argument_problem(
         &self,
         number: usize,
@@ -224,6 +247,7 @@ impl<'a> Look<'a> {
     }
 
     // The problem of what a command jumps to, or calls.
+    #[tactic(auto, using(crate::proofs::LookLemmas::jump_so))]
     fn target_problem(
         &self,
         number: usize,
@@ -258,22 +282,6 @@ impl<'a> Look<'a> {
     }
 }
 
-// Adds the problem of a line, if it has one.
-fn push_sound(
-    found: &mut Vec<Finding>,
-    number: usize,
-    problem: Option<Problem>,
-) -> Result<(), NoMemory>
-    requires { IfSome problem (λ what. told_sign what ≡ None) }
-    ensures same { OnOk result (SaysTheSame found.old.items found.new.items) }
-    ensures so { OnOk result (AreSoWithFound number problem found.old.items found.new.items) }
-{
-    match problem {
-        Some(problem) => push_other(found, number, problem),
-        None => Ok(()),
-    }
-}
-
 // What a line is for a jump depends on the arguments of the script.
 fn are_targets_open(written: &[Text], lines: &[Text]) -> bool {
     written.iter().zip(lines.iter()).any(|(written, line)| written != line
@@ -287,9 +295,4 @@ fn may_be_target(written: &[u8], line: &[u8]) -> bool {
     }
     let word = first_word(trimmed(written));
     !same_name(word, first_word(trimmed(line))) || same_name(word, b"Lab")
-}
-
-// The text of a command's template in a dialect.
-fn template_text(alloc: Global, dialect: Dialect, command: Builtin) -> Result<Text, NoMemory> {
-    Text::from_bytes(alloc, ados_machine::template(dialect, command).as_bytes())
 }

@@ -3,7 +3,7 @@ ghost use Rattle.std.specs.Prelude.{◌≡◌, ◌≤◌, length, map, IfOk, IfS
 ghost use Rattle.std.specs.List.{prefix_len};
 ghost use Rattle.std.specs.Option.{option_map};
 ghost use Rattle.ados_text.specs.Text.{IsText, to_ascii};
-ghost use Rattle.ados_check.specs.Aliases.{HasAll, HasLine, HasLines, alias_name, bare, has_made, is_open, not_quote};
+ghost use Rattle.ados_check.specs.Aliases.{HasAll, HasLine, HasLines, HasNone, alias_name, bare, has_made, is_open, not_quote};
 
 use ados_items::{first_word, rest_of, trimmed};
 use ados_text::{Name, NoMemory, Text, same_name};
@@ -20,14 +20,23 @@ pub struct MadeAliases {
 }
 
 impl MadeAliases {
+    // None.
+    #[tactic(auto, unfolding(ados_vars::specs::Vars::value_in))]
+    fn new(alloc: Global) -> MadeAliases
+        ensures { HasNone result }
+    {
+        MadeAliases {
+            is_any: false,
+            names: Aliases::new(alloc),
+        }
+    }
+
     /// Those of the lines that are typed before a script, and of its own.
+    #[tactic(auto, using(crate::proofs::AliasLemmas::both_added))]
     pub fn of(alloc: Global, typed: &[Text], lines: &[Text]) -> Result<MadeAliases, NoMemory>
         ensures { IfOk result (λ made. HasAll made typed.now lines.now) }
     {
-        let mut made = MadeAliases {
-            is_any: false,
-            names: Aliases::new(alloc),
-        };
+        let mut made = MadeAliases::new(alloc);
         made.add_lines(alloc, typed)?;
         made.add_lines(alloc, lines)?;
         Ok(made)
