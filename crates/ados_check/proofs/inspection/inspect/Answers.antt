@@ -9,6 +9,6 @@ returns-clause-so c =
     all_so c.args.dialect c.args.bytes.now _
     (λ number. c.in_ok-sort.ensures.same number ∙ (c.in_ok-push_problems.ensures.same number ∙ (c.in_ok-push_idle_directives.ensures.same number ∙ c.in_ok-found.ensures.signs number)))
     (c.in_ok-sort.ensures.so c.args.dialect (lines_of c.args.bytes.now)
-    (subst (λ lines. AreSo c.args.dialect lines _) (c.as_slice-lines.ensures ∙ c.in_ok-written.ensures)
+    (subst (λ lines. AreSo c.args.dialect lines c.push_problems.new.found.items) (c.as_slice-lines.ensures ∙ c.in_ok-written.ensures)
     (c.in_ok-push_problems.ensures.so
     (c.in_ok-push_idle_directives.ensures.so c.args.dialect c.as_slice-lines.result.now (c.in_ok-found.ensures.so c.args.dialect c.as_slice-lines.result.now)))))
