@@ -1,5 +1,3 @@
 mod WordLemmas
 mod WithinLemmas
-mod PathLemmas
-mod KeyLemmas
 mod VolumeLemmas

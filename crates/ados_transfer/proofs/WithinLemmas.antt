@@ -3,7 +3,7 @@ use Rattle.std.proofs.Common.{ℕ, zero, suc, ◌≡◌, ◌<◌, ◌+◌, ◌-�
 use Rattle.std.proofs.lemmas.List.{take_all}
 use Rattle.std.specs.List.{starts_with}
 use Rattle.ados_text.specs.Text.{Bytes}
-use Rattle.ados_transfer.specs.Account.{is_substring}
+use Rattle.ados_transfer.specs.Within.{is_substring}
 
 after-place : (bytes all : Bytes) (from : ℕ) → from < length all → starts_with ◌==◌ (drop from all) bytes ≡ false
     → is_substring bytes (drop from all) ≡ is_substring bytes (drop (suc from) all)

@@ -1,13 +1,11 @@
 pub mod Words
 pub mod Planned
-pub mod Mirror
+pub mod Decisions
 pub mod Paths
+pub mod Within
 pub mod StandIns
 pub mod Stamps
-pub mod Account
-pub mod Backups
 pub mod Here
 pub mod Records
-pub mod Changes
-pub mod Moves
+pub mod Folders
 pub mod Volumes

@@ -1,31 +1,11 @@
--- What is known of the objects of a share, each by its key.
-use Rattle.std.specs.Prelude.{◌≡◌, Bool, false, ◌&&◌, not, Option, Some, None, String, string_bytes}
-use Rattle.std.specs.BTreeMap.{BTreeMap, get_by_text}
-use Rattle.std.specs.FinMap as map
-use Rattle.std.specs.Map.{update}
-use Rattle.std.specs.Option.{is_some}
+-- What an object of a share was at the last comparison.
+use Rattle.std.specs.Prelude.{Bool, false, ◌&&◌, not, Option, Some, None}
 use Rattle.std.specs.Str.{bytes_eq}
-use Rattle.ados_text.specs.Text.{Bytes}
 use Rattle.ados_ram.specs.declared.entries.Entry.{Entry}
 use Rattle.ados_ram.specs.Entry.{is_directory, bytes_of}
-use Rattle.ados_ram.specs.Files.{Files}
-use Rattle.ados_ram.specs.Place.{key_of}
-use Rattle.ados_transfer.specs.declared.records.Record.{Record}
 use Rattle.ados_transfer.specs.declared.records.Last.{Last}
 use Rattle.ados_transfer.specs.declared.records.Last.TheVariants.{Directory, File, StandIn}
 use Rattle.ados_transfer.specs.StandIns.{is_stand_in, is_stand_in_of}
-
--- an object with this key is one of them
-abbrev pub has_key : {A X : Type 0} → BTreeMap (String A) X → Bytes → Bool
-has_key map key = is_some (get_by_text map key)
-
--- what is known for this key is this, or nothing, and for each other key what was known before
-abbrev pub Sets : {A X : Type 0} → BTreeMap (String A) X → BTreeMap (String A) X → Bytes → Option X → Type 0
-Sets old new key value = (q : Bytes) → get_by_text new q ≡ update bytes_eq (get_by_text old) key value q
-
--- for each other key it is what was known before
-abbrev pub OthersStay : {A X : Type 0} → BTreeMap (String A) X → BTreeMap (String A) X → Bytes → Type 0
-OthersStay old new key = (q : Bytes) → bytes_eq key q ≡ false → get_by_text new q ≡ get_by_text old q
 
 -- an entry is what an object was at the last comparison; a stand-in is no file of the Shell's own
 abbrev pub is_last : Last → Entry → Bool
@@ -37,7 +17,3 @@ is_last (StandIn comment) entry = is_stand_in_of entry comment
 abbrev pub is_kept : Last → Option Entry → Bool
 is_kept last None = false
 is_kept last (Some entry) = is_last last entry
-
--- a row is that of an object with this key, and the Shell does not have what that was
-abbrev pub has_left : {A : Type 0} → Files → Bytes → String A × Record → Bool
-has_left files key row = bytes_eq (string_bytes row.0) key && not (is_kept row.1.last (map.get files (key_of row.1.place)))

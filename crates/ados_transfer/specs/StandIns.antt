@@ -5,8 +5,8 @@ use Rattle.ados_text.specs.Text.{Bytes}
 use Rattle.ados_ram.specs.declared.entries.Bits.{Bits}
 use Rattle.ados_ram.specs.declared.entries.Entry.{Entry}
 use Rattle.ados_ram.specs.Entry.{is_directory, bytes_of}
-use Rattle.ados_transfer.specs.declared.watches.Watch.{Watch}
-use Rattle.ados_transfer.specs.Account.{is_substring}
+use Rattle.ados_transfer.specs.declared.watch.Watch.{Watch}
+use Rattle.ados_transfer.specs.Within.{is_substring}
 
 -- the entry is a file without bytes
 abbrev pub is_empty_file : Entry → Bool

@@ -2,7 +2,7 @@
 use Rattle.std.specs.Prelude.{◌≡◌, ◌⊎◌, Bool, [], ◌∷◌, ◌++◌, ◌==◌, ◌||◌, codes, length, if◌then◌else◌}
 use Rattle.std.specs.Str.{bytes_eq}
 use Rattle.ados_text.specs.Text.{Bytes}
-use Rattle.ados_transfer.specs.Changes.{is_descendant}
+use Rattle.ados_transfer.specs.Folders.{is_descendant}
 use Rattle.ados_transfer.specs.Paths.{path_in}
 
 -- What follows a label in a path: all of it if there is no label, nothing if the path is the label, or what comes after it and a slash.

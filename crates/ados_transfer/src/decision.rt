@@ -1,6 +1,6 @@
 //! What is done with an object of a shared folder.
 ghost use Rattle.std.specs.Prelude.{◌≡◌, ◌⊎◌, true, false, if◌then◌else◌};
-ghost use Rattle.ados_transfer.specs.Mirror.{decision, is_absent, is_same_state, is_large, may_write, removal};
+ghost use Rattle.ados_transfer.specs.Decisions.{decision, is_absent, is_same_state, is_large, may_write, removal};
 
 use crate::stamps::Stamp;
 use ados_ram::FileBytes;

@@ -1,4 +1,3 @@
-use crate::fit::Need;
 use ados_ram::Limits;
 use ados_text::NoMemory;
 use std::alloc::{AllocFailed, Global};
@@ -52,9 +51,9 @@ pub enum TransferFault {
     /// Of the directories of two shares one is the other, or is in it.
     #[error("one directory cannot have two folders: {0}, {1}")]
     DirectoriesMeet(String, String),
-    /// The folders of a share have more files and folders than the Shell's files can hold.
+    /// The folders of a share have more files and folders than the Shell's files can hold; the text says how many.
     #[error("{0}")]
-    DoesNotFit(Need),
+    DoesNotFit(String),
     /// There was no memory.
     #[error("out of memory")]
     NoMemory,

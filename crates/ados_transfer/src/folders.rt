@@ -2,7 +2,7 @@
 ghost use Rattle.std.specs.Prelude.{◌≡◌};
 ghost use Rattle.std.specs.List.{list_any};
 ghost use Rattle.std.specs.Option.{option_copied};
-ghost use Rattle.ados_transfer.specs.Changes.{hides, is_descendant, is_some_slash};
+ghost use Rattle.ados_transfer.specs.Folders.{hides, is_descendant, is_some_slash};
 ghost use Rattle.ados_transfer.specs.Paths.{is_unshared};
 
 use crate::below::Below;

@@ -1,14 +1,14 @@
 //! What was alike on both sides of a share at the last comparison.
 ghost use Rattle.std.specs.Prelude.{◌≡◌, not};
 ghost use Rattle.std.specs.Option.{is_some, option_copied};
-ghost use Rattle.ados_transfer.specs.Mirror.{is_absent};
+ghost use Rattle.ados_transfer.specs.Decisions.{is_absent};
 ghost use Rattle.ados_transfer.specs.Records.{is_kept};
 ghost use Rattle.ados_transfer.specs.StandIns.{own_entry};
 
 use crate::decision::State;
 use crate::stamps::Stamp;
 use crate::stand_ins::{is_stand_in, is_stand_in_of, own_entry};
-use crate::watches::Watch;
+use crate::watch::Watch;
 use ados_ram::{Body, Entry, FileBytes, Place};
 use ados_text::{NoMemory, Text};
 use std::collections::BTreeMap;

@@ -1,6 +1,6 @@
 //! Stamps of files of this machine, by which a change of one is noticed.
 ghost use Rattle.std.specs.Prelude.{◌≡◌};
-ghost use Rattle.ados_transfer.specs.Mirror.{is_same_time, is_same_stamp};
+ghost use Rattle.ados_transfer.specs.Decisions.{is_same_time, is_same_stamp};
 ghost use Rattle.ados_transfer.specs.Stamps.{is_same_file};
 
 use std::fs::Metadata;

@@ -3,7 +3,7 @@ ghost use Rattle.std.specs.Prelude.{◌≡◌, ◌&&◌, not};
 ghost use Rattle.std.specs.Option.{option_copied};
 ghost use Rattle.ados_transfer.specs.StandIns.{is_empty_file, is_stand_in, is_stand_in_of, own_entry};
 
-use crate::account::is_substring;
+use crate::within::is_substring;
 use ados_ram::Entry;
 use ados_text::{NoMemory, Text, TextFault};
 use std::alloc::Global;

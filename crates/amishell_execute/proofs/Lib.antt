@@ -1,5 +1,4 @@
 mod Driving
-mod OptionLineLemmas
 mod Pairs
 mod Ran
 mod TrailLemmas

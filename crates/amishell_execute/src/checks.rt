@@ -3,7 +3,6 @@ ghost use Rattle.std.specs.Prelude.{◌≡◌, None, IfErr};
 ghost use Rattle.amishell_execute.specs.Playing.{drive_fault_of};
 
 use crate::faults::{Fault, report, unread_script};
-use crate::request::Options;
 use ados_check::{Finding, bad_directive, check, mark, mark_printed, strike};
 use ados_flow::{Frame, FrameKind};
 use ados_launch::Next;
@@ -13,6 +12,7 @@ use ados_text::{Name, NoMemory, Text, lines_of};
 use ados_transfer::read_script;
 use ados_vars::Aliases;
 use ados_world::World;
+use execute_options::Options;
 use std::alloc::Global;
 use std::io::Eprint;
 use std::rt::Files;

@@ -3,12 +3,12 @@ ghost use Rattle.std.specs.Prelude.{◌≡◌};
 ghost use Rattle.amishell_execute.specs.declared.faults.Fault.TheVariants.{Drive, Memory};
 
 use crate::status::Status;
-use crate::unread::Unread;
 use ados_launch::DriveFault;
 use ados_text::NoMemory;
 use ados_trace::escaped;
 use ados_transfer::TransferFault;
-use std::alloc::{AllocFailed, Global};
+use execute_options::{OptionsFault, Unread};
+use std::alloc::AllocFailed;
 use std::fmt::Display;
 use std::io::Eprint;
 use std::rt::Files;
@@ -102,6 +102,16 @@ impl From<DriveFault> for Fault {
     }
 }
 
+impl From<OptionsFault> for Fault {
+    fn from(fault: OptionsFault) -> Fault {
+        match fault {
+            OptionsFault::BadLine(reason) => Fault::BadLine(reason),
+            OptionsFault::CannotRead(unread) => Fault::CannotRead(unread),
+            OptionsFault::NoMemory => Fault::Memory,
+        }
+    }
+}
+
 impl From<NoMemory> for Fault {
     ghost from_gives = { λ _e why. why ≡ Memory };
 
@@ -113,22 +123,6 @@ impl From<NoMemory> for Fault {
 impl<T: Drop> From<AllocFailed<T>> for Fault {
     fn from(_e: AllocFailed<T>) -> Fault {
         Fault::Memory
-    }
-}
-
-/// The fault of what cannot be read, whose reason is not known.
-pub fn cannot_read(alloc: Global, path: &str) -> Fault {
-    match String::from_str(alloc, path) {
-        Ok(path) => Fault::CannotRead(Unread { path, reason: None }),
-        Err(_) => Fault::Memory,
-    }
-}
-
-/// The fault of a file that cannot be read, with its reason.
-pub fn unread<R: AllocGlobal + Files>(rt: &R, path: &str) -> Fault {
-    match Unread::at(rt, path) {
-        Ok(unread) => Fault::CannotRead(unread),
-        Err(_) => Fault::Memory,
     }
 }
 
@@ -146,7 +140,10 @@ pub fn unread_script<R: AllocGlobal + Files>(rt: &R, fault: TransferFault) -> Fa
 /// The fault of a file or a folder that is not brought in.
 pub fn not_brought<R: AllocGlobal + Files>(rt: &R, fault: TransferFault) -> Fault {
     match fault {
-        TransferFault::CannotRead(path) => unread(rt, path.as_str()),
+        TransferFault::CannotRead(path) => Fault::from(OptionsFault::with_reason(
+            rt,
+            path.as_str(),
+        )),
         other => Fault::Transfer(other),
     }
 }

@@ -1,8 +1,9 @@
 //! Where this process was started.
 
-use crate::faults::{Fault, cannot_read};
+use crate::faults::Fault;
 use crate::launcher::Start;
 use ados_launcher::StartFolder;
+use execute_options::OptionsFault;
 use std::env;
 use std::rt::Env;
 
@@ -16,7 +17,7 @@ impl Home {
     /// This process's current directory. `CannotRead` if it has no path.
     pub fn new<R: Env + AllocGlobal>(rt: &R) -> Result<Home, Fault> {
         let Ok(home) = env::current_dir(rt) else {
-            return Err(cannot_read(rt.alloc(), "."));
+            return Err(Fault::from(OptionsFault::without_reason(rt.alloc(), ".")));
         };
         Ok(Home {
             path: String::from_str(rt.alloc(), home.as_path().as_str())?,

@@ -2,14 +2,13 @@
 ghost use Rattle.std.specs.Prelude.{◌≡◌, IfOk};
 ghost use Rattle.ados_machine.specs.World.{fresh_world};
 
-use crate::faults::{Fault, cannot_read};
+use crate::faults::Fault;
 use crate::host_faults::{bad_line, bad_words, refusal};
-use crate::request::Options;
-use crate::unread::bytes_within;
 use ados_session::{FileFault, HOSTS_BYTES, read_hosts};
 use ados_text::Text;
 use ados_transfer::{BRING, ascii, last_piece, step_into};
 use ados_world::{Dialect, HostEntry, NewFault, World, hosts_fault};
+use execute_options::{Options, OptionsFault, bytes_within};
 use std::alloc::Global;
 use std::os::unix::fs::PermissionsExt;
 use std::rt::{Env, Files};
@@ -208,7 +207,7 @@ fn add_common<R: AllocGlobal + Files>(
 // The file of the stand-ins, in the nearest folder above this program that has it.
 fn common_file<R: AllocGlobal + Files>(rt: &R) -> Result<String, Fault> {
     let Ok(program) = env::current_exe(rt) else {
-        return Err(cannot_read(rt.alloc(), COMMON));
+        return Err(no_common(rt.alloc()));
     };
     let path = program.as_path().as_str();
     let mut folder = String::from_str(
@@ -222,5 +221,10 @@ fn common_file<R: AllocGlobal + Files>(rt: &R) -> Result<String, Fault> {
             return Ok(file);
         }
     }
-    Err(cannot_read(rt.alloc(), COMMON))
+    Err(no_common(rt.alloc()))
+}
+
+// The fault where the stand-ins' file is not found.
+fn no_common(alloc: Global) -> Fault {
+    Fault::from(OptionsFault::without_reason(alloc, COMMON))
 }

@@ -2,13 +2,13 @@
 
 use crate::faults::{Fault, unread_script};
 use crate::hosts::hosts_for;
-use crate::request::Options;
 use crate::status::Status;
 use ados_check::{Finding, Problem, inspect, mark, mark_printed, name_in_c, strike};
 use ados_resident::{DiskCommand, HostEntry};
 use ados_text::{NoMemory, Text};
 use ados_trace::escaped;
 use ados_transfer::{last_piece, parted, read_script, step_into};
+use execute_options::Options;
 use std::alloc::Global;
 use std::io::Write;
 use std::rt::{Env, Files};

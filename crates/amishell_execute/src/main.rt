@@ -5,8 +5,6 @@ ghost use Rattle.std.specs.Prelude.{◌≡◌, [], OnOk};
 ghost use Rattle.ados_launch.specs.Agreement.{Agrees};
 
 mod checks;
-mod command;
-mod config;
 mod deadline;
 mod delivery;
 mod descriptors;
@@ -14,7 +12,6 @@ mod due;
 mod ends;
 mod error_codes;
 mod faults;
-mod given;
 mod home;
 mod host_faults;
 mod hosts;
@@ -22,22 +19,16 @@ mod inspections;
 mod launcher;
 mod losses;
 mod lost_jumps;
-mod mistakes;
-mod numbers;
-mod option_lines;
 mod origins;
 mod pace;
 mod play;
 mod reader;
-mod reading;
-mod request;
 mod share;
 mod stands;
 mod status;
 mod teller;
 mod trail;
 mod unanswered;
-mod unread;
 mod watched;
 
 use ados_launch::Counted;
@@ -47,17 +38,16 @@ use ados_trace::Traced;
 use ados_transfer::{Lines, Plan, TransferFault, bring, bring_script, take, taken_place};
 use ados_world::World;
 use checks::{Checks, read_checked};
-use config::Config;
 use deadline::Deadline;
 use descriptors::held_descriptors;
 use error_codes::{ErrorCode, error_codes};
+use execute_options::{Config, Options, Refused, asked_options, given_words, typed_matches};
 use faults::{Fault, not_brought, report};
 use hosts::{hosts_for, world_with};
 use inspections::inspect_all;
 use losses::{Kept, tell_losses};
 use origins::Origins;
 use play::{Script, play};
-use request::{Options, Refused};
 use share::Share;
 use stands::status_after;
 use status::Status;
@@ -86,13 +76,13 @@ fn main(rt: HostRuntime) -> ExitCode {
 fn run<R: Env + AllocGlobal + Files + Input + Print + Eprint + Processes + Clone + Drop + Clock>(
     rt: &R,
 ) -> Result<Status, Fault> {
-    let words = reading::given_words(rt)?;
-    let typed = match reading::typed(rt.alloc(), &words) {
+    let words = given_words(rt)?;
+    let typed = match typed_matches(rt.alloc(), &words) {
         Ok(typed) => typed,
         Err(refused) => return answer(rt, refused),
     };
     let config = Config::find(rt, &typed)?;
-    match reading::asked(rt.alloc(), typed, &config) {
+    match asked_options(rt.alloc(), typed, &config) {
         Ok(options) if options.check => inspect_all(rt, &options),
         Ok(options) => execute(rt, &options),
         Err(refused) => answer(rt, refused),
@@ -187,8 +177,10 @@ fn run_script<
         let mut writer = Watched { inner, trail };
         play(rt, world, script, teller, share.as_mut(), &mut writer)
     };
-    let is_alike = close(rt, world, share.as_mut())?;
+    let closed = close(rt, world, share.as_mut());
+    // What is to be taken is taken even if the shared folder could not be brought up to date.
     let is_taken = take_all(rt, options, world);
+    let is_alike = closed?;
     let code = ended.as_ref().ok().map(|end| end.code);
     let status = status_after(rt, options, world, &origins, ended)?;
     if !options.quiet {

@@ -12,7 +12,7 @@ use crate::deadline::Deadline;
 use crate::error_codes::ErrorCode;
 use crate::faults::Fault;
 use crate::launcher::Bringer;
-use crate::reader::{AtEnd, Prompter};
+use crate::reader::Prompter;
 use crate::share::Share;
 use crate::teller::Teller;
 use crate::trail::{Change, Trail};
@@ -22,6 +22,7 @@ use ados_launch::{End, Session, Sink};
 use ados_text::NoMemory;
 use ados_transfer::{Lines, Planned};
 use ados_world::World;
+use execute_options::AtEnd;
 use std::io::{Eprint, Read};
 use std::process::Processes;
 use std::rt::Files;
@@ -133,7 +134,7 @@ impl<R: AllocGlobal + Files + Eprint + Processes + Clone + Drop + Clock, I: Read
             (playing_moment K.contents K.faults K.stalls world.new self.new.reader writer.new.inner self.new.launcher)) }
     {
         let mut session = Session::new(self.rt.alloc(), world, &[]);
-        match self.drive_session(world, &mut session, share, writer) {
+        match self.drive_followed(world, &mut session, share, writer) {
             Ok(end) => Ok(end),
             Err(fault) => {
                 session.abandon(&mut self.launcher);
@@ -142,9 +143,9 @@ impl<R: AllocGlobal + Files + Eprint + Processes + Clone + Drop + Clock, I: Read
         }
     }
 
-    // Takes events until nothing comes; a shared folder is attended to before each. At a fault, of whatever kind, the session knows
-    // which programs are open, and the caller has to abandon it.
-    fn drive_session<K: Sink>(
+    // Takes events until nothing comes, and follows what the last of them renamed: at a limit nothing attends to it any more. At a
+    // fault, of whatever kind, the session knows which programs are open, and the caller has to abandon it.
+    fn drive_followed<K: Sink>(
         &mut self,
         world: &mut World,
         session: &mut Session<'_>,
@@ -165,8 +166,48 @@ impl<R: AllocGlobal + Files + Eprint + Processes + Clone + Drop + Clock, I: Read
             (playing_moment K.contents K.faults K.stalls world.old self.old.reader writer.old.inner self.old.launcher)
             (playing_moment K.contents K.faults K.stalls world.new self.new.reader writer.new.inner self.new.launcher)) }
     {
+        match self.drive_session(world, session, &mut share, writer) {
+            Ok(end) => {
+                if let Some(share) = share {
+                    share.follow(world, session)?;
+                }
+                Ok(end)
+            }
+            Err(fault) => {
+                if let Some(share) = share {
+                    // The fault of the run is the one that is told.
+                    let _ = share.follow(world, session);
+                }
+                Err(fault)
+            }
+        }
+    }
+
+    // Takes events until nothing comes; a shared folder is attended to before each. What the last one renamed is still to be followed.
+    fn drive_session<K: Sink>(
+        &mut self,
+        world: &mut World,
+        session: &mut Session<'_>,
+        share: &mut Option<&mut Share>,
+        writer: &mut Watched<K>,
+    ) -> Result<End, Fault>
+        requires reader { self.old.reader.faults < 2 ^ 64 - 1 }
+        requires writer { K.faults writer.old.inner < 2 ^ 64 - 1 }
+        requires agrees { Agrees world.old self.old.launcher.calls }
+        requires children { IsOpenTable session.old.children self.old.launcher.calls }
+        requires begins { session.old.schedule ≡ first_schedule_state [] }
+        requires held { session.old.held ≡ [] }
+        ensures does { Does world.old world.new (may_be_cut result) (K.contents writer.old.inner) (K.contents writer.new.inner) }
+        ensures children { IsOpenTable session.new.children self.new.launcher.calls }
+        ensures agrees { OnOk result (Agrees world.new self.new.launcher.calls) }
+        ensures over { OnOk result (AreOver self.new.launcher.calls) }
+        ensures alone { is_none share.old ≡ true → is_none share.new ≡ true }
+        ensures drives { is_none share.old ≡ true → IfDriven result (HasDriveResult self.old.turns []
+            (playing_moment K.contents K.faults K.stalls world.old self.old.reader writer.old.inner self.old.launcher)
+            (playing_moment K.contents K.faults K.stalls world.new self.new.reader writer.new.inner self.new.launcher)) }
+    {
         for _ in 0..self.turns {
-            self.attend(world, session, &mut share)?;
+            self.attend(world, session, share)?;
             if !session.take(world, &mut self.launcher, &mut self.reader, writer)? {
                 return Ok(session.end(world));
             }

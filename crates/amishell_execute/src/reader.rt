@@ -7,6 +7,7 @@ use ados_launch::Source;
 use ados_text::Text;
 use ados_transfer::{Planned, are_as_planned};
 use ados_world::World;
+use execute_options::AtEnd;
 use std::io;
 use std::io::{Error, ErrorKind, Read};
 use std::marker::Model;
@@ -26,15 +27,6 @@ enum Next<'a> {
     Refused,
     // An error, since there is no answer.
     Unanswered,
-}
-
-/// What is answered at the end of standard input.
-#[derive(Clone, Copy, PartialEq, Eq)]
-pub enum AtEnd {
-    /// Nothing: the run ends.
-    Nothing,
-    /// No, for ever.
-    No,
 }
 
 /// A reader that looks at the world to choose what it gives.

@@ -9,10 +9,9 @@ use crate::home::Home;
 use crate::launcher::{Bringer, Start};
 use crate::pace::Pace;
 use ados_launch::{Launcher, Listed, Session, SystemEnd, SystemFault, system};
+use ados_share::{Arrival, Mirror, Moment, StartPlace};
 use ados_text::Text;
-use ados_transfer::{
-    Arrival, Mirror, MirrorOptions, Moment, StartPlace, Volume, push_word, volumes_of,
-};
+use ados_transfer::{MirrorOptions, Volume, push_word, volumes_of};
 use ados_world::World;
 use std::alloc::Global;
 use std::io::Eprint;
@@ -130,8 +129,8 @@ impl Share {
         Ok(())
     }
 
-    // What the event before renamed is followed, and what it deleted no longer.
-    fn follow(&mut self, world: &World, session: &mut Session<'_>) -> Result<(), Fault>
+    /// What the event before renamed is followed, and what it deleted no longer.
+    pub fn follow(&mut self, world: &World, session: &mut Session<'_>) -> Result<(), Fault>
         ensures children { session.new.children ≡ session.old.children }
         ensures schedule { session.new.schedule ≡ session.old.schedule }
         ensures held { session.new.held ≡ session.old.held }

@@ -3,12 +3,12 @@
 use crate::ends::with_text;
 use crate::faults::{Fault, report};
 use crate::origins::Origins;
-use crate::request::Options;
 use crate::status::Status;
 use ados_flow::Frame;
 use ados_launch::{DriveFault, End};
 use ados_trace::{ScriptNames, script_name};
 use ados_world::World;
+use execute_options::Options;
 use std::fmt::Display;
 use std::io::Eprint;
 

@@ -107,3 +107,21 @@ returns-clause-drives g c none =
     let a = c.loop.invariant.alone none in
     finish-by c.args.self.now.turns c.loop.counter [] _ _ c.loop.session (Ok c.in_ok-finish.field-0) a.driven (omega arith) a.in_round a.count a.few a.reads a.writes
     c.in_ok-finish.ensures.end c.in_ok-finish.ensures.over c.in_ok-finish.ensures.turns c.in_ok-finish.ensures.only
+
+pub returns-in_err-follow-clause-alone : goal.returns-in_err-follow-clause-alone
+returns-in_err-follow-clause-alone g c none = (c.attend.ensures.alone (c.loop.invariant.without_share none)).0
+
+pub returns-in_err-attend-clause-alone : goal.returns-in_err-attend-clause-alone
+returns-in_err-attend-clause-alone g c none = (c.attend.ensures.alone (c.loop.invariant.without_share none)).0
+
+pub returns-in_err-take-clause-alone : goal.returns-in_err-take-clause-alone
+returns-in_err-take-clause-alone g c none = (c.attend.ensures.alone (c.loop.invariant.without_share none)).0
+
+pub returns-then-not-branch-clause-alone : goal.returns-then-not-branch-clause-alone
+returns-then-not-branch-clause-alone g c none = (c.attend.ensures.alone (c.loop.invariant.without_share none)).0
+
+pub returns-in_err-finish-clause-alone : goal.returns-in_err-finish-clause-alone
+returns-in_err-finish-clause-alone g c none = c.loop.invariant.without_share none
+
+pub returns-clause-alone : goal.returns-clause-alone
+returns-clause-alone g c none = c.loop.invariant.without_share none

@@ -1,0 +1,29 @@
+-- What one update of the shared folder could not write.
+use Rattle.std.specs.Prelude.{List, [], ◌∷◌, ◌++◌, Bool, false, ◌&&◌, not, ◌==◌, Option, Some, None, length}
+use Rattle.std.specs.List.{list_any}
+use Rattle.ados_text.specs.Text.{Bytes}
+use Rattle.ados_ram.specs.declared.entries.Body.{Body}
+use Rattle.ados_ram.specs.declared.entries.Body.TheVariants.{Directory, File}
+use Rattle.ados_transfer.specs.declared.here.Here.{Here}
+use Rattle.ados_transfer.specs.declared.here.Here.TheVariants.{Absent, Directory as Folder, File as Seen, Large, Foreign, Unread}
+use Rattle.ados_transfer.specs.Within.{is_substring}
+
+-- the path of the first object that could not be written: a later path does not replace it
+abbrev pub first_path : Option Bytes → Bytes → Option Bytes
+first_path None path = Some path
+first_path (Some old) path = Some old
+
+-- the contents of the files that could not be written, with this one; a directory has none
+abbrev pub with_bytes_of : List Bytes → Body → List Bytes
+with_bytes_of all Directory = all
+with_bytes_of all (File bytes) = all ++ bytes ∷ []
+
+-- the bytes are not empty, and occur in one of the files that could not be written
+abbrev pub is_in_unwritten : List Bytes → Bytes → Bool
+is_in_unwritten all bytes = not (length bytes == 0) && list_any (is_substring bytes) all
+
+-- The bytes of a file that was seen were moved: they occur in a file that could not be written, and not in `new`, the bytes that are
+-- to replace the file.
+abbrev pub is_moved_away : Here → Bytes → List Bytes → Bool
+is_moved_away (Seen bytes stamp mode) new unwritten = not (is_substring bytes new) && is_in_unwritten unwritten bytes
+is_moved_away _ new unwritten = false

@@ -1,0 +1,51 @@
+-- Which objects of the folder of a share may have changed.
+use Rattle.std.specs.Prelude.{Bool, true, false, ◌&&◌, not, Option, Some, None, String, string_bytes}
+use Rattle.std.specs.BTreeMap.{BTreeMap, get_by_text}
+use Rattle.std.specs.FinMap as map
+use Rattle.std.specs.List.{list_any}
+use Rattle.std.specs.Str.{bytes_eq}
+use Rattle.ados_text.specs.Text.{Bytes}
+use Rattle.ados_ram.specs.declared.entries.Entry.{Entry}
+use Rattle.ados_ram.specs.Files.{Files}
+use Rattle.ados_ram.specs.Place.{key_of}
+use Rattle.ados_transfer.specs.declared.folders.Kind.{Kind}
+use Rattle.ados_transfer.specs.declared.folders.Kind.TheVariants.{Directory as Folder, File as AnyFile, Foreign}
+use Rattle.ados_transfer.specs.declared.folders.Look.{Look}
+use Rattle.ados_transfer.specs.declared.folders.Seen.{Seen}
+use Rattle.ados_transfer.specs.declared.records.Record.{Record}
+use Rattle.ados_transfer.specs.declared.records.Last.{Last}
+use Rattle.ados_transfer.specs.declared.records.Last.TheVariants.{Directory, File, StandIn}
+use Rattle.ados_share.specs.Records.{has_key}
+use Rattle.ados_transfer.specs.Decisions.{is_same_stamp}
+use Rattle.ados_transfer.specs.Folders.{hides}
+use Rattle.ados_transfer.specs.StandIns.{is_stand_in_of}
+
+-- the stand-in that has this comment is there
+abbrev pub has_stand_in : Option Entry → Bytes → Bool
+has_stand_in None comment = false
+has_stand_in (Some entry) comment = is_stand_in_of entry comment
+
+-- what is there has the stamp of the last comparison; of a file a later change might have left the same one
+abbrev pub has_last_stamp : Files → Record → Seen → Last → Kind → Bool
+has_last_stamp files object seen Directory Folder = true
+has_last_stamp files object seen (File bytes) (AnyFile is_executable) = not object.is_fresh && is_same_stamp object.stamp seen.stamp
+has_last_stamp files object seen (StandIn comment) (AnyFile is_executable) = is_same_stamp object.stamp seen.stamp && has_stand_in (map.get files (key_of object.place)) comment
+has_last_stamp files object seen _ _ = false
+
+-- it is neither a file nor a folder
+abbrev pub is_foreign : Kind → Bool
+is_foreign Foreign = true
+is_foreign _ = false
+
+-- what is there is what was there at the last comparison, or is not shared
+abbrev pub is_unchanged : Files → Option Record → Seen → Bool
+is_unchanged files None seen = is_foreign seen.kind
+is_unchanged files (Some object) seen = bytes_eq (string_bytes object.path) (string_bytes seen.path) && has_last_stamp files object seen object.last seen.kind
+
+-- a row is that of an object with this key, which is there and may have changed
+abbrev pub has_changed : {A : Type 0} → Files → BTreeMap (String A) Record → Bytes → String A × Seen → Bool
+has_changed files records key row = bytes_eq (string_bytes row.0) key && not (is_unchanged files (get_by_text records (string_bytes row.0)) row.1)
+
+-- the object of a record, with this key, is gone: it is not there, and is not in what could not be read
+abbrev pub is_gone : {A : Type 0} → Look → Bytes → String A → Bool
+is_gone look key own = bytes_eq (string_bytes own) key && (not (has_key look.seen (string_bytes own)) && not (list_any (hides (string_bytes own)) look.unread.items))

@@ -1,0 +1,5 @@
+pub mod Account
+pub mod Backups
+pub mod Records
+pub mod Changes
+pub mod Moves

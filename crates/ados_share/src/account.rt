@@ -1,0 +1,225 @@
+//! What one update of the shared folder could not write, and what follows from that.
+ghost use Rattle.std.specs.Prelude.{◌≡◌, ◌++◌, ◌∷◌, [], IfOk, OnOk, string_bytes};
+ghost use Rattle.std.specs.List.{list_any};
+ghost use Rattle.std.specs.Option.{option_map, is_some};
+ghost use Rattle.ados_share.specs.Account.{first_path, is_in_unwritten, with_bytes_of};
+ghost use Rattle.ados_transfer.specs.Within.{is_substring};
+
+use crate::moves::Destination;
+use ados_ram::{Body, Entry, FileBytes};
+use ados_text::NoMemory;
+use ados_transfer::{Record, TransferFault, Volumes, is_part};
+use std::alloc::Global;
+
+/// When the folder is brought up to date.
+#[derive(Clone, Copy, PartialEq, Eq)]
+pub enum Moment {
+    /// While the script goes on. What is not written now may be written later: nothing is given up for it.
+    Meanwhile,
+    /// Before a program starts.
+    Start,
+    /// When the script has ended.
+    End,
+}
+
+/// What the Shell has and could not be written to the folder, what is not deleted there because of it, and what was moved aside there.
+#[derive(Drop)]
+pub struct Account {
+    /// Where memory comes from.
+    pub alloc: Global,
+    /// When the update is made.
+    pub moment: Moment,
+    /// The paths of what the Shell has under names that are left out.
+    pub left_out: Vec<String>,
+    /// The paths of the Shell's copies of stand-ins.
+    pub copies: Vec<String>,
+    /// The path of the first object that could not be written.
+    pub unwritten: Option<String>,
+    /// The contents of the files that could not be written.
+    pub bytes: Vec<FileBytes>,
+    /// The path of the first object that is not deleted because of that.
+    pub held: Option<String>,
+    /// How many more are not deleted.
+    pub more: usize,
+    /// What was moved out of the way.
+    pub aside: Vec<Aside>,
+    /// The paths at which some of that stays.
+    pub kept: Vec<String>,
+    /// A file that is gone gave no rights to group and others: a new one may have bytes of it, and gives none either.
+    pub is_private: bool,
+}
+
+/// An object of the folder that was moved out of the way of another one.
+#[derive(Drop)]
+pub struct Aside {
+    /// Its key.
+    pub key: String,
+    /// What it was.
+    pub record: Record,
+    /// The path where it is now; `None` for a folder, which is deleted at once.
+    pub beside: Option<String>,
+    /// Its mode (permissions).
+    pub mode: u32,
+    /// Where the script moved it, if it did.
+    pub moved: Option<Destination>,
+}
+
+impl Account {
+    /// Nothing is open.
+    pub fn new(alloc: Global, moment: Moment) -> Account {
+        Account {
+            alloc,
+            moment,
+            left_out: Vec::new(alloc),
+            copies: Vec::new(alloc),
+            unwritten: None,
+            bytes: Vec::new(alloc),
+            held: None,
+            more: 0,
+            aside: Vec::new(alloc),
+            kept: Vec::new(alloc),
+            is_private: false,
+        }
+    }
+
+    /// The script goes on: what is not written may be written later.
+    pub fn is_meanwhile(&self) -> bool {
+        self.moment == Moment::Meanwhile
+    }
+
+    /// Notes that the Shell holds an object whose name is left out. A directory has no bytes that could be lost.
+    pub fn add_left_out(&mut self, path: String, entry: &Entry) -> Result<(), TransferFault> {
+        if !entry.is_directory() {
+            self.add_unwritten_entry(path.as_str(), entry)?;
+        }
+        self.left_out.push(path)?;
+        Ok(())
+    }
+
+    /// Notes that the Shell has a copy of a stand-in, which is not written.
+    pub fn add_copy(&mut self, path: String) -> Result<(), TransferFault>
+        ensures unwritten { OnOk result (option_map string_bytes self.new.unwritten ≡ first_path (option_map string_bytes self.old.unwritten) (string_bytes path)) }
+        ensures copies { OnOk result (self.new.copies.items ≡ self.old.copies.items ++ path ∷ []) }
+        ensures rest { self.new ≡ record self.old { unwritten = self.new.unwritten; copies = self.new.copies } }
+    {
+        self.add_unwritten(path.as_str())?;
+        self.copies.push(path)?;
+        Ok(())
+    }
+
+    /// Something that the Shell holds is not written: nothing is to be deleted.
+    pub fn has_unwritten(&self) -> bool
+        ensures { result ≡ is_some self.now.unwritten }
+    {
+        self.unwritten.is_some()
+    }
+
+    /// Something is not deleted because of that.
+    pub fn is_holding(&self) -> bool
+        ensures { result ≡ is_some self.now.held }
+    {
+        self.held.is_some()
+    }
+
+    /// Notes that the Shell holds an object which is not written.
+    pub fn add_unwritten(&mut self, path: &str) -> Result<(), TransferFault>
+        ensures unwritten { OnOk result (option_map string_bytes self.new.unwritten ≡ first_path (option_map string_bytes self.old.unwritten) path.now) }
+        ensures rest { self.new ≡ record self.old { unwritten = self.new.unwritten } }
+    {
+        if self.unwritten.is_none() {
+            self.unwritten = Some(String::from_str(self.alloc, path)?);
+        }
+        Ok(())
+    }
+
+    /// Notes that the Shell holds this entry, which is not written.
+    pub fn add_unwritten_entry(&mut self, path: &str, entry: &Entry) -> Result<(), TransferFault>
+        ensures unwritten { OnOk result (option_map string_bytes self.new.unwritten ≡ first_path (option_map string_bytes self.old.unwritten) path.now) }
+        ensures bytes { OnOk result (self.new.bytes.items ≡ with_bytes_of self.old.bytes.items entry.now.body) }
+        ensures rest { self.new ≡ record self.old { unwritten = self.new.unwritten; bytes = self.new.bytes } }
+    {
+        if let Body::File(bytes) = &entry.body {
+            self.bytes.push(bytes.clone()?)?;
+        }
+        self.add_unwritten(path)
+    }
+
+    /// These bytes are in a file that is not written.
+    pub fn is_in_unwritten(&self, bytes: &FileBytes) -> Result<bool, NoMemory>
+        ensures { IfOk result (λ is. is ≡ is_in_unwritten self.now.bytes.items bytes.now) }
+    {
+        if bytes.len() == 0 {
+            return Ok(false);
+        }
+        is_in_any(self.alloc, bytes, self.bytes.as_slice())
+    }
+
+    /// Notes that an object is not deleted.
+    pub fn hold(&mut self, path: &str) -> Result<(), TransferFault>
+        ensures held { OnOk result (option_map string_bytes self.new.held ≡ first_path (option_map string_bytes self.old.held) path.now) }
+        ensures rest { self.new ≡ record self.old { held = self.new.held; more = self.new.more } }
+    {
+        if self.held.is_none() {
+            self.held = Some(String::from_str(self.alloc, path)?);
+        } else {
+            self.more = self.more.saturating_add(1);
+        }
+        Ok(())
+    }
+
+    /// Notes that an object was moved aside.
+    pub fn set_aside(&mut self, aside: Aside) -> Result<(), TransferFault>
+        ensures aside { OnOk result (self.new.aside.items ≡ self.old.aside.items ++ aside ∷ []) }
+        ensures rest { self.new ≡ record self.old { aside = self.new.aside } }
+    {
+        self.aside.push(aside)?;
+        Ok(())
+    }
+
+    /// What was moved aside, in that order.
+    pub fn take_aside(&mut self) -> Vec<Aside>
+        ensures all { result.items ≡ self.old.aside.items }
+        ensures none { self.new.aside.items ≡ [] }
+        ensures rest { self.new ≡ record self.old { aside = self.new.aside } }
+    {
+        std::mem::replace(&mut self.aside, Vec::new(self.alloc))
+    }
+
+    /// The mode of a file with these bytes that was moved aside.
+    pub fn mode_of(&self, bytes: &FileBytes) -> Option<u32> {
+        self.aside
+            .iter()
+            .find(|aside| aside.record.is_file_of(bytes))
+            .map(|aside| aside.mode)
+    }
+
+    /// The line that reports what is not deleted.
+    pub fn line(&self, volumes: &Volumes) -> Result<Option<String>, TransferFault> {
+        let (Some(unwritten), Some(held)) = (&self.unwritten, &self.held) else {
+            return Ok(None);
+        };
+        let unwritten = volumes.shown(unwritten.as_str())?;
+        let held = volumes.shown(held.as_str())?;
+        if self.more == 0 {
+            return Ok(Some(format!(in self.alloc;
+                "not deleted, since {unwritten} is not written: {held}"
+            )?));
+        }
+        let more = self.more;
+        Ok(Some(format!(in self.alloc;
+            "not deleted, since {unwritten} is not written: {held} and {more} more"
+        )?))
+    }
+}
+
+// The bytes are in one of the files.
+fn is_in_any(alloc: Global, bytes: &FileBytes, files: &[FileBytes]) -> Result<bool, NoMemory>
+    ensures { IfOk result (λ is. is ≡ list_any (is_substring bytes.now) files.now) }
+{
+    for file in files {
+        if is_part(alloc, bytes, file)? {
+            return Ok(true);
+        }
+    }
+    Ok(false)
+}

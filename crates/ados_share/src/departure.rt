@@ -1,0 +1,226 @@
+//! One object of the Shell's files on its way to the folder of a share.
+ghost use Rattle.std.specs.Prelude.{◌≡◌, [], ◌||◌, IfOk, OnOk, string_bytes};
+ghost use Rattle.std.specs.BTreeMap.{IsEmpty};
+ghost use Rattle.std.specs.Str.{bytes_eq};
+ghost use Rattle.ados_text.specs.Text.{Bytes};
+ghost use Rattle.ados_transfer.specs.Paths.{IsBelow};
+ghost use Rattle.ados_share.specs.Records.{has_key};
+
+use crate::moves::Elsewhere;
+use ados_ram::Entry;
+use ados_transfer::{
+    Below, Draft, Here, Last, Record, Stamp, TransferFault, enter, is_descendant, is_unshared,
+    open_beside, path_of, place_whole,
+};
+use std::alloc::Global;
+use std::collections::BTreeMap;
+use std::os::unix::fs::PermissionsExt;
+use std::rt::Files;
+use std::{fs, io};
+
+/// An object of the Shell's files that is not what it was at the last comparison.
+#[derive(Drop)]
+pub struct Departure<'a> {
+    /// Its path below the folder.
+    pub path: String,
+    /// What is there; nothing if it is gone.
+    pub entry: Option<&'a Entry>,
+    /// It was not there at the last comparison.
+    pub is_new: bool,
+    /// It is a file and was a directory, or the other way round.
+    pub changes_kind: bool,
+    /// It changes its kind so, or is below an object that does.
+    pub is_within_kind_change: bool,
+    /// If it is a file that is to be deleted, where the Shell has one with its bytes outside of the directory; if it is one that is to be
+    /// written over, where it has one anywhere; or where the script moved it, if that is outside of the directory.
+    pub elsewhere: Option<Elsewhere>,
+}
+
+impl<'a> Departure<'a> {
+    /// The change of an object that was there at the last comparison.
+    pub fn of(record: &Record, entry: Option<&'a Entry>) -> Result<Departure<'a>, TransferFault> {
+        let was_directory = matches!(record.last, Last::Directory);
+        let changes_kind = entry.is_some_and(|entry| entry.is_directory() != was_directory);
+        Ok(Departure {
+            path: record.path.clone()?,
+            entry,
+            is_new: false,
+            changes_kind,
+            is_within_kind_change: changes_kind,
+            elsewhere: None,
+        })
+    }
+
+    /// One that was not there at the last comparison.
+    pub fn new(path: String, entry: &'a Entry) -> Departure<'a> {
+        Departure {
+            path,
+            entry: Some(entry),
+            is_new: true,
+            changes_kind: false,
+            is_within_kind_change: false,
+            elsewhere: None,
+        }
+    }
+
+    /// What was there is gone, or of another kind.
+    pub fn is_gone(&self) -> bool {
+        !self.is_new && (self.entry.is_none() || self.changes_kind)
+    }
+}
+
+/// Departures, each by its path below the folder in lower case.
+#[derive(Drop)]
+pub struct Departures<'a> {
+    /// In the order of these keys a directory comes before what is in it.
+    pub by_key: BTreeMap<String, Departure<'a>>,
+    // The keys of those that change their kind.
+    kind_changes: Vec<String>,
+}
+
+impl<'a> Departures<'a> {
+    /// No departures.
+    pub fn new(alloc: Global) -> Departures<'a>
+        ensures { IsEmpty result.by_key }
+    {
+        Departures {
+            by_key: BTreeMap::new(alloc),
+            kind_changes: Vec::new(alloc),
+        }
+    }
+
+    /// Adds one; what is in a directory is added after it.
+    pub fn add(&mut self, key: String, departure: Departure<'a>) -> Result<(), TransferFault>
+        ensures { OnOk result ((q : Bytes) → has_key self.new.by_key q ≡ (bytes_eq (string_bytes key) q || has_key self.old.by_key q)) }
+    {
+        let mut departure = departure;
+        departure.is_within_kind_change = self.note_kind_change(
+            key.as_str(),
+            departure.changes_kind,
+        )?;
+        self.by_key.insert(key, departure)?;
+        Ok(())
+    }
+
+    /// Leaves out those in the volumes with these labels.
+    pub fn leave_out(&mut self, labels: &[String]) {
+        self.by_key.retain(|key, _| !labels
+            .iter()
+            .any(|label| is_descendant(label.as_str(), key.as_str())));
+    }
+
+    // An object changes its kind, which is noted, or is below one that does.
+    fn note_kind_change(&mut self, key: &str, changes_kind: bool) -> Result<bool, TransferFault>
+        ensures { self.new.by_key ≡ self.old.by_key }
+    {
+        if !changes_kind {
+            return Ok(
+                self.kind_changes
+                    .iter()
+                    .any(|above| is_descendant(above.as_str(), key)),
+            );
+        }
+        self.kind_changes
+            .push(String::from_str(*self.kind_changes.allocator(), key)?)?;
+        Ok(true)
+    }
+}
+
+/// A key is left out: a name in it is left out.
+pub fn is_key_left_out(key: &str, all: bool) -> bool {
+    key.split('/').any(|name| is_unshared(name, all))
+}
+
+/// Writes an object to this machine in place of what was looked at, and gives its new stamp; nothing if something else came to be
+/// there since.
+pub fn write_entry<R: AllocGlobal + Files>(
+    rt: &R,
+    path: &str,
+    draft: &Draft<'_>,
+) -> io::Result<Option<Stamp>> {
+    let (folder, name) = way(rt, path)?;
+    if draft.entry.is_directory() {
+        let made = enter(rt, folder.as_str(), name)?;
+        return Ok(Some(Stamp::of(&fs::symlink_metadata(rt, made.as_str())?)));
+    }
+    let whole = path_of(rt.alloc(), folder.as_str(), name)?;
+    if !place_whole(rt, folder.as_str(), whole.as_str(), draft)? {
+        return Ok(None);
+    }
+    Ok(Some(Stamp::of(&fs::symlink_metadata(rt, whole.as_str())?)))
+}
+
+/// Deletes a file or an empty folder that was looked at; `false` if something else came to be there since.
+pub fn remove<R: AllocGlobal + Files>(
+    rt: &Below<'_, R>,
+    path: &str,
+    here: &Here,
+) -> io::Result<bool> {
+    let whole = own_path(rt, path)?;
+    if here.is_directory() {
+        fs::remove_dir(rt, whole.as_str())?;
+        return Ok(true);
+    }
+    rt.remove_unchanged(whole.as_str(), here)
+}
+
+/// Moves a file that was looked at to the name of a temporary file in a folder, or deletes an empty folder. Gives the path where the file
+/// is then, and the mode; nothing if something else came to be there since.
+pub fn move_aside<R: AllocGlobal + Files>(
+    rt: &R,
+    folder: &str,
+    path: &str,
+    here: &Here,
+) -> io::Result<Option<(Option<String>, u32)>> {
+    let whole = own_path(rt, path)?;
+    let mode = fs::symlink_metadata(rt, whole.as_str())?
+        .permissions()
+        .mode()
+        & 0o777;
+    if here.is_directory() {
+        fs::remove_dir(rt, whole.as_str())?;
+        return Ok(Some((None, mode)));
+    }
+    if !is_still(rt, whole.as_str(), here)? {
+        return Ok(None);
+    }
+    let (beside, file) = open_beside(rt, folder, 0o600)?;
+    drop(file);
+    match fs::rename(rt, whole.as_str(), beside.as_str()) {
+        Ok(()) => Ok(Some((Some(beside), mode))),
+        Err(error) => {
+            let _ = fs::remove_file(rt, beside.as_str());
+            Err(error)
+        }
+    }
+}
+
+/// The path of an object below the folder of its volume, and in no other. Folders on the way are made; one that is a link is refused.
+#[tactic(auto, using(crate::proofs::PathLemmas::below_step))]
+pub fn own_path<R: AllocGlobal + Files>(rt: &R, path: &str) -> io::Result<String>
+    ensures { IfOk result (λ path. IsBelow [] (string_bytes path)) }
+{
+    let (folder, name) = way(rt, path)?;
+    let whole = path_of(rt.alloc(), folder.as_str(), name)?;
+    Ok(whole)
+}
+
+// What is at a path has the stamp of what was looked at.
+fn is_still<R: Files>(rt: &R, path: &str, here: &Here) -> io::Result<bool> {
+    Ok(here.has_stamp(&Stamp::of(&fs::symlink_metadata(rt, path)?)))
+}
+
+// The folder of a path's last name, and that name. Folders on the way are made; one that is a link is refused.
+#[tactic(auto, using(crate::proofs::PathLemmas::below_itself, crate::proofs::PathLemmas::below_step))]
+fn way<'a, R: AllocGlobal + Files>(rt: &R, path: &'a str) -> io::Result<(String, &'a str)>
+    ensures { IfOk result (λ way. IsBelow [] (string_bytes way.0)) }
+{
+    let mut folder = String::new(rt.alloc());
+    let Some((above, name)) = path.rsplit_once('/') else {
+        return Ok((folder, path));
+    };
+    for step in above.split('/') {
+        folder = enter(rt, folder.as_str(), step)?;
+    }
+    Ok((folder, name))
+}

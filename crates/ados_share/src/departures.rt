@@ -1,0 +1,282 @@
+//! What changed in the Shell's files below the directories of a share, on its way to the folders.
+ghost use Rattle.std.specs.Prelude.{◌≡◌, IfOk};
+ghost use Rattle.std.specs.List.{list_any};
+ghost use Rattle.ados_text.specs.Text.{Bytes};
+ghost use Rattle.ados_share.specs.Records.{has_key, has_left};
+
+use crate::account::{Account, Moment};
+use crate::departure::{Departure, Departures, is_key_left_out};
+use crate::mirror::Mirror;
+use ados_ram::{Entry, Place, Ram};
+use ados_transfer::{Below, TransferFault, Volume, own_entry, shell_path};
+use std::rt::Files;
+use std::time::Clock;
+
+impl Mirror {
+    /// Writes to the folders what changed below their directories since the last comparison: first what is new, then what changed,
+    /// then what is of another kind now, and what needs its place. At last what is gone is deleted, the deepest first. While
+    /// anything that the Shell holds below a directory is not written, nothing is deleted: it may have been moved there, and
+    /// one line reports it, unless the script goes on meanwhile. With `dry` the changes are only reported.
+    ///
+    /// What can't be written or deleted is reported and left. The only error is that an allocation fails.
+    pub fn write_out<R: AllocGlobal + Files + Clock + Clone + Drop>(
+        &mut self,
+        rt: &R,
+        files: &Ram,
+        moment: Moment,
+    ) -> Result<(), TransferFault> {
+        let volumes = self.volumes.copy()?;
+        let rt = &Below::new(rt, &volumes);
+        let mut account = Account::new(self.alloc, moment);
+        let updated = self.update(rt, files, &mut account);
+        let finished = self.finish_backups(rt, files, moment);
+        self.report_temporaries(rt, &account)?;
+        updated?;
+        finished
+    }
+
+    // The same, but for the temporary files that are left.
+    fn update<R: AllocGlobal + Files + Clock>(
+        &mut self,
+        rt: &Below<'_, R>,
+        files: &Ram,
+        account: &mut Account,
+    ) -> Result<(), TransferFault> {
+        let away = self.away(rt, files, account)?;
+        if away.len() == self.volumes.all().len() {
+            return Ok(());
+        }
+        if account.moment == Moment::End {
+            self.forgive_undone(files)?;
+        }
+        self.watch(files)?;
+        self.settle_moves(files)?;
+        self.note_copies(files, account)?;
+        let asides = self.begin_moves(rt, files, account)?;
+        let mut departures = self.departures(files, account)?;
+        departures.leave_out(away.as_slice());
+        self.find_copies(files, &mut departures)?;
+        account.is_private = self.loses_private(rt, &departures);
+        for is_new in [true, false] {
+            for (key, departure) in &departures.by_key {
+                if departure.is_new == is_new && !departure.is_within_kind_change {
+                    self.write_here(rt, files, key.as_str(), departure, account)?;
+                }
+            }
+        }
+        self.change_kinds(rt, files, &departures, account)?;
+        self.delete_gone(rt, files, &departures, account)?;
+        if self.rename_all(rt, files)? {
+            self.delete_gone(rt, files, &departures, account)?;
+        }
+        if self.finish_moves(rt, files, asides, account)? {
+            self.delete_gone(rt, files, &departures, account)?;
+        }
+        if account.moment == Moment::End {
+            self.report_waiting(files)?;
+        }
+        self.report_account(account)
+    }
+
+    // The labels of the volumes whose directory or folder is gone. Nothing is written there, and so nothing is deleted in any other.
+    fn away<R: AllocGlobal + Files>(
+        &mut self,
+        rt: &Below<'_, R>,
+        files: &Ram,
+        account: &mut Account,
+    ) -> Result<Vec<String>, TransferFault> {
+        let mut away = Vec::new(self.alloc);
+        for volume in rt.volumes().all() {
+            let label = volume.label.as_str();
+            if !files.look(&volume.place).is_some_and(Entry::is_directory) {
+                self.report_no_directory(volume, account.moment)?;
+            } else if rt.is_gone(label) {
+                self.reports.fail(label, "cannot write", label)?;
+            } else {
+                self.forget(label);
+                continue;
+            }
+            account.add_unwritten(label)?;
+            away.push(volume.label.clone()?)?;
+        }
+        Ok(away)
+    }
+
+    // Reports that the directory of a volume is gone in the Shell's files, unless the script goes on meanwhile.
+    fn report_no_directory(
+        &mut self,
+        volume: &Volume,
+        moment: Moment,
+    ) -> Result<(), TransferFault> {
+        if moment == Moment::Meanwhile {
+            return Ok(());
+        }
+        let path = shell_path(self.alloc, &volume.place)?;
+        self.reports.fail(
+            volume.label.as_str(),
+            "nothing is written, since there is no directory",
+            path.as_str(),
+        )
+    }
+
+    // Deletes what is gone, the deepest first. By now a large file may have got the name.
+    fn delete_gone<R: AllocGlobal + Files>(
+        &mut self,
+        rt: &Below<'_, R>,
+        files: &Ram,
+        departures: &Departures<'_>,
+        account: &mut Account,
+    ) -> Result<(), TransferFault> {
+        for (key, departure) in departures.by_key.iter().rev() {
+            let is_there = self
+                .records
+                .get(key.as_str())
+                .is_some_and(|record| record.is_kept(files.look(&record.place)));
+            if departure.entry.is_none() && !departure.is_within_kind_change && !is_there {
+                self.delete_here(rt, key.as_str(), departure, account)?;
+            }
+        }
+        Ok(())
+    }
+
+    // What was not written, and what the script deleted since, is no longer missed. If it has there what it had at the last comparison,
+    // only a change that is lost is.
+    fn forgive_undone(&mut self, files: &Ram) -> Result<(), TransferFault> {
+        for key in &self.reports.missed()? {
+            let place = self.place_of(key.as_str())?;
+            match self.records.get(key.as_str()) {
+                Some(record) if record.is_kept(files.look(&record.place)) => {
+                    self.reports.settle(key.as_str());
+                }
+                None if files.look(&place).is_none() => {
+                    self.reports.settle(key.as_str());
+                    self.reports.agree(key.as_str());
+                }
+                _ => {}
+            }
+        }
+        Ok(())
+    }
+
+    // Makes way for what is of another kind now, and writes what needs the place. What is moved aside for it is deleted only if all of
+    // it is written and nothing changed aside, otherwise it gets its place back.
+    fn change_kinds<R: AllocGlobal + Files + Clock>(
+        &mut self,
+        rt: &Below<'_, R>,
+        files: &Ram,
+        departures: &Departures<'_>,
+        account: &mut Account,
+    ) -> Result<(), TransferFault> {
+        let written = self.exchange_kinds(rt, files, departures, account);
+        let is_written = written.is_ok()
+            && self.heed_changes_aside(rt, departures, account).is_ok();
+        let finished = self.finish_kind_changes(rt, account, is_written);
+        written?;
+        finished
+    }
+
+    // Moves aside what is in the way, and writes what needs the place.
+    fn exchange_kinds<R: AllocGlobal + Files + Clock>(
+        &mut self,
+        rt: &Below<'_, R>,
+        files: &Ram,
+        departures: &Departures<'_>,
+        account: &mut Account,
+    ) -> Result<(), TransferFault> {
+        for (key, departure) in departures.by_key.iter().rev() {
+            if departure.is_within_kind_change
+                && (departure.changes_kind || departure.entry.is_none())
+            {
+                self.delete_here(rt, key.as_str(), departure, account)?;
+            }
+        }
+        for (key, departure) in &departures.by_key {
+            if departure.is_within_kind_change {
+                self.write_here(rt, files, key.as_str(), departure, account)?;
+            }
+        }
+        Ok(())
+    }
+
+    // The objects whose state in the Shell's files differs from the last comparison. A file whose name is left out is never written: that
+    // is noted.
+    fn departures<'a>(
+        &self,
+        files: &'a Ram,
+        account: &mut Account,
+    ) -> Result<Departures<'a>, TransferFault> {
+        let mut departures = self.known_departures(files)?;
+        for volume in self.volumes.all() {
+            let places = files.contents(&volume.place)?;
+            self.add_new(files, &places, &mut departures, account)?;
+        }
+        Ok(departures)
+    }
+
+    // Those that were there at the last comparison.
+    fn known_departures<'a>(&self, files: &'a Ram) -> Result<Departures<'a>, TransferFault>
+        ensures { IfOk result (λ departures. (q : Bytes) → has_key departures.by_key q ≡ list_any (has_left files.now q) self.now.records.entries) }
+    {
+        let mut departures = Departures::new(self.alloc);
+        for (key, record) in &self.records {
+            let entry = files.look(&record.place);
+            if !record.is_kept(entry) {
+                departures.add(key.clone()?, Departure::of(record, own_entry(entry))?)?;
+            }
+        }
+        Ok(departures)
+    }
+
+    // Adds what is new.
+    fn add_new<'a>(
+        &self,
+        files: &'a Ram,
+        places: &[Place],
+        departures: &mut Departures<'a>,
+        account: &mut Account,
+    ) -> Result<(), TransferFault> {
+        for place in places {
+            let (Some(key), Some(entry)) = (self.key_of(place)?, own_entry(files.look(place)))
+            else {
+                continue;
+            };
+            if self.records.contains_key(key.as_str()) {
+                continue;
+            }
+            let Some(path) = self.path_of(&files.written(place)?)? else {
+                continue;
+            };
+            if !is_key_left_out(key.as_str(), self.options.all) {
+                departures.add(key, Departure::new(path, entry))?;
+            } else {
+                account.add_left_out(path, entry)?;
+            }
+        }
+        Ok(())
+    }
+
+    // Reports what is not deleted.
+    pub(crate) fn report_account(&mut self, account: &Account) -> Result<(), TransferFault> {
+        if account.is_meanwhile() {
+            return Ok(());
+        }
+        self.is_holding = account.is_holding();
+        self.is_lacking = account.has_unwritten() || !account.left_out.is_empty();
+        if account.moment == Moment::End {
+            for path in &account.left_out {
+                self.reports
+                    .report_once("not written, since its name is not shared", path.as_str())?;
+            }
+            for path in &account.copies {
+                self.reports.report_once(
+                    "not written, since the Shell can't hold it",
+                    path.as_str(),
+                )?;
+            }
+        }
+        match account.line(&self.volumes)? {
+            Some(line) => self.reports.report_line(line),
+            None => Ok(()),
+        }
+    }
+}

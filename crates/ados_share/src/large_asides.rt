@@ -1,0 +1,131 @@
+//! Large files that are moved aside, since the script gave their old names to other objects before their new ones were free.
+
+use crate::account::{Account, Aside};
+use crate::departure::move_aside;
+use crate::large_moves::{Moved, renamed};
+use crate::mirror::Mirror;
+use ados_ram::Ram;
+use ados_transfer::{Here, Record, TransferFault, lower};
+use std::io::ErrorKind;
+use std::rt::Files;
+
+impl Mirror {
+    // Moves a large file aside whose new name is in the directory, and gives it.
+    pub(crate) fn set_large_aside<R: AllocGlobal + Files>(
+        &mut self,
+        rt: &R,
+        moved: &Moved,
+        account: &Account,
+    ) -> Result<Option<Aside>, TransferFault> {
+        if moved.new_path.is_none() || account.is_meanwhile() {
+            return Ok(None);
+        }
+        let path = moved.path.as_str();
+        let root = self.volumes.root_of(path);
+        let (beside, mode) = match move_aside(rt, root, path, &Here::Large(moved.stamp)) {
+            Ok(Some(done)) => done,
+            Err(error) if error.kind() == ErrorKind::OutOfMemory => {
+                return Err(TransferFault::NoMemory);
+            }
+            _ => return Ok(None),
+        };
+        let Some((key, record)) = self.records.remove_entry(moved.key.as_str()) else {
+            return Ok(None);
+        };
+        self.forget(key.as_str());
+        Ok(Some(Aside {
+            key,
+            record,
+            beside,
+            mode,
+            moved: None,
+        }))
+    }
+
+    // Gives those that were moved aside their new names, or else their old ones back; gives whether one got its new name.
+    pub(crate) fn rename_asides<R: AllocGlobal + Files>(
+        &mut self,
+        rt: &R,
+        files: &Ram,
+        asides: Vec<Aside>,
+        account: &mut Account,
+    ) -> Result<bool, TransferFault> {
+        let count = asides.len();
+        let mut left = asides;
+        for _ in 0..count {
+            let mut blocked = Vec::new(self.alloc);
+            for aside in left {
+                if let Some(aside) = self.rename_aside(rt, files, aside)? {
+                    blocked.push(aside)?;
+                }
+            }
+            left = blocked;
+        }
+        let is_renamed = left.len() < count;
+        for aside in left {
+            self.return_aside(rt, aside, account)?;
+        }
+        Ok(is_renamed)
+    }
+
+    // Gives one that was moved aside its new name; if that is not free it is given back.
+    fn rename_aside<R: AllocGlobal + Files>(
+        &mut self,
+        rt: &R,
+        files: &Ram,
+        aside: Aside,
+    ) -> Result<Option<Aside>, TransferFault> {
+        let (Some(path), Some(beside)) = (self.new_path(files, &aside.record.place)?, &aside.beside)
+        else {
+            return Ok(Some(aside));
+        };
+        let key = lower(self.alloc, path.as_str())?;
+        if !self.may_have(key.as_str()) {
+            return Ok(Some(aside));
+        }
+        match renamed(rt, beside.as_str(), path.as_str(), &aside.record.stamp)? {
+            Some(stamp) => {
+                let record = aside.record;
+                self.keep(
+                    key,
+                    Record {
+                        path,
+                        stamp,
+                        ..record
+                    },
+                )?;
+                Ok(None)
+            }
+            None => Ok(Some(aside)),
+        }
+    }
+
+    // Gives one that was moved aside its old name back. If something else has that by now it stays where it is, and a line says so.
+    fn return_aside<R: AllocGlobal + Files>(
+        &mut self,
+        rt: &R,
+        aside: Aside,
+        account: &mut Account,
+    ) -> Result<(), TransferFault> {
+        let Aside {
+            key,
+            record,
+            beside,
+            ..
+        } = aside;
+        let Some(beside) = beside else {
+            return Ok(());
+        };
+        let path = record.path.clone()?;
+        match renamed(rt, beside.as_str(), path.as_str(), &record.stamp)? {
+            Some(stamp) => self.keep(key, Record { stamp, ..record }),
+            None => {
+                self.stand_ins.is_lost = true;
+                let whole = self.volumes.whole(beside.as_str())?;
+                let text = format!(in self.alloc; "kept as {whole}")?;
+                account.kept.push(beside)?;
+                self.reports.report(text.as_str(), path.as_str())
+            }
+        }
+    }
+}

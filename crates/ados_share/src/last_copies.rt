@@ -1,0 +1,262 @@
+//! Bytes that this machine has in one file alone while the Shell has them outside of the directory: the file is not deleted.
+
+use crate::departure::{Departure, Departures};
+use crate::mirror::Mirror;
+use crate::moves::{Destination, Elsewhere};
+use ados_ram::{FileBytes, Place, Ram};
+use ados_text::NoMemory;
+use ados_transfer::{
+    Here, Last, Records, TransferFault, Volumes, is_descendant, is_one_name, shell_path,
+};
+use std::alloc::Global;
+use std::collections::BTreeMap;
+use std::rt::Files;
+
+/// What is not deleted in the folder, since the Shell alone has its bytes beside.
+#[derive(Drop)]
+pub struct Waiting {
+    alloc: Global,
+    // The path in the folder, and where the Shell has it, by key.
+    by_key: BTreeMap<String, (String, Elsewhere)>,
+}
+
+impl Waiting {
+    /// Nothing waits.
+    pub fn new(alloc: Global) -> Waiting {
+        Waiting {
+            alloc,
+            by_key: BTreeMap::new(alloc),
+        }
+    }
+
+    /// Nothing waits.
+    pub fn is_empty(&self) -> bool {
+        self.by_key.is_empty()
+    }
+
+    // Something in a folder waits.
+    fn is_in(&self, folder: &str) -> bool {
+        self.by_key
+            .keys()
+            .any(|key| is_descendant(folder, key.as_str()))
+    }
+
+    // The line that reports what waits.
+    fn line(&self, volumes: &Volumes) -> Result<Option<String>, TransferFault> {
+        let Some((path, elsewhere)) = self.by_key.values().next() else {
+            return Ok(None);
+        };
+        let path = volumes.shown(path.as_str())?;
+        let more = self.by_key.len().saturating_sub(1);
+        if more == 0 {
+            return Ok(Some(format!(in self.alloc; "not deleted, since {elsewhere}: {path}")?));
+        }
+        Ok(Some(format!(in self.alloc; "not deleted, since {elsewhere}: {path} and {more} more")?))
+    }
+}
+
+/// A file of the Shell that has bytes.
+#[derive(Drop)]
+pub struct Holder<'a> {
+    place: Place,
+    bytes: &'a FileBytes,
+}
+
+impl Holder<'_> {
+    /// Where it is.
+    pub fn place(&self) -> &Place {
+        &self.place
+    }
+}
+
+/// The files of the Shell that have bytes: those in the directory, and those outside of it.
+#[derive(Drop)]
+pub struct Holders<'a> {
+    inside: Vec<Holder<'a>>,
+    outside: Vec<Holder<'a>>,
+}
+
+impl<'a> Holders<'a> {
+    /// The first file that has these bytes, of those outside if one of them does.
+    pub fn first_with(&self, bytes: &FileBytes) -> Option<&Holder<'a>> {
+        match first_with(self.outside.as_slice(), bytes) {
+            Some(found) => Some(found),
+            None => first_with(self.inside.as_slice(), bytes),
+        }
+    }
+
+    /// A file outside of the directory has these bytes.
+    pub fn has_outside(&self, bytes: &FileBytes) -> bool {
+        first_with(self.outside.as_slice(), bytes).is_some()
+    }
+
+    // The file whose bytes would be lost with memory if those of a file of the folder are deleted or written over. For one that gives
+    // way to what is written in its place (`is_moved`) there is none if a file in the directory has them.
+    fn copy_of(
+        &self,
+        departure: &Departure<'_>,
+        bytes: &FileBytes,
+        is_moved: bool,
+    ) -> Option<&Holder<'a>> {
+        if !departure.is_gone() {
+            return self.first_with(bytes);
+        }
+        if is_moved && first_with(self.inside.as_slice(), bytes).is_some() {
+            return None;
+        }
+        first_with(self.outside.as_slice(), bytes)
+    }
+}
+
+impl Mirror {
+    // Begins an update: nothing waits yet. For each file that is to be deleted or written over the Shell's file is noted which has its
+    // bytes. With `dry` nothing is written over.
+    pub(crate) fn find_copies(
+        &mut self,
+        files: &Ram,
+        departures: &mut Departures<'_>,
+    ) -> Result<(), TransferFault> {
+        self.waiting = Waiting::new(self.alloc);
+        let is_dry = self.options.dry;
+        if departures.by_key.values().all(|departure| departure.is_new
+            || is_dry && !departure.is_gone())
+        {
+            return Ok(());
+        }
+        let holders = self.holders(files)?;
+        for (key, departure) in &mut departures.by_key {
+            let is_moved = departure.is_within_kind_change || is_dry;
+            if let Some(bytes) = bytes_of(&self.records, key.as_str()) {
+                departure.elsewhere = match holders.copy_of(departure, bytes, is_moved) {
+                    Some(found) => Some(Elsewhere::Copy(self.copy_path(files, &found.place)?)),
+                    None => self.destined_elsewhere(files, self.moves.destination(key.as_str()))?,
+                };
+            }
+        }
+        Ok(())
+    }
+
+    // The Shell's files that have bytes.
+    pub(crate) fn holders<'a>(&self, files: &'a Ram) -> Result<Holders<'a>, TransferFault> {
+        let mut holders = Holders {
+            inside: Vec::new(self.alloc),
+            outside: Vec::new(self.alloc),
+        };
+        for place in files.contents(&Place::root(self.alloc))? {
+            let Some(bytes) = files.look(&place).and_then(|entry| entry.bytes()) else {
+                continue;
+            };
+            if bytes.len() == 0 {
+                continue;
+            }
+            if self.volumes.of_place(&place).is_some() {
+                holders.inside.push(Holder { place, bytes })?;
+            } else {
+                holders.outside.push(Holder { place, bytes })?;
+            }
+        }
+        Ok(holders)
+    }
+
+    // The path of a file of the Shell, for lines.
+    pub(crate) fn copy_path(&self, files: &Ram, place: &Place) -> Result<String, TransferFault> {
+        shell_path(self.alloc, &files.written(place)?)
+    }
+
+    // The bytes of an object that is to be deleted or written over are in a file of the Shell, and in no other file of the folder; or it is
+    // a folder in which such a file, or a large one, stays.
+    pub(crate) fn is_last_copy<R: AllocGlobal + Files>(
+        &self,
+        rt: &R,
+        key: &str,
+        departure: &Departure<'_>,
+    ) -> Result<bool, TransferFault> {
+        let Some(record) = self.records.get(key) else {
+            return Ok(false);
+        };
+        match &record.last {
+            Last::Directory => Ok(self.waiting.is_in(key) || self.has_moved_in(key)?),
+            Last::File(bytes) if departure.elsewhere.is_some() => {
+                Ok(!self.is_in_another(rt, key, bytes)?)
+            }
+            Last::File(_) | Last::StandIn(_) => Ok(false),
+        }
+    }
+
+    // The same of a file that is to be written over; or it was moved to a file of the directory that is not written yet, and may never be.
+    pub(crate) fn is_lost_below<R: AllocGlobal + Files>(
+        &self,
+        rt: &R,
+        files: &Ram,
+        key: &str,
+        departure: &Departure<'_>,
+    ) -> Result<bool, TransferFault> {
+        let is_unwritten = match self.moves.destination(key) {
+            Some(Destination::At(place)) => self.is_unwritten(files, place)?,
+            Some(Destination::Replaced) | None => false,
+        };
+        Ok(is_unwritten || self.is_last_copy(rt, key, departure)?)
+    }
+
+    // Another file of the folder than the one with this key has these bytes now. A file that is reached by two paths is one.
+    pub(crate) fn is_in_another<R: AllocGlobal + Files>(
+        &self,
+        rt: &R,
+        key: &str,
+        bytes: &FileBytes,
+    ) -> Result<bool, TransferFault> {
+        let own = self.records.get(key).map(|record| record.path.as_str());
+        for (other, record) in &self.records {
+            if other.as_str() == key || !record.is_file_of(bytes) {
+                continue;
+            }
+            let is_one = own.is_some_and(|own| is_one_name(rt, own, record.path.as_str()));
+            if is_one {
+                continue;
+            }
+            let here = Here::look(rt, self.options.limits, record.path.as_str())?;
+            if here.into_bytes().is_some_and(|found| found == *bytes) {
+                return Ok(true);
+            }
+        }
+        Ok(false)
+    }
+
+    // Notes that an object is not deleted, since its bytes would then be only in memory.
+    pub(crate) fn wait(
+        &mut self,
+        key: &str,
+        departure: &Departure<'_>,
+    ) -> Result<(), TransferFault> {
+        if let Some(elsewhere) = &departure.elsewhere {
+            let path = departure.path.clone()?;
+            self.waiting.by_key.insert(
+                String::from_str(self.alloc, key)?,
+                (path, elsewhere.copy()?),
+            )?;
+        }
+        Ok(())
+    }
+
+    // Reports at the end what is not deleted, since its bytes would be gone with the Shell's files: that of files whose only other copy is
+    // outside of the directory, and large files whose stand-ins are.
+    pub(crate) fn report_waiting(&mut self, files: &Ram) -> Result<(), TransferFault> {
+        if let Some(line) = self.waiting.line(&self.volumes)? {
+            self.reports.report_line(line)?;
+        }
+        self.report_outside(files)
+    }
+}
+
+// The bytes of the record of a file.
+fn bytes_of<'a>(records: &'a Records, key: &str) -> Option<&'a FileBytes> {
+    match records.get(key).map(|record| &record.last) {
+        Some(Last::File(bytes)) => Some(bytes),
+        _ => None,
+    }
+}
+
+// The first file that has these bytes.
+fn first_with<'a, 'b>(holders: &'a [Holder<'b>], bytes: &FileBytes) -> Option<&'a Holder<'b>> {
+    holders.iter().find(|holder| holder.bytes == bytes)
+}

@@ -1,0 +1,33 @@
+#![tactic(auto)]
+//! Folders of this machine that are kept alike with directories of the Shell's files: what changed on either side, and what is done
+//! about it on the other one.
+
+mod account;
+mod arrival_plan;
+mod arrivals;
+mod backups;
+mod changes;
+mod deleted_copies;
+mod departure;
+mod departures;
+mod fit;
+mod large_asides;
+mod large_copies;
+mod large_moves;
+mod last_copies;
+mod mirror;
+mod moves;
+mod places;
+mod remainders;
+mod removals;
+mod reports;
+mod second_look;
+mod start_place;
+mod temporaries;
+mod watches;
+mod writes;
+
+pub use account::Moment;
+pub use arrivals::Arrival;
+pub use mirror::Mirror;
+pub use start_place::StartPlace;

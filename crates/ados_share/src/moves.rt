@@ -1,0 +1,276 @@
+//! Where files of the folder went in the Shell's files: each Rename is followed, so that a file that was moved out of the directory is
+//! known there, whatever its bytes are by then.
+ghost use Rattle.std.specs.Prelude.{◌≡◌, IfOk, None, OnErr, OnOk, Some, string_bytes};
+ghost use Rattle.std.specs.Option.{option_copied};
+ghost use Rattle.std.specs.BTreeMap.{IsUnchanged, get_by_text};
+ghost use Rattle.std.specs.FinMap as map;
+ghost use Rattle.ados_ram.specs.Place.{key_of};
+ghost use Rattle.ados_share.specs.Moves.{destination_after, is_deleted, is_file};
+ghost use Rattle.ados_share.specs.Records.{Sets};
+
+use crate::mirror::Mirror;
+use ados_ram::{Place, Ram};
+use ados_text::NoMemory;
+use ados_transfer::{Last, Record, TransferFault};
+use std::alloc::Global;
+use std::collections::BTreeMap;
+use std::fmt;
+use std::fmt::{Display, Formatter, Write};
+
+/// Where a file of the folder went.
+#[derive(Drop)]
+pub enum Destination {
+    /// It is at this place.
+    At(Place),
+    /// What it was moved to gave way to what came in from the folder.
+    Replaced,
+}
+
+/// What was moved, each by the key of the file of the folder that it was at the last comparison.
+#[derive(Drop)]
+pub struct Moves {
+    by_key: BTreeMap<String, Destination>,
+}
+
+impl Moves {
+    /// Nothing was moved.
+    pub fn new(alloc: Global) -> Moves {
+        Moves {
+            by_key: BTreeMap::new(alloc),
+        }
+    }
+
+    /// Where the file of this key went.
+    pub fn destination(&self, key: &str) -> Option<&Destination>
+        ensures { option_copied result ≡ get_by_text self.now.by_key key.now }
+    {
+        self.by_key.get(key)
+    }
+
+    /// The same, as a value of its own.
+    pub fn copy(&self, key: &str) -> Result<Option<Destination>, NoMemory>
+        ensures { IfOk result (λ destination. destination ≡ get_by_text self.now.by_key key.now) }
+    {
+        match self.destination(key) {
+            Some(destination) => Ok(Some(destination.copy()?)),
+            None => Ok(None),
+        }
+    }
+
+    /// Where the file of this key went, which is followed no longer.
+    pub fn take(&mut self, key: &str) -> Option<Destination>
+        ensures value { result ≡ get_by_text self.old.by_key key.now }
+        ensures taken { Sets self.old.by_key self.new.by_key key.now None }
+    {
+        self.by_key.remove(key)
+    }
+
+    /// The file of this key went there. If there was no memory, nothing changed.
+    pub fn add(&mut self, key: String, destination: Destination) -> Result<(), TransferFault>
+        ensures added { OnOk result (Sets self.old.by_key self.new.by_key (string_bytes key) (Some destination)) }
+        ensures unchanged { OnErr result (IsUnchanged self.old.by_key self.new.by_key) }
+    {
+        self.by_key.insert(key, destination)?;
+        Ok(())
+    }
+
+    // Another object was moved to this place.
+    fn has_at(&self, place: &Place) -> bool {
+        self.by_key.values().any(|other| matches!(other, Destination::At(other) if other == place))
+    }
+
+    // What was moved before moves along.
+    fn carry(&mut self, from: &Place, to: &Place) -> Result<(), NoMemory> {
+        for destination in self.by_key.values_mut() {
+            destination.carry(from, to)?;
+        }
+        Ok(())
+    }
+
+    /// What is at or below a place gives way to what comes in from the folder.
+    pub fn note_replaced(&mut self, place: &Place) {
+        for destination in self.by_key.values_mut() {
+            if matches!(destination, Destination::At(other) if other.names().starts_with(place.names()))
+            {
+                *destination = Destination::Replaced;
+            }
+        }
+    }
+}
+
+impl Destination {
+    /// An equal value.
+    pub fn copy(&self) -> Result<Destination, NoMemory>
+        ensures { IfOk result (λ destination. destination ≡ self.now) }
+    {
+        Ok(match self {
+            Destination::At(place) => Destination::At(place.copy()?),
+            Destination::Replaced => Destination::Replaced,
+        })
+    }
+
+    /// It moves along with an object that was renamed.
+    pub fn carry(&mut self, from: &Place, to: &Place) -> Result<(), NoMemory>
+        ensures { OnOk result (self.new ≡ destination_after from.now to.now self.old) }
+    {
+        if let Destination::At(place) = self {
+            *self = Destination::At(place.carried(from, to)?);
+        }
+        Ok(())
+    }
+
+    /// The script deleted what was moved.
+    pub fn is_deleted(&self, files: &Ram) -> bool
+        ensures { result ≡ is_deleted files.now self.now }
+    {
+        match self {
+            Destination::At(place) => !is_file(files, place),
+            Destination::Replaced => false,
+        }
+    }
+}
+
+/// Where the Shell has a file of the folder, in most cases outside of the directory.
+#[derive(Drop)]
+pub enum Elsewhere {
+    /// A file of this path has its bytes.
+    Copy(String),
+    /// It was moved to this path, and other bytes are there by now.
+    Moved(String),
+    /// It had a copy that gave way to what came in from the folder.
+    Replaced,
+}
+
+impl Elsewhere {
+    /// An equal value.
+    pub fn copy(&self) -> Result<Elsewhere, NoMemory> {
+        Ok(match self {
+            Elsewhere::Copy(path) => Elsewhere::Copy(path.clone()?),
+            Elsewhere::Moved(path) => Elsewhere::Moved(path.clone()?),
+            Elsewhere::Replaced => Elsewhere::Replaced,
+        })
+    }
+}
+
+impl Display for Elsewhere {
+    fn fmt<W: Write>(&self, f: &mut Formatter<W>) -> fmt::Result {
+        match self {
+            Elsewhere::Copy(path) => write!(f, "its only other copy is {path}"),
+            Elsewhere::Moved(path) => write!(f, "it was moved to {path} and changed"),
+            Elsewhere::Replaced => f.write_str("this machine's was kept in place of its copy"),
+        }
+    }
+}
+
+impl Mirror {
+    /// An object of the Shell's files was renamed from one place to another: the files of the folder that were at the old place or below it
+    /// are followed to the new one.
+    pub fn follow(&mut self, from: &Place, to: &Place) -> Result<(), TransferFault> {
+        let mut begun = Vec::new(self.alloc);
+        for (key, record) in &self.records {
+            if self.begins_to_move(key.as_str(), record, from) {
+                begun.push((key.clone()?, record.place.carried(from, to)?))?;
+            }
+        }
+        self.moves.carry(from, to)?;
+        self.backups.carry(from, to)?;
+        for (key, place) in begun {
+            self.moves.add(key, Destination::At(place))?;
+        }
+        Ok(())
+    }
+
+    // What is at or below a place is the file of a record, which is not followed yet; not another object that was moved to its place.
+    fn begins_to_move(&self, key: &str, record: &Record, from: &Place) -> bool {
+        matches!(&record.last, Last::File(bytes) if bytes.len() > 0)
+            && record.place.names().starts_with(from.names())
+            && self.moves.destination(key).is_none()
+            && !self.moves.has_at(&record.place)
+    }
+
+    /// After an event: what the script deleted is followed no longer, so that another object in its place is not taken for it.
+    pub fn forget_deleted(&mut self, files: &Ram) -> Result<(), TransferFault> {
+        let mut deleted = Vec::new(self.alloc);
+        for (key, destination) in &self.moves.by_key {
+            if destination.is_deleted(files) {
+                deleted.push(key.clone()?)?;
+            }
+        }
+        for key in &deleted {
+            self.moves.take(key.as_str());
+        }
+        self.backups.forget_deleted(files);
+        Ok(())
+    }
+
+    // What is in its place again as it was at the last comparison is followed no longer.
+    pub(crate) fn settle_moves(&mut self, files: &Ram) -> Result<(), TransferFault> {
+        let mut settled = Vec::new(self.alloc);
+        for key in self.moves.by_key.keys() {
+            let is_kept = match self.records.get(key.as_str()) {
+                Some(record) => record.is_kept(files.look(&record.place)),
+                None => true,
+            };
+            if is_kept {
+                settled.push(key.clone()?)?;
+            }
+        }
+        for key in &settled {
+            self.moves.take(key.as_str());
+        }
+        Ok(())
+    }
+
+    // Where the Shell has what was moved, if that would be gone with its files, or gave way to what came in.
+    pub(crate) fn destined_elsewhere(
+        &self,
+        files: &Ram,
+        destination: Option<&Destination>,
+    ) -> Result<Option<Elsewhere>, TransferFault> {
+        match destination {
+            Some(Destination::At(place)) if self.is_out(files, place) => {
+                Ok(Some(Elsewhere::Moved(self.copy_path(files, place)?)))
+            }
+            Some(Destination::Replaced) => Ok(Some(Elsewhere::Replaced)),
+            _ => Ok(None),
+        }
+    }
+
+    // The same, or where it is in a directory of the share, if the folder does not have it there as it is now.
+    pub(crate) fn unwritten_elsewhere(
+        &self,
+        files: &Ram,
+        destination: Option<&Destination>,
+    ) -> Result<Option<Elsewhere>, TransferFault> {
+        match destination {
+            Some(Destination::At(place)) if self.is_unwritten(files, place)? => {
+                Ok(Some(Elsewhere::Moved(self.copy_path(files, place)?)))
+            }
+            _ => self.destined_elsewhere(files, destination),
+        }
+    }
+
+    // A file is at a place that is in a directory of the share, and it is not what was there at the last comparison.
+    pub(crate) fn is_unwritten(&self, files: &Ram, place: &Place) -> Result<bool, TransferFault> {
+        let Some(key) = self.key_of(place)? else {
+            return Ok(false);
+        };
+        let is_written = self
+            .records
+            .get(key.as_str())
+            .is_some_and(|record| record.is_kept(files.look(place)));
+        Ok(is_file(files, place) && !is_written)
+    }
+
+    // A file is at a place that is in no directory of the share.
+    fn is_out(&self, files: &Ram, place: &Place) -> bool {
+        self.volumes.of_place(place).is_none() && is_file(files, place)
+    }
+}
+
+// A file is at a place.
+fn is_file(files: &Ram, place: &Place) -> bool
+    ensures { result ≡ is_file (map.get files.now (key_of place.now)) }
+{
+    files.look(place).is_some_and(|entry| !entry.is_directory())
+}

@@ -1,0 +1,74 @@
+//! A second look at what was moved aside, before it goes: what another program wrote to it meanwhile is nowhere else.
+
+use crate::account::{Account, Aside};
+use crate::departure::{Departure, Departures, remove};
+use crate::mirror::Mirror;
+use ados_transfer::{Below, Decision, Here, Last, Stamp, TransferFault, holds};
+use std::fs;
+use std::rt::Files;
+
+impl Mirror {
+    // If a file that was moved aside has changed since, what took its place is deleted again. So it is not written, and all that was
+    // moved aside gets its place back.
+    pub(crate) fn heed_changes_aside<R: AllocGlobal + Files>(
+        &mut self,
+        rt: &Below<'_, R>,
+        departures: &Departures<'_>,
+        account: &mut Account,
+    ) -> Result<(), TransferFault> {
+        if account.has_unwritten() || !account.aside.iter().any(|aside| has_changed(rt, aside)) {
+            return Ok(());
+        }
+        for (key, departure) in departures.by_key.iter().rev() {
+            if departure.is_within_kind_change {
+                self.take_back(rt, key.as_str(), departure, account)?;
+            }
+        }
+        for aside in &account.aside {
+            if has_changed(rt, aside) {
+                self.reports.fail(
+                    aside.key.as_str(),
+                    "both changed, kept this machine's",
+                    aside.record.path.as_str(),
+                )?;
+            }
+        }
+        Ok(())
+    }
+
+    // Deletes an object that was written, if it is still that.
+    fn take_back<R: AllocGlobal + Files>(
+        &mut self,
+        rt: &Below<'_, R>,
+        key: &str,
+        departure: &Departure<'_>,
+        account: &mut Account,
+    ) -> Result<(), TransferFault> {
+        let Some(entry) = departure.entry else {
+            return Ok(());
+        };
+        let path = departure.path.as_str();
+        let here = Here::look(rt, self.options.limits, path)?;
+        if here.decision(None, Some(entry)) == Decision::Keep {
+            // What cannot be deleted keeps the place, and a line says where the other object is.
+            let _ = remove(rt, path, &here);
+        }
+        self.forget(key);
+        account.add_unwritten_entry(path, entry)
+    }
+}
+
+// A file that was moved aside is not what it was.
+fn has_changed<R: AllocGlobal + Files>(rt: &R, aside: &Aside) -> bool {
+    let Some(beside) = &aside.beside else {
+        return false;
+    };
+    match &aside.record.last {
+        Last::File(bytes) => !holds(rt, beside.as_str(), bytes),
+        Last::StandIn(_) => !fs::symlink_metadata(rt, beside.as_str()).is_ok_and(|found| aside
+            .record
+            .stamp
+            .is_same_file(&Stamp::of(&found))),
+        Last::Directory => false,
+    }
+}

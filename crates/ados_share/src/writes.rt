@@ -1,0 +1,243 @@
+//! How an object of the Shell's files is written to the folder of a share.
+ghost use Rattle.std.specs.Prelude.{◌≡◌, IfOk};
+ghost use Rattle.ados_ram.specs.Entry.{bytes_of};
+ghost use Rattle.ados_share.specs.Account.{is_moved_away};
+
+use crate::account::Account;
+use crate::backups::needs_backup;
+use crate::departure::{Departure, Departures, write_entry};
+use crate::mirror::Mirror;
+use ados_ram::{Entry, Ram};
+use ados_text::NoMemory;
+use ados_transfer::{
+    Decision, Draft, Here, Last, Record, Stamp, TransferFault, is_part_of, no_memory,
+};
+use std::os::unix::fs::PermissionsExt;
+use std::rt::Files;
+use std::time::Clock;
+use std::{fs, io};
+
+impl Mirror {
+    // Writes an object to this machine if it may be. What is not written is noted; once that is so, nothing takes the place of an
+    // object of another kind.
+    pub(crate) fn write_here<R: AllocGlobal + Files + Clock>(
+        &mut self,
+        rt: &R,
+        files: &Ram,
+        key: &str,
+        departure: &Departure<'_>,
+        account: &mut Account,
+    ) -> Result<(), TransferFault> {
+        let path = departure.path.as_str();
+        let Some(entry) = departure.entry else {
+            return Ok(());
+        };
+        if departure.is_within_kind_change && account.has_unwritten() {
+            return Ok(());
+        }
+        if departure.is_within_kind_change && self.options.dry {
+            return self.reports.report_once("would write", path);
+        }
+        let here = Here::look(rt, self.options.limits, path)?;
+        let record = self.records.get(key);
+        let is_large = record.is_some_and(Record::is_stand_in);
+        match here.decision(record, Some(entry)) {
+            Decision::Keep => match here.stamp() {
+                Some(stamp) => self.keep_written(rt, (key, path), entry, stamp),
+                None => Ok(()),
+            },
+            Decision::Bring => Ok(()),
+            Decision::Conflict => {
+                account.add_unwritten_entry(path, entry)?;
+                self.not_touched(key, path, &here, "cannot write", is_large)
+            }
+            Decision::Write if self.options.dry => self.reports.report_once("would write", path),
+            Decision::Write => {
+                let mode = self.mode_of(rt, files, entry, account)?;
+                let is_last = self.is_lost_below(rt, files, key, departure)?;
+                let draft = Draft::new(entry, &here, mode, is_last);
+                self.write(rt, (key, path), &draft, account)
+            }
+        }
+    }
+
+    // Writes an object to this machine; not in place of a file whose bytes were moved to one that is not written.
+    fn write<R: AllocGlobal + Files + Clock>(
+        &mut self,
+        rt: &R,
+        object: (&str, &str),
+        draft: &Draft<'_>,
+        account: &mut Account,
+    ) -> Result<(), TransferFault> {
+        let (key, path) = object;
+        if is_moved_away(draft, account)? {
+            account.add_unwritten_entry(path, draft.entry)?;
+            if account.is_meanwhile() {
+                return Ok(());
+            }
+            // It comes in again.
+            self.forget(key);
+            return account.hold(path);
+        }
+        match self.replace(rt, object, draft) {
+            Ok(Some(stamp)) => self.keep_written(rt, object, draft.entry, stamp),
+            Ok(None) => {
+                account.add_unwritten_entry(path, draft.entry)?;
+                self.reports.report_kept(key, path, false)
+            }
+            Err(error) => {
+                account.add_unwritten_entry(path, draft.entry)?;
+                self.not_done(&error, "cannot write", key, path)
+            }
+        }
+    }
+
+    // Writes an object to this machine, after a backup of what it takes the place of, if that needs one.
+    fn replace<R: AllocGlobal + Files>(
+        &mut self,
+        rt: &R,
+        object: (&str, &str),
+        draft: &Draft<'_>,
+    ) -> io::Result<Option<Stamp>> {
+        let Ok(needs_backup) = needs_backup(rt.alloc(), draft) else {
+            return Err(no_memory());
+        };
+        if needs_backup {
+            self.back_up(rt, object, draft.here)?;
+        }
+        write_entry(rt, object.1, draft)
+    }
+
+    // A file is gone that gave no rights to group and others, and no object that is written has its bytes.
+    pub(crate) fn loses_private<R: Files>(&self, rt: &R, departures: &Departures<'_>) -> bool {
+        departures.by_key.iter().any(|(key, departure)| {
+            departure.is_gone()
+                && is_private(rt, departure.path.as_str())
+                && !self.is_moved(key.as_str(), departures)
+        })
+    }
+
+    // An object that is written has the bytes of the file with this key.
+    fn is_moved(&self, key: &str, departures: &Departures<'_>) -> bool {
+        let Some(record) = self.records.get(key) else {
+            return false;
+        };
+        departures.by_key.values().any(|departure| {
+            departure
+                .entry
+                .and_then(Entry::bytes)
+                .is_some_and(|bytes| record.is_file_of(bytes))
+        })
+    }
+
+    // The mode of the file of the folder that has the bytes of an entry: one that the Shell no longer has, since the entry may be its
+    // new place, or else one of which the entry may be a copy, without the rights of others to write.
+    fn mode_of<R: AllocGlobal + Files>(
+        &self,
+        rt: &R,
+        files: &Ram,
+        entry: &Entry,
+        account: &Account,
+    ) -> Result<Option<u32>, TransferFault> {
+        let Some(bytes) = entry.bytes() else {
+            return Ok(None);
+        };
+        let mut original = None;
+        for record in self.records.values() {
+            if record.is_file_of(bytes) {
+                if !record.is_kept(files.look(&record.place)) {
+                    return self.mode_here(rt, record);
+                }
+                original = Some(record);
+            }
+        }
+        let moved = match account.mode_of(bytes) {
+            Some(mode) => Some(mode),
+            None => self.backups.mode_of(bytes),
+        };
+        match (moved, original) {
+            (Some(mode), _) => Ok(Some(mode)),
+            (None, Some(record)) if bytes.len() > 0 => {
+                let mode = self.mode_here(rt, record)?;
+                Ok(mode.map(|mode| mode & 0o755))
+            }
+            _ if account.is_private && entry.bits.script => Ok(Some(0o700)),
+            _ if account.is_private => Ok(Some(0o600)),
+            _ => Ok(None),
+        }
+    }
+
+    // The mode of a file of the folder.
+    fn mode_here<R: AllocGlobal + Files>(
+        &self,
+        rt: &R,
+        record: &Record,
+    ) -> Result<Option<u32>, TransferFault> {
+        match fs::symlink_metadata(rt, record.path.as_str()) {
+            Ok(found) if found.is_file() => Ok(Some(found.permissions().mode())),
+            _ => Ok(None),
+        }
+    }
+
+    // Reports that this machine's object stays, or with this text that it can't be looked at.
+    pub(crate) fn not_touched(
+        &mut self,
+        key: &str,
+        path: &str,
+        here: &Here,
+        text: &str,
+        is_large: bool,
+    ) -> Result<(), TransferFault> {
+        if here.is_unread() {
+            self.reports.fail(key, text, path)
+        } else {
+            self.reports.report_kept(key, path, is_large)
+        }
+    }
+
+    // Reports that something could not be done.
+    pub(crate) fn not_done(
+        &mut self,
+        error: &io::Error,
+        text: &str,
+        key: &str,
+        path: &str,
+    ) -> Result<(), TransferFault> {
+        if error.kind() == io::ErrorKind::OutOfMemory {
+            return Err(TransferFault::NoMemory);
+        }
+        self.reports.fail(key, text, path)
+    }
+
+    // Keeps an object as it is on both sides.
+    fn keep_written<R: Clock>(
+        &mut self,
+        rt: &R,
+        object: (&str, &str),
+        entry: &Entry,
+        stamp: Stamp,
+    ) -> Result<(), TransferFault> {
+        let (key, path) = object;
+        self.reports.agree(key);
+        self.keep_as(key, path, Last::of(entry)?, stamp, &self.now(rt))
+    }
+}
+
+// A file is at a path whose mode gives no rights to group and others.
+fn is_private<R: Files>(rt: &R, path: &str) -> bool {
+    fs::symlink_metadata(rt, path).is_ok_and(|found| found.is_file()
+        && found.permissions().mode() & 0o077 == 0)
+}
+
+// What a file of this machine holds is in a file of the Shell that is not written, and not in the one that takes its place.
+fn is_moved_away(draft: &Draft<'_>, account: &Account) -> Result<bool, NoMemory>
+    ensures { IfOk result (λ is. is ≡ is_moved_away draft.now.here.now (bytes_of draft.now.entry.now) account.now.bytes.items) }
+{
+    let Here::File { bytes, .. } = draft.here else {
+        return Ok(false);
+    };
+    if is_part_of(account.alloc, bytes, draft.entry)? {
+        return Ok(false);
+    }
+    account.is_in_unwritten(bytes)
+}

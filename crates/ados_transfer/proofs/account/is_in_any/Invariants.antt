@@ -1,7 +1,0 @@
-use Rattle.std.proofs.Common.{◌≡◌, drop}
-use Rattle.std.specs.List.{list_any}
-use Rattle.ados_transfer.specs.Account.{is_substring}
-use Rattle.ados_transfer.proofs.account.is_in_any.Given as goal
-
-abbrev pub invariant-loop-file : goal.invariant-loop-file
-invariant-loop-file l = list_any (is_substring l.bytes) (drop l.file-index l.files) ≡ list_any (is_substring l.bytes) l.files
