@@ -77,10 +77,11 @@ pub command_here : (dialect : Dialect) (lines sample : List Text) (number : ℕ)
 command_here dialect lines sample number read command here means = (here.0, here.1, here.2, (read, here.3, means, refl))
 
 -- its arguments have a fault
-pub refused_so : (dialect : Dialect) (lines sample : List Text) (number : ℕ) (command : Builtin) (args name template : Text) (fault : ArgFault) → IsSample lines sample
-    → IsHere lines sample number (λ raw. IsCommand dialect raw command args) → Answers dialect command args fault → IsSound dialect lines number (problem.Arguments name template fault)
-refused_so dialect lines sample number command args name template fault is here answers =
-    (refl, (sample, is, (here.0, here.1, here.2, (command, args, here.3, answers))))
+pub refused_so : (dialect : Dialect) (lines sample : List Text) (number : ℕ) (command : Builtin) (args name template : Text) (found : Option ArgFault) (fault : ArgFault) → IsSample lines sample
+    → IsHere lines sample number (λ raw. IsCommand dialect raw command args) → IfSome found (Answers dialect command args) → found ≡ Some fault
+    → IsSound dialect lines number (problem.Arguments name template fault)
+refused_so dialect lines sample number command args name template found fault is here answers same =
+    (refl, (sample, is, (here.0, here.1, here.2, (command, args, here.3, subst (λ one. IfSome one (Answers dialect command args)) same answers))))
 
 ends : (dialect : Dialect) (command : FlowCommand) (text : Text) (args : List Arg) (sample : List Text) (number : ℕ) → fill_of (template_of dialect (Flow command)) text ≡ Ok args
     → ((shared : SharedState) (view : View) → shared.dialect ≡ dialect → row_of command shared (Some (record { lines = sample; line = number })) view args ≡ Quits (fail_codes OBJECT_NOT_FOUND))
@@ -113,7 +114,7 @@ lost_so dialect lines sample number command text args what is here fill quits to
 
 -- what is found of a command that may be a jump
 pub jump_so : {E : Type 0} (dialect : Dialect) (lines sample : List Text) (number : ℕ) (command : Builtin) (flow : FlowCommand) (template text bytes : Text) (args : List Arg)
-    (result : Result (Option Problem) E) → command ≡ Flow flow → template ≡ template_of dialect command → bytes ≡ text → fill_of template bytes ≡ Ok args
+    (result : Result (Option Problem) E) → command ≡ Flow flow → template ≡ template_of dialect (Flow flow) → bytes ≡ text → fill_of template bytes ≡ Ok args
     → IsSample lines sample → IsHere lines sample number (λ raw. IsCommand dialect raw command text)
     → IfOk result (λ found. IfSome found (λ what. told_sign what ≡ None)) → IfOk result (λ found. IfSome found (λ what. lost_jump what ≡ Some flow))
     → IfOk result (λ found. is_some found ≡ true → (shared : SharedState) (view : View) → shared.dialect ≡ dialect
@@ -123,5 +124,5 @@ jump_so dialect lines sample number command flow template text bytes args (Err e
 jump_so dialect lines sample number command flow template text bytes args (Ok None) flows same whole fill is here told kind quits = tt
 jump_so dialect lines sample number command flow template text bytes args (Ok (Some what)) flows same whole fill is here told kind quits =
     lost_so dialect lines sample number flow text args what is (subst (λ c. IsHere lines sample number (λ raw. IsCommand dialect raw c text)) flows here)
-    (subst (λ c. fill_of (template_of dialect c) text ≡ Ok args) flows (subst (λ b. fill_of (template_of dialect command) b ≡ Ok args) whole (subst (λ t. fill_of t bytes ≡ Ok args) same fill)))
+    (subst (λ b. fill_of (template_of dialect (Flow flow)) b ≡ Ok args) whole (subst (λ t. fill_of t bytes ≡ Ok args) same fill))
     (quits refl) told kind

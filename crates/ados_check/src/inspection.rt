@@ -81,9 +81,24 @@ fn push_idle_directives(
     ensures so { OnOk result (StaySo found.old.items found.new.items) }
 {
     for (place, line) in written.iter().enumerate() {
-        if !is_dotted && is_directive(line.as_bytes()) {
-            push_note(found, place.saturating_add(1), Problem::IdleDirective)?;
-        }
+        push_idle_directive(line.as_bytes(), is_dotted, place.saturating_add(1), found)?;
     }
+    Ok(())
+}
+
+// Adds a line that is a directive of such a script.
+fn push_idle_directive(
+    line: &[u8],
+    is_dotted: bool,
+    number: usize,
+    found: &mut Vec<Finding>,
+) -> Result<(), NoMemory>
+    ensures same { OnOk result (SaysTheSame found.old.items found.new.items) }
+    ensures so { OnOk result (StaySo found.old.items found.new.items) }
+{
+    if is_dotted || !is_directive(line) {
+        return Ok(());
+    }
+    push_note(found, number, Problem::IdleDirective)?;
     Ok(())
 }
