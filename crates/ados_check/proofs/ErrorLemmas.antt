@@ -1,5 +1,5 @@
 -- What errors say of their lines.
-use Rattle.std.proofs.Common.{ℕ, zero, suc, ◌≡◌, ◌∙◌, ◌==◌, ◌||◌, ◌<◌, List, [], ◌∷◌, ◌++◌, Bool, true, false, cond, Option, Some, None, refl, ap, sym, subst, arith, length, slice_index_or}
+use Rattle.std.proofs.Common.{ℕ, zero, suc, ◌≡◌, ◌∙◌, ◌==◌, ◌||◌, ◌<◌, List, [], ◌∷◌, ◌++◌, Bool, true, false, cond, Option, Some, None, refl, ap, subst, arith, length, slice_index_or}
 use Rattle.std.specs.Prelude.{IfSome}
 use Rattle.std.specs.List.{All, filter, flat_map, list_any}
 use Rattle.std.proofs.lemmas.Bool.{eq-eqb, eqb-true}

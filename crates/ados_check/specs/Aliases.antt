@@ -1,7 +1,7 @@
 -- The words that lines of a script make aliases of.
-use Rattle.std.specs.Prelude.{ℕ, ◌≡◌, List, [], ◌∷◌, ◌==◌, ◌||◌, Bool, true, false, not, Option, Some, None, is_some, take, codes, if◌then◌else◌}
+use Rattle.std.specs.Prelude.{ℕ, ◌≡◌, List, [], ◌∷◌, ◌==◌, ◌||◌, Bool, false, not, Option, Some, None, is_some, take, codes, if◌then◌else◌}
 use Rattle.std.specs.List.{list_any, prefix_len}
-use Rattle.ados_text.specs.Text.{Bytes, Text, is_same}
+use Rattle.ados_text.specs.Text.{Text, is_same}
 use Rattle.ados_items.specs.Parts.{first_word, rest_of, trimmed_text}
 use Rattle.ados_vars.specs.Vars.{value_in}
 use Rattle.ados_check.specs.declared.made_aliases.MadeAliases.{MadeAliases}

@@ -1,5 +1,5 @@
 -- Bytes above 127 in the lines of a script's file, and those of which problems speak.
-use Rattle.std.specs.Prelude.{ℕ, zero, suc, ◌≡◌, ◌==◌, ◌&&◌, ◌||◌, Bool, true, false, List, [], ◌∷◌, Option, Some, None, get_or, if◌then◌else◌}
+use Rattle.std.specs.Prelude.{ℕ, zero, suc, ◌≡◌, ◌==◌, ◌&&◌, ◌||◌, Bool, false, List, [], ◌∷◌, Option, Some, None, get_or, if◌then◌else◌}
 use Rattle.std.specs.List.{filter, find, flat_map, slice_split}
 use Rattle.ados_text.specs.Text.{Bytes, is_past_ascii}
 use Rattle.ados_text.specs.Lines.{is_newline}

@@ -1,4 +1,3 @@
-use Rattle.std.proofs.Common.{rules, refl, ◌∙◌}
 use Rattle.std.specs.Fmt.{decimal}
 use Rattle.ados_text.specs.Lines.{lines_of}
 use Rattle.ados_check.proofs.DirectiveLemmas.{told_template}

@@ -1,4 +1,4 @@
-use Rattle.std.proofs.Common.{◌≡◌, ◌∙◌, subst, sym}
+use Rattle.std.proofs.Common.{◌∙◌, subst}
 use Rattle.ados_text.specs.Lines.{lines_of}
 use Rattle.ados_check.specs.Errors.{AreSo}
 use Rattle.ados_check.proofs.ErrorLemmas.{all_so}

@@ -1,4 +1,4 @@
-use Rattle.ados_check.proofs.ErrorLemmas.{bad_so, same_so}
+use Rattle.ados_check.proofs.ErrorLemmas.{bad_so}
 use Rattle.ados_check.proofs.inspection.push_problems.Goals as goal
 
 pub returns-in_ok-push_other-in-Bad-clause-so : goal.returns-in_ok-push_other-in-Bad-clause-so

@@ -1,5 +1,5 @@
 use Rattle.std.proofs.Common.{ap, sym, length}
-use Rattle.ados_check.proofs.LookLemmas.{fault_so, long_so, ready_here}
+use Rattle.ados_check.proofs.LookLemmas.{long_so}
 use Rattle.ados_check.proofs.look.Look.plain_problem.Goals as goal
 
 pub returns-then-bytes-gt-LINE_BYTES : goal.returns-then-bytes-gt-LINE_BYTES
