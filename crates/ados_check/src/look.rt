@@ -1,5 +1,5 @@
 //! The look at the lines of a script: the problem of each one.
-ghost use Rattle.std.specs.Prelude.{◌≡◌, Some, None, Ok, IfOk, IfSome, OnOk};
+ghost use Rattle.std.specs.Prelude.{◌≡◌, Some, Ok, IfOk, IfSome, OnOk};
 ghost use Rattle.std.specs.Option.{option_copied};
 ghost use Rattle.ados_script.specs.Lines.{line_of};
 ghost use Rattle.ados_line.specs.declared.lines.Expanded.TheVariants.{Ready};
