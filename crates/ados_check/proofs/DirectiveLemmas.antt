@@ -14,7 +14,7 @@ use Rattle.ados_subst.specs.Faults.{Gives}
 use Rattle.ados_subst.specs.Lines.{substituted_line}
 use Rattle.ados_subst.specs.References.{reference_value}
 use Rattle.ados_subst.specs.Scripts.{directive_text, is_dotted, lines_after_directive, lines_from_line, script_of, substituted_lines, with_line}
-use Rattle.ados_check.specs.Directives.{HasFault, IsNeverCalled}
+use Rattle.ados_check.specs.Directives.{HasFault, IsNeverCalled, IsSample}
 use Rattle.ados_check.proofs.AlikeLemmas.{AreAlike, Follows, StayBad, Stays, directive-follows, is_of_arguments, is_of_template}
 
 -- a fault below a line is one of the line and what is below it
@@ -102,3 +102,9 @@ pub told_template : (lines : List Text) (args : Bytes) (process : Text) (line : 
 told_template lines args process line result why of_args (inl none) is args-is bad = cc
 told_template lines args process line result why of_args (inr gives) is args-is bad =
     bad_template lines args process line (sym gives ∙ is ∙ ap Err (args-is ∙ ap fault.Args bad))
+
+-- the lines that Execute gives with some arguments
+pub is_sample : (lines : List Text) (args : Bytes) (process : Text) (result : Result (List Text) SubstFault) (found : List Text) → Gives result (script_of lines args process) → result ≡ Ok found
+    → IsSample lines found
+is_sample lines args process result found (inl none) is = cc
+is_sample lines args process result found (inr gives) is = (args, process, sym gives ∙ is)

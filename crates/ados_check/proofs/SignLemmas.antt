@@ -1,5 +1,5 @@
 -- Bytes above 127 in lines, and the problems that speak of them.
-use Rattle.std.proofs.Common.{ℕ, zero, suc, ◌+◌, ◌<◌, ◌≤◌, ◌≡◌, ◌∙◌, ◌==◌, ◌&&◌, List, [], ◌∷◌, ◌++◌, Bool, true, false, not, cond, Option, Some, None, nat_lt, nat_le, nat_cmp, refl, ap, sym, inl, inr, arith, length, take, get_or, slice_index}
+use Rattle.std.proofs.Common.{ℕ, zero, suc, ◌+◌, ◌<◌, ◌≤◌, ◌≡◌, ◌∙◌, ◌==◌, ◌&&◌, List, [], ◌∷◌, ◌++◌, Bool, true, false, not, cond, Option, Some, None, nat_cmp, refl, ap, sym, inl, inr, arith, length, take, get_or}
 use Rattle.std.specs.Ordering.{is_lt}
 use Rattle.std.specs.List.{filter, find, flat_map, onto_first, slice_split}
 use Rattle.std.specs.List.Sorted.{IsStableBy, ties}

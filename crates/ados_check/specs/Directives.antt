@@ -1,5 +1,5 @@
 -- Scripts that are never called, since a directive of theirs has a fault.
-use Rattle.std.specs.Prelude.{◌≡◌, ◌⊎◌, ℕ, List, Result, Err}
+use Rattle.std.specs.Prelude.{◌≡◌, ◌⊎◌, ℕ, List, Result, Ok, Err}
 use Rattle.ados_text.specs.Text.{Bytes, Text}
 use Rattle.ados_readargs.specs.declared.errors.ArgFault.{ArgFault}
 use Rattle.ados_subst.specs.declared.faults.SubstFault.{SubstFault}
@@ -22,3 +22,13 @@ abbrev pub IfBad : Sample → (ℕ → Type 0) → Type 0
 IfBad (Lines lines) P = Unit {0}
 IfBad (Bad line) P = P line
 IfBad Unknown P = Unit {0}
+
+-- with some arguments a script of lines as they are written is a script of these lines
+abbrev pub IsSample : List Text → List Text → Type 0
+IsSample lines sample = (args : Bytes) × (process : Text) × (script_of lines args process ≡ Ok sample)
+
+-- what holds of the lines that are known
+abbrev pub IfLines : Sample → (List Text → Type 0) → Type 0
+IfLines (Lines lines) P = P lines
+IfLines (Bad line) P = Unit {0}
+IfLines Unknown P = Unit {0}

@@ -1,5 +1,5 @@
 -- Jumps of a script that lead nowhere.
-use Rattle.std.specs.Prelude.{ℕ, List, Bool, true, false}
+use Rattle.std.specs.Prelude.{ℕ, List, Bool, true, false, Option, Some, None}
 use Rattle.ados_text.specs.Text.{Text}
 use Rattle.ados_readargs.specs.declared.args.Arg.{Arg}
 use Rattle.ados_readargs.specs.Args.{has_switch}
@@ -12,6 +12,8 @@ use Rattle.ados_script.specs.Blocks.{after_else}
 use Rattle.ados_script.specs.Skips.{skip}
 use Rattle.ados_flow.specs.declared.branches.TheConstants.{SKIP_BACK}
 use Rattle.ados_flow.specs.Branches.{label_sought}
+use Rattle.ados_check.specs.declared.findings.Problem.{Problem}
+use Rattle.ados_check.specs.declared.findings.Problem.TheVariants as problem
 
 abbrev pub is_nowhere : Jump → Bool
 is_nowhere Nowhere = true
@@ -22,3 +24,9 @@ abbrev pub leads_nowhere : Dialect → FlowCommand → List Text → ℕ → Lis
 leads_nowhere dialect Else lines line args = is_nowhere (after_else lines line)
 leads_nowhere dialect Skip lines line args = is_nowhere (skip dialect lines line (label_sought dialect args) (has_switch args SKIP_BACK))
 leads_nowhere dialect command lines line args = false
+
+-- the command of a jump of which a problem says that it leads nowhere
+abbrev pub lost_jump : Problem → Option FlowCommand
+lost_jump (problem.NoLab label) = Some Skip
+lost_jump problem.ElseWithoutEndIf = Some Else
+lost_jump other = None

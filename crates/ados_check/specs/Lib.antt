@@ -1,4 +1,7 @@
+pub mod Aliases
+pub mod Commands
 pub mod Directives
+pub mod Errors
 pub mod Jumps
 pub mod LeftOut
 pub mod Readings

@@ -1,5 +1,5 @@
 -- Bytes above 127 in the lines of a script's file, and those of which problems speak.
-use Rattle.std.specs.Prelude.{ℕ, zero, suc, ◌≡◌, ◌==◌, ◌&&◌, ◌||◌, Bool, true, false, List, [], ◌∷◌, Option, Some, None, get_or, if◌then◌else◌}
+use Rattle.std.specs.Prelude.{ℕ, zero, suc, ◌≡◌, ◌==◌, ◌&&◌, ◌||◌, Bool, false, List, [], ◌∷◌, Option, Some, None, get_or, if◌then◌else◌}
 use Rattle.std.specs.List.{filter, find, flat_map, slice_split}
 use Rattle.ados_text.specs.Text.{Bytes, is_past_ascii}
 use Rattle.ados_text.specs.Lines.{is_newline}
@@ -7,7 +7,7 @@ use Rattle.ados_items.specs.Items.{is_blank}
 use Rattle.ados_line.specs.Comment.{without_comment}
 use Rattle.ados_check.specs.declared.findings.Finding.{Finding}
 use Rattle.ados_check.specs.declared.findings.Problem.{Problem}
-use Rattle.ados_check.specs.declared.findings.Problem.TheVariants.{NotAscii, PrintedByte}
+use Rattle.ados_check.specs.declared.findings.Problem.TheVariants.{ByteOrderMark, NotAscii, PrintedByte}
 
 -- after the dot comes a blank or `\`: a directive that says nothing
 abbrev pub is_remark : Bytes → Bool
@@ -41,6 +41,7 @@ signs_at bytes (suc k) = listed (sign_of (is_dotted bytes) (file_line bytes k))
 abbrev pub told_sign : Problem → Option ℕ
 told_sign (NotAscii byte) = Some byte
 told_sign (PrintedByte byte) = Some byte
+told_sign ByteOrderMark = Some 239
 told_sign problem = None
 
 -- it is a problem of the line of this number

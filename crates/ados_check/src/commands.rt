@@ -1,20 +1,22 @@
 //! The commands of the Shell by the words of a script, and the faults of their arguments.
 ghost use Rattle.std.specs.Prelude.{◌≡◌, Option, IfOk, IfSome};
+ghost use Rattle.std.specs.Option.{option_map};
 ghost use Rattle.ados_find.specs.Shared.{SharedState};
 ghost use Rattle.ados_find.specs.Views.{View};
 ghost use Rattle.ados_flow.specs.Execute.{fault_answer};
 ghost use Rattle.ados_flow.specs.Frames.{ScriptLine};
 ghost use Rattle.ados_machine.specs.Commands.{action_of, template_of};
 ghost use Rattle.ados_readargs.specs.Faults.{result2_of};
+ghost use Rattle.ados_check.specs.Commands.{after, meaning_of, name_in_c};
 
 use ados_machine::{Builtin, template};
 use ados_readargs::{ArgFault, Template};
 use ados_resident::{Dialect, DiskCommand, InternalCommand};
-use ados_text::{NoMemory, Text};
+use ados_text::{NoMemory, Text, same_name};
 use std::alloc::Global;
 
 /// What a word of a script stands for.
-pub enum Word {
+pub enum Meaning {
     /// A command of the Shell with a template.
     Builtin(Builtin),
     /// Run, which has none.
@@ -23,23 +25,57 @@ pub enum Word {
     Other,
 }
 
-impl Word {
-    /// What a word stands for in a dialect, if no file, alias or entry of the resident list has its name.
-    pub fn of(dialect: Dialect, word: &Text) -> Word {
+impl Meaning {
+    /// What a word stands for in a dialect, if no file, alias or entry of the resident list has its name: an internal command by its
+    /// name alone, and a command in C: also by a path.
+    pub fn of(dialect: Dialect, word: &Text) -> Meaning
+        ensures { result ≡ meaning_of dialect word.now }
+    {
         if let Some(command) = InternalCommand::named(word) {
             return match command.builtin() {
-                Some(builtin) => Word::Builtin(builtin),
-                None => Word::Run,
+                Some(builtin) => Meaning::Builtin(builtin),
+                None => Meaning::Run,
             };
         }
-        let name = match word.as_bytes() {
-            [b'C' | b'c', b':', name @ ..] => name,
-            name => name,
-        };
-        match DiskCommand::named(dialect, name) {
-            Some(command) => Word::Builtin(command.builtin()),
-            None => Word::Other,
+        match DiskCommand::named(dialect, name_in_c(word.as_bytes())) {
+            Some(command) => Meaning::Builtin(command.builtin()),
+            None => Meaning::Other,
         }
+    }
+}
+
+/// The name that a word has in C:, without a path that leads there, as the Shell has its devices at the start; the word itself if it has
+/// none.
+pub fn name_in_c(word: &[u8]) -> &[u8]
+    ensures { result.now ≡ name_in_c word.now }
+{
+    if let Some(name) = after(word, b"C:") {
+        return name;
+    }
+    if let Some(name) = after(word, b"SYS:C/") {
+        return name;
+    }
+    if let Some(name) = after(word, b"RAM:C/") {
+        return name;
+    }
+    match after(word, b":C/") {
+        Some(name) => name,
+        None => word,
+    }
+}
+
+// What follows a text with which a word begins, ignoring case.
+fn after<'a>(word: &'a [u8], start: &[u8]) -> Option<&'a [u8]>
+    ensures { option_map (λ name. name.now) result ≡ after word.now start.now }
+{
+    if start.len() > word.len() {
+        return None;
+    }
+    let (first, rest) = word.split_at(start.len());
+    if same_name(first, start) {
+        Some(rest)
+    } else {
+        None
     }
 }
 
@@ -49,6 +85,11 @@ pub fn template_in(alloc: Global, dialect: Dialect, command: Builtin) -> Result<
     ensures { IfOk result (λ template. template ≡ template_of dialect command) }
 {
     Template::known(alloc, template(dialect, command))
+}
+
+/// The text of a command's template in a dialect.
+pub fn template_text(alloc: Global, dialect: Dialect, command: Builtin) -> Result<Text, NoMemory> {
+    Text::from_bytes(alloc, template(dialect, command).as_bytes())
 }
 
 /// The fault that a command answers in a dialect for the text of its arguments, if it has one.

@@ -2,7 +2,7 @@
 
 ghost use Rattle.std.specs.Prelude.{IfOk, IfSome};
 ghost use Rattle.ados_text.specs.Lines.{lines_of};
-ghost use Rattle.ados_check.specs.Directives.{IfBad, IsNeverCalled};
+ghost use Rattle.ados_check.specs.Directives.{IfBad, IfLines, IsNeverCalled, IsSample};
 
 use crate::findings::{Finding, Problem};
 use crate::signs::is_dotted;
@@ -42,10 +42,11 @@ pub fn bad_directive(alloc: Global, bytes: &[u8]) -> Result<Option<Finding>, NoM
 }
 
 /// The lines of a script, as it is written and by its bytes, with some arguments.
-#[tactic(auto, using(crate::proofs::DirectiveLemmas::bad_line))]
+#[tactic(auto, using(crate::proofs::DirectiveLemmas::bad_line, crate::proofs::DirectiveLemmas::is_sample))]
 pub fn sample_of(alloc: Global, written: &[Text], bytes: &[u8]) -> Result<Sample, NoMemory>
     // The script of a bad directive is never called: Execute answers the fault of that line, or one of the arguments.
-    ensures { IfOk result (λ sample. IfBad sample (IsNeverCalled (lines_of bytes.now))) }
+    ensures bad { IfOk result (λ sample. IfBad sample (IsNeverCalled (lines_of bytes.now))) }
+    ensures lines { IfOk result (λ sample. IfLines sample (IsSample (lines_of bytes.now))) }
 {
     let key = key_line(written);
     let args = match key {

@@ -22,6 +22,8 @@ pub enum Problem {
     NotAscii(u8),
     /// A byte above 127 in the words of Echo or Ask, which print another sign in its place.
     PrintedByte(u8),
+    /// A UTF-8 byte order mark stands before the first line.
+    ByteOrderMark,
     /// A command has options of Release 2 that the Shell leaves out, and takes for names.
     LeftOut(LeftOut),
     /// It has this many bytes, more than a line may have.
@@ -70,6 +72,7 @@ impl Problem {
         matches!(
             self,
             Problem::NotAscii(_)
+                | Problem::ByteOrderMark
                 | Problem::LongLine(_)
                 | Problem::Line(_)
                 | Problem::Arguments { .. }
@@ -93,6 +96,10 @@ impl fmt::Display for Problem {
                     "byte 0x{byte:02x} is not ASCII, and is printed as _ or ?"
                 )
             }
+            Problem::ByteOrderMark => write!(
+                f,
+                "a UTF-8 byte order mark (sed '1s/^\\xEF\\xBB\\xBF//')"
+            ),
             Problem::LeftOut(options) => write!(f, "{options}"),
             Problem::LongLine(bytes) => write!(f, "{bytes} bytes (at most 512)"),
             Problem::Line(fault) => write!(f, "{fault}"),

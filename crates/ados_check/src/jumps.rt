@@ -6,7 +6,7 @@ ghost use Rattle.ados_find.specs.Shared.{SharedState};
 ghost use Rattle.ados_find.specs.Views.{View};
 ghost use Rattle.ados_flow.specs.Actions.{Quits};
 ghost use Rattle.ados_flow.specs.Rows.{row_of};
-ghost use Rattle.ados_check.specs.Jumps.{leads_nowhere};
+ghost use Rattle.ados_check.specs.Jumps.{leads_nowhere, lost_jump};
 ghost use Rattle.ados_check.specs.Signs.{told_sign};
 
 use crate::commands::template_in;
@@ -31,6 +31,7 @@ pub fn jump_problem(
     args: &Args,
 ) -> Result<Option<Problem>, NoMemory>
     ensures told { IfOk result (λ found. IfSome found (λ problem. told_sign problem ≡ None)) }
+    ensures kind { IfOk result (λ found. IfSome found (λ problem. lost_jump problem ≡ Some command)) }
     ensures nowhere { IfOk result (λ found. is_some found ≡ leads_nowhere dialect command at.entry.0.now at.entry.1 args.now) }
     // Whenever the line is taken, in whatever shell, the script ends there with 20 and 205, and nothing else is done.
     ensures ends { IfOk result (λ found. is_some found ≡ true → (shared : SharedState) (view : View) → shared.dialect ≡ dialect

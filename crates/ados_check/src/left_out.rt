@@ -2,6 +2,7 @@
 ghost use Rattle.ados_check.specs.LeftOut.{IsBlanked};
 
 use crate::arguments::{Word, next_argument};
+use crate::commands::name_in_c;
 use crate::release_two::{Command, Naming, Omission, Takes, command_of};
 use ados_items::{between, first_word, trimmed};
 use ados_line::without_comment;
@@ -199,14 +200,11 @@ pub fn alias_text<'a>(
     Ok(aliases.get(&name))
 }
 
-/// The name of a command, as a word has it: there may be quotes, and the directory C: before it.
+/// The name of a command, as a word has it: there may be quotes, and a path to C: before it.
 pub fn name_in(word: &[u8]) -> &[u8] {
     let text = word.strip_prefix(b"\"").unwrap_or(word);
     let text = text.strip_suffix(b"\"").unwrap_or(text);
-    match text {
-        [b'C' | b'c', b':', name @ ..] => name,
-        name => name,
-    }
+    name_in_c(text)
 }
 
 // The options that are left out among the words of a command from a place on; places are those of the line.

@@ -9,11 +9,14 @@ mod inspection;
 mod jumps;
 mod left_out;
 mod lines;
+mod look;
+mod made_aliases;
 mod readings;
 mod release_two;
 mod renames;
 mod signs;
 
+pub use commands::name_in_c;
 pub use directives::bad_directive;
 pub use findings::{Finding, Problem};
 pub use inspection::inspect;

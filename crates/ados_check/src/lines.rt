@@ -1,7 +1,8 @@
 //! The check of a script's lines, all problems in their order.
-ghost use Rattle.std.specs.Prelude.{◌≡◌, ◌++◌, [], ◌∷◌, ℕ, None, IfOk, OnOk, get_or, map};
+ghost use Rattle.std.specs.Prelude.{◌≡◌, ◌++◌, [], ◌∷◌, ℕ, None, IfOk, IfSome, OnOk, get_or, map};
 ghost use Rattle.std.specs.List.{slice_split};
 ghost use Rattle.ados_text.specs.Lines.{is_newline};
+ghost use Rattle.ados_check.specs.Errors.{AreAlwaysSo, AreSoWith, AreSoWithFound, IsAlwaysSound, StaySo};
 ghost use Rattle.ados_check.specs.Signs.{SaysTheSame, signs_at, signs_told, told_sign};
 
 use crate::findings::{Finding, Problem};
@@ -17,6 +18,7 @@ use std::alloc::{AllocError, Global};
 ///
 /// `aliases` are those of its shell, `lines` are those that are to be taken, with the script's arguments in them, and `bytes` are
 /// those of the file that they come from, in which bytes above 127 are still there; there may be none, if they are not known.
+#[tactic(auto, using(crate::proofs::ErrorLemmas::stay_so))]
 pub fn check(
     alloc: Global,
     dialect: Dialect,
@@ -26,6 +28,8 @@ pub fn check(
 ) -> Result<Vec<Finding>, NoMemory>
     // In each line of the file the first byte above 127 where it matters is found, and no other is said to be there.
     ensures signs { IfOk result (λ found. (number : ℕ) → signs_told number found.items ≡ signs_at bytes.now number) }
+    // And options are found that are left out: no error of another kind.
+    ensures so { IfOk result (λ found. AreAlwaysSo found.items) }
 {
     let mut found = signs_found(alloc, dialect, aliases, lines, bytes)?;
     for (place, line) in lines.iter().enumerate() {
@@ -37,7 +41,8 @@ pub fn check(
 
 /// Puts findings in the order of their lines; those of a line keep theirs.
 pub fn sort(found: &mut Vec<Finding>) -> Result<(), NoMemory>
-    ensures { OnOk result (SaysTheSame found.old.items found.new.items) }
+    ensures same { OnOk result (SaysTheSame found.old.items found.new.items) }
+    ensures so { OnOk result (StaySo found.old.items found.new.items) }
 {
     found.sort_by(|a, b| a.line.cmp(&b.line))?;
     Ok(())
@@ -52,7 +57,8 @@ fn signs_found(
     lines: &[Text],
     bytes: &[u8],
 ) -> Result<Vec<Finding>, NoMemory>
-    ensures { IfOk result (λ found. (number : ℕ) → signs_told number found.items ≡ signs_at bytes.now number) }
+    ensures signs { IfOk result (λ found. (number : ℕ) → signs_told number found.items ≡ signs_at bytes.now number) }
+    ensures so { IfOk result (λ found. AreAlwaysSo found.items) }
 {
     if bytes.is_ascii() {
         return Ok(Vec::new(alloc));
@@ -67,7 +73,7 @@ fn signs_found(
         match sign_in(is_dotted, line) {
             None => {}
             Some(byte) => {
-                let problem = sign_problem(is_told_only, line, byte);
+                let problem = sign_problem(place, is_told_only, line, byte);
                 push_problem(&mut found, place + 1, problem)?;
             }
         }
@@ -101,15 +107,48 @@ fn push_problem(found: &mut Vec<Finding>, line: usize, problem: Problem) -> Resu
 }
 
 /// Adds a problem of a line that is not of a byte above 127.
-#[tactic(auto, using(crate::proofs::SignLemmas::told_other))]
+#[tactic(auto, using(crate::proofs::ErrorLemmas::one_so, crate::proofs::SignLemmas::told_other))]
 pub fn push_other(found: &mut Vec<Finding>, line: usize, problem: Problem) -> Result<(), NoMemory>
     requires { told_sign problem ≡ None }
-    ensures { OnOk result (SaysTheSame found.old.items found.new.items) }
+    ensures same { OnOk result (SaysTheSame found.old.items found.new.items) }
+    ensures so { OnOk result (AreSoWith line problem found.old.items found.new.items) }
 {
     push_problem(found, line, problem)
 }
 
+/// Adds what is no error of a line.
+#[tactic(auto, using(crate::proofs::ErrorLemmas::note_so))]
+pub fn push_note(found: &mut Vec<Finding>, line: usize, note: Problem) -> Result<(), NoMemory>
+    requires { IsAlwaysSound line note }
+    ensures same { OnOk result (SaysTheSame found.old.items found.new.items) }
+    ensures so { OnOk result (StaySo found.old.items found.new.items) }
+{
+    push_other(found, line, note)?;
+    Ok(())
+}
+
+/// Adds the problem of a line, if it has one.
+#[tactic(auto, using(crate::proofs::ErrorLemmas::found_so))]
+pub fn push_sound(
+    found: &mut Vec<Finding>,
+    number: usize,
+    problem: Option<Problem>,
+) -> Result<(), NoMemory>
+    requires { IfSome problem (λ what. told_sign what ≡ None) }
+    ensures same { OnOk result (SaysTheSame found.old.items found.new.items) }
+    ensures so { OnOk result (AreSoWithFound number problem found.old.items found.new.items) }
+{
+    match problem {
+        Some(problem) => {
+            push_other(found, number, problem)?;
+            Ok(())
+        }
+        None => Ok(()),
+    }
+}
+
 // Adds the options of a line that the Shell leaves out.
+#[tactic(auto, using(crate::proofs::ErrorLemmas::stay_again))]
 fn push_options(
     dialect: Dialect,
     aliases: &Aliases,
@@ -117,11 +156,12 @@ fn push_options(
     text: &Text,
     found: &mut Vec<Finding>,
 ) -> Result<(), NoMemory>
-    ensures { OnOk result (SaysTheSame found.old.items found.new.items) }
+    ensures same { OnOk result (SaysTheSame found.old.items found.new.items) }
+    ensures so { OnOk result (StaySo found.old.items found.new.items) }
 {
     let alloc = *found.allocator();
     for left_out in options_left_out(alloc, dialect, aliases, 0, text.as_bytes())? {
-        push_other(found, line, Problem::LeftOut(left_out))?;
+        push_note(found, line, Problem::LeftOut(left_out))?;
     }
     Ok(())
 }

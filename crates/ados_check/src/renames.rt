@@ -1,25 +1,16 @@
 //! Which words are other commands in a script than the Shell's own.
 
 use crate::arguments::next_argument;
-use crate::commands::Word;
+use crate::commands::Meaning;
 use crate::left_out::{alias_text, name_in};
-use ados_items::{between, first_word, rest_of, trimmed};
+use crate::made_aliases::MadeAliases;
+use ados_items::{between, first_word, trimmed};
 use ados_line::without_comment;
 use ados_machine::Builtin;
 use ados_resident::{Dialect, FlowCommand};
 use ados_text::{NoMemory, Text, same_name};
 use ados_vars::Aliases;
 use std::alloc::Global;
-
-/// A line of a script makes an alias of this word, or of one that is not known before it runs.
-pub fn makes_alias(lines: &[Text], word: &[u8]) -> bool {
-    lines.iter().any(|line| {
-        let line = trimmed(line.as_bytes());
-        let name = first_word(rest_of(line));
-        same_name(first_word(line), b"Alias")
-            && (same_name(name, word) || name.contains(&b'<') || name.contains(&b'$'))
-    })
-}
 
 /// Echo or Ask may be another command in a script: an alias of its shell or its own, or a file in the place of one that it takes off the
 /// resident list.
@@ -28,9 +19,10 @@ pub fn renames_printers(
     aliases: &Aliases,
     lines: &[Text],
 ) -> Result<bool, NoMemory> {
+    let made = MadeAliases::of(alloc, &[], lines)?;
     Ok(
-        is_renamed(alloc, aliases, lines, b"Echo")?
-            || is_renamed(alloc, aliases, lines, b"Ask")?
+        is_renamed(alloc, aliases, &made, b"Echo")?
+            || is_renamed(alloc, aliases, &made, b"Ask")?
             || lines.iter().any(|line| same_name(
                 first_word(trimmed(line.as_bytes())),
                 b"Resident",
@@ -60,9 +52,10 @@ fn calls(alloc: Global, dialect: Dialect, line: &[u8]) -> Result<bool, NoMemory>
         return Ok(false);
     }
     let name = Text::from_bytes(alloc, name_in(between(line, word.from, word.to)))?;
-    Ok(match Word::of(dialect, &name) {
-        Word::Builtin(Builtin::Flow(FlowCommand::Execute)) | Word::Run | Word::Other => true,
-        Word::Builtin(_) => false,
+    Ok(match Meaning::of(dialect, &name) {
+        Meaning::Builtin(Builtin::Flow(FlowCommand::Execute)) | Meaning::Run | Meaning::Other =>
+            true,
+        Meaning::Builtin(_) => false,
     })
 }
 
@@ -70,8 +63,8 @@ fn calls(alloc: Global, dialect: Dialect, line: &[u8]) -> Result<bool, NoMemory>
 fn is_renamed(
     alloc: Global,
     aliases: &Aliases,
-    lines: &[Text],
+    made: &MadeAliases,
     word: &[u8],
 ) -> Result<bool, NoMemory> {
-    Ok(alias_text(alloc, aliases, word)?.is_some() || makes_alias(lines, word))
+    Ok(alias_text(alloc, aliases, word)?.is_some() || made.has(alloc, word)?)
 }

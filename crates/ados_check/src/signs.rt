@@ -16,6 +16,9 @@ use std::alloc::Global;
 // What is written in the place of such a byte: no pattern has it.
 const MARK: u8 = b'_';
 
+// The byte order mark of UTF-8, which editors write at the beginning of a file.
+const ORDER_MARK: [u8; 3] = [0xef, 0xbb, 0xbf];
+
 /// Writes `_` in the place of each byte above 127.
 pub fn mark(script: &mut [u8]) {
     for byte in script {
@@ -44,7 +47,7 @@ pub fn mark_printed(alloc: Global, script: &mut [u8]) -> Result<Vec<Finding>, No
             break;
         };
         if let Some(byte) = sign_in(is_dotted, bytes)
-            && let problem @ Problem::PrintedByte(_) = sign_problem(true, bytes, byte)
+            && let problem @ Problem::PrintedByte(_) = sign_problem(place, true, bytes, byte)
         {
             mark(bytes);
             let line = place.saturating_add(1);
@@ -75,10 +78,14 @@ pub fn sign_in(is_dotted: bool, line: &[u8]) -> Option<u8>
     first_past_ascii(without_comment(line))
 }
 
-/// The problem of a line with a byte above 127. `is_told_only`: in its script Echo and Ask only print their words.
-pub fn sign_problem(is_told_only: bool, line: &[u8], byte: u8) -> Problem
+/// The problem of a line, which is at this place from 0, with a byte above 127. `is_told_only`: in its script Echo and Ask only print
+/// their words.
+pub fn sign_problem(place: usize, is_told_only: bool, line: &[u8], byte: u8) -> Problem
     ensures { told_sign result ≡ Some byte }
 {
+    if place == 0 && byte == 0xef && line.starts_with(&ORDER_MARK) {
+        return Problem::ByteOrderMark;
+    }
     if is_told_only && is_printed(without_comment(line)) {
         Problem::PrintedByte(byte)
     } else {

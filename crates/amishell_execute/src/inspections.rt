@@ -3,10 +3,13 @@
 use crate::faults::{Fault, unread_script};
 use crate::hosts::hosts_for;
 use crate::status::Status;
-use ados_check::{Finding, Problem, inspect, mark, mark_printed, strike};
-use ados_resident::HostEntry;
+use ados_check::{Finding, Problem, inspect, mark, mark_printed, name_in_c, strike};
+use ados_resident::{DiskCommand, HostEntry};
+use ados_text::{NoMemory, Text};
+use ados_trace::escaped;
 use ados_transfer::{last_piece, parted, read_script, step_into};
 use execute_options::Options;
+use std::alloc::Global;
 use std::io::Write;
 use std::rt::{Env, Files};
 use std::{fs, io};
@@ -19,6 +22,8 @@ const SCRIPTS: usize = 1024;
 struct Inspector<'a> {
     options: &'a Options<'a>,
     hosts: Vec<HostEntry>,
+    // The lines that are typed before a script.
+    typed: Vec<Text>,
     // The paths of those that were found so far, and the same without links.
     paths: Vec<String>,
     whole: Vec<String>,
@@ -33,6 +38,7 @@ pub fn inspect_all<R: Env + AllocGlobal + Files + Print>(
     let mut inspector = Inspector {
         options,
         hosts: hosts_for(rt, options)?,
+        typed: typed_lines(rt.alloc(), options)?,
         paths: Vec::new(rt.alloc()),
         whole: Vec::new(rt.alloc()),
     };
@@ -87,7 +93,7 @@ impl Inspector<'_> {
         if self.is_given(path) {
             found = mark_printed(rt.alloc(), &mut script)?;
         }
-        for finding in inspect(rt.alloc(), self.options.dialect, &script)? {
+        for finding in inspect(rt.alloc(), self.options.dialect, &self.typed, &script)? {
             found.push(finding)?;
         }
         found.sort_by(|a, b| a.line.cmp(&b.line))?;
@@ -112,32 +118,87 @@ impl Inspector<'_> {
         rt: &R,
         problem: &Problem,
     ) -> Result<bool, Fault> {
-        let name = match problem {
-            Problem::UnknownCommand(name) | Problem::NoScript(name) => name,
-            _ => return Ok(false),
+        match problem {
+            Problem::UnknownCommand(name) => self.is_command(rt, name),
+            Problem::NoScript(name) => {
+                let Ok(word) = std::str::from_utf8(name.as_bytes()) else {
+                    return Ok(false);
+                };
+                match self.file_of(rt, word)? {
+                    Some(path) => self.add(rt, path.as_str())?,
+                    // Where a device leads is not known.
+                    None => return Ok(word.contains(':')),
+                }
+                Ok(true)
+            }
+            _ => Ok(false),
+        }
+    }
+
+    // The Shell will find a command of this name that is none of its own: a program of the host, a file that is brought in or shared,
+    // or a directory, to which it changes.
+    fn is_command<R: AllocGlobal + Files>(&self, rt: &R, name: &Text) -> Result<bool, Fault> {
+        let name = name.as_bytes();
+        let in_c = match name {
+            // A script begins in RAM: unless a folder is shared.
+            [b'C' | b'c', b'/', below @ ..] if !self.is_shared() => below,
+            _ => name_in_c(name),
         };
-        let Ok(word) = std::str::from_utf8(name.as_bytes()) else {
-            return Ok(false);
-        };
-        let is_script = matches!(problem, Problem::NoScript(_));
-        if !is_script
-            && self.hosts.iter().any(|host| name
-                .as_bytes()
-                .eq_ignore_ascii_case(host.name.as_bytes()))
-        {
+        let is_path_to_c = in_c.len() < name.len();
+        let is_host = self
+            .hosts
+            .iter()
+            .any(|host| in_c.eq_ignore_ascii_case(host.name.as_bytes()));
+        if is_host || is_path_to_c && DiskCommand::named(self.options.dialect, in_c).is_some() {
             return Ok(true);
         }
-        match self.file_of(rt, word)? {
-            Some(path) if is_script => self.add(rt, path.as_str())?,
-            Some(_) => {}
-            // Where a device leads is not known.
-            None => return Ok(word.contains(':')),
-        }
-        Ok(true)
+        let Ok(word) = std::str::from_utf8(name) else {
+            return Ok(false);
+        };
+        // Where another device leads is not known, nor what is above a shared folder.
+        let is_elsewhere = word.contains(':') && !is_path_to_c
+            || word.starts_with('/') && self.is_shared();
+        Ok(is_elsewhere || self.brings(rt, word, in_c) || self.shared(rt, word, true)?.is_some())
+    }
+
+    // A file is brought in under the name of a command: where the script begins, or in C:.
+    fn brings<R: Files>(&self, rt: &R, word: &str, in_c: &[u8]) -> bool {
+        self.options.bring.iter().any(|words| {
+            let (path, target) = parted(rt, words);
+            let target = target.unwrap_or(last_piece(path));
+            let placed = name_in_c(target.as_bytes());
+            let is_in_c = placed.len() < target.len() && placed.eq_ignore_ascii_case(in_c);
+            is_in_c || target.eq_ignore_ascii_case(word)
+        })
+    }
+
+    // A folder is shared, in which the script begins.
+    fn is_shared(&self) -> bool {
+        !self.options.share.is_empty()
     }
 
     // The file of this machine that the Shell will have under a name: in a shared folder, or brought in.
     fn file_of<R: AllocGlobal + Files>(&self, rt: &R, name: &str) -> Result<Option<String>, Fault> {
+        if let Some(path) = self.shared(rt, name, false)? {
+            return Ok(Some(path));
+        }
+        for words in &self.options.bring {
+            let (path, target) = parted(rt, words);
+            let target = target.unwrap_or(last_piece(path));
+            if is_name(name, target.strip_prefix("S:").unwrap_or(target)) {
+                return Ok(Some(String::from_str(rt.alloc(), path)?));
+            }
+        }
+        Ok(None)
+    }
+
+    // The file of a shared folder that the Shell will have under a name, or the directory, if that may be.
+    fn shared<R: AllocGlobal + Files>(
+        &self,
+        rt: &R,
+        name: &str,
+        may_be_directory: bool,
+    ) -> Result<Option<String>, Fault> {
         for (number, words) in self.options.share.iter().enumerate() {
             let (folder, directory) = parted(rt, words);
             let device = directory.filter(|directory| directory.ends_with(':'));
@@ -149,15 +210,10 @@ impl Inspector<'_> {
             };
             let folder = if folder == "." { "" } else { folder };
             let path = step_into(rt.alloc(), folder, below)?;
-            if fs::metadata(rt, path.as_str()).is_ok_and(|found| !found.is_dir()) {
+            if fs::metadata(rt, path.as_str()).is_ok_and(|found| may_be_directory
+                || !found.is_dir())
+            {
                 return Ok(Some(path));
-            }
-        }
-        for words in &self.options.bring {
-            let (path, target) = parted(rt, words);
-            let target = target.unwrap_or(last_piece(path));
-            if is_name(name, target.strip_prefix("S:").unwrap_or(target)) {
-                return Ok(Some(String::from_str(rt.alloc(), path)?));
             }
         }
         Ok(None)
@@ -177,9 +233,21 @@ fn write_line<R: AllocGlobal + Print>(rt: &R, path: &str, finding: &Finding) -> 
     } else {
         "note"
     };
-    let line = format!(in rt.alloc(); "{path}:{}: {kind}: {}\n", finding.line, finding.problem)?;
+    let line = format!(in rt.alloc(); "{path}:{}: {kind}: {}", finding.line, finding.problem)?;
+    // A terminal obeys control characters, and a newline would begin another line.
+    let mut line = escaped(rt.alloc(), &line)?;
+    line.push('\n')?;
     match io::writer(rt).write_all(line.as_bytes()) {
         Ok(()) => Ok(()),
         Err(_) => Err(Fault::Write),
     }
+}
+
+// The lines that are typed before a script.
+fn typed_lines(alloc: Global, options: &Options<'_>) -> Result<Vec<Text>, NoMemory> {
+    let mut lines = Vec::new(alloc);
+    for line in &options.typed {
+        lines.push(Text::from_bytes(alloc, line.as_bytes())?)?;
+    }
+    Ok(lines)
 }

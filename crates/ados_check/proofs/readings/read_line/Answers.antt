@@ -1,5 +1,4 @@
 use Rattle.std.proofs.Common.{◌∙◌, inr, sym, subst, ap, arith, length}
-use Rattle.ados_text.specs.Text.{IsText}
 use Rattle.ados_line.specs.Answers.{Gives}
 use Rattle.ados_line.specs.Comment.{without_comment}
 use Rattle.ados_line.specs.Cut.{cut_of, expanded_of_cut}

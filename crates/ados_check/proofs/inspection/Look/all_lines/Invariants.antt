@@ -1,5 +1,0 @@
-use Rattle.ados_check.specs.Signs.{SaysTheSame}
-use Rattle.ados_check.proofs.inspection.Look.all_lines.Given as goal
-
-abbrev pub invariant-loop-place : goal.invariant-loop-place
-invariant-loop-place l = SaysTheSame l.initial.found.items l.found.items

@@ -1,0 +1,14 @@
+use Rattle.std.proofs.Common.{◌∙◌, subst}
+use Rattle.ados_text.specs.Lines.{lines_of}
+use Rattle.ados_check.specs.Errors.{AreSo}
+use Rattle.ados_check.proofs.ErrorLemmas.{all_so}
+use Rattle.ados_check.proofs.inspection.inspect.Goals as goal
+
+pub returns-clause-so : goal.returns-clause-so
+returns-clause-so c =
+    all_so c.args.dialect c.args.bytes.now _
+    (λ number. c.in_ok-sort.ensures.same number ∙ (c.in_ok-push_problems.ensures.same number ∙ (c.in_ok-push_idle_directives.ensures.same number ∙ c.in_ok-found.ensures.signs number)))
+    (c.in_ok-sort.ensures.so c.args.dialect (lines_of c.args.bytes.now)
+    (subst (λ lines. AreSo c.args.dialect lines c.push_problems.new.found.items) (c.as_slice-lines.ensures ∙ c.in_ok-written.ensures)
+    (c.in_ok-push_problems.ensures.so
+    (c.in_ok-push_idle_directives.ensures.so c.args.dialect c.as_slice-lines.result.now (c.in_ok-found.ensures.so c.args.dialect c.as_slice-lines.result.now)))))

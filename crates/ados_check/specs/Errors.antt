@@ -1,0 +1,118 @@
+-- What an error says of a line of a script is so.
+use Rattle.std.specs.Prelude.{ℕ, ◌≡◌, ◌<◌, List, [], ◌∷◌, Option, Some, None, Result, Ok, Err, IfSome, length}
+use Rattle.std.specs.List.{All}
+use Rattle.ados_text.specs.declared.codes.TheConstants.Result2.{OBJECT_NOT_FOUND}
+use Rattle.ados_text.specs.Lines.{lines_of}
+use Rattle.ados_text.specs.Text.{Bytes, Text}
+use Rattle.ados_find.specs.Codes.{fail_codes}
+use Rattle.ados_find.specs.Shared.{SharedState}
+use Rattle.ados_find.specs.Views.{View}
+use Rattle.ados_flow.specs.Actions.{Quits}
+use Rattle.ados_flow.specs.Execute.{fault_answer}
+use Rattle.ados_flow.specs.Frames.{ScriptLine}
+use Rattle.ados_line.specs.declared.faults.LineFault.{LineFault}
+use Rattle.ados_line.specs.declared.faults.LineFault.TheVariants.{LineTooLong}
+use Rattle.ados_line.specs.declared.lines.Expanded.{Expanded}
+use Rattle.ados_line.specs.declared.lines.Expanded.TheVariants.{Ready}
+use Rattle.ados_line.specs.declared.lines.Line.{Line}
+use Rattle.ados_line.specs.Alias.{with_alias}
+use Rattle.ados_line.specs.Comment.{without_comment}
+use Rattle.ados_line.specs.Expansion.{expand_raw_line}
+use Rattle.ados_line.specs.Values.{Variables}
+use Rattle.ados_machine.specs.Commands.{action_of}
+use Rattle.ados_readargs.specs.declared.errors.ArgFault.{ArgFault}
+use Rattle.ados_readargs.specs.Faults.{result2_of}
+use Rattle.ados_resident.specs.declared.commands.Builtin.{Builtin}
+use Rattle.ados_resident.specs.declared.commands.Builtin.TheVariants.{Flow}
+use Rattle.ados_resident.specs.declared.commands.FlowCommand.{FlowCommand}
+use Rattle.ados_resident.specs.declared.commands.FlowCommand.TheVariants.{Else, Skip}
+use Rattle.ados_resident.specs.declared.dialects.Dialect.{Dialect}
+use Rattle.ados_script.specs.Lines.{line_of}
+use Rattle.ados_vars.specs.Vars.{Pairs}
+use Rattle.ados_check.specs.Commands.{meaning_of}
+use Rattle.ados_check.specs.Directives.{IsNeverCalled, IsSample}
+use Rattle.ados_check.specs.Signs.{signs_at, told_sign}
+use Rattle.ados_check.specs.declared.commands.Meaning.TheVariants as meaning
+use Rattle.ados_check.specs.declared.findings.Finding.{Finding}
+use Rattle.ados_check.specs.declared.findings.Problem.{Problem}
+use Rattle.ados_check.specs.declared.findings.Problem.TheVariants as problem
+
+-- whatever the variables are, each shell that has no alias for a line's first word reads the line so
+abbrev pub IsReadAs : Text → Result Expanded LineFault → Type 0
+IsReadAs line read = (aliases : Pairs) (variables : Variables) → with_alias aliases (without_comment line) ≡ without_comment line
+    → expand_raw_line aliases variables line ≡ read
+
+-- so it is read as a command of the Shell, with the text of its arguments
+abbrev pub IsCommand : Dialect → Text → Builtin → Text → Type 0
+IsCommand dialect line command args = (read : Line) × IsReadAs line (Ok (Ready read)) × (meaning_of dialect read.command ≡ meaning.Builtin command) × (read.args ≡ args)
+
+-- wherever a command is executed with these arguments in a world of a dialect, it answers the fault, and does nothing else
+abbrev pub Answers : Dialect → Builtin → Text → ArgFault → Type 0
+Answers dialect command args fault = (shared : SharedState) (script_line : Option ScriptLine) (view : View) → shared.dialect ≡ dialect
+    → action_of command shared script_line view args ≡ fault_answer shared (result2_of fault)
+
+-- wherever it is executed in that line of a script of these lines, the script ends there with 20 and 205
+abbrev pub EndsScript : Dialect → FlowCommand → Text → List Text → ℕ → Type 0
+EndsScript dialect command args sample number = (shared : SharedState) (view : View) → shared.dialect ≡ dialect
+    → action_of (Flow command) shared (Some (record { lines = sample; line = number })) view args ≡ Quits (fail_codes OBJECT_NOT_FOUND)
+
+-- both lists have the same line of a number, of which P holds
+abbrev pub IsHere : List Text → List Text → ℕ → (Text → Type 0) → Type 0
+IsHere lines sample number P = (line : Text) × (line_of lines number ≡ Some line) × (line_of sample number ≡ Some line) × P line
+
+-- with some arguments the line of a number stays as it is written, and P holds of it and of all lines
+abbrev pub IsLine : List Text → ℕ → (List Text → Text → Type 0) → Type 0
+IsLine lines number P = (sample : List Text) × IsSample lines sample × IsHere lines sample number (P sample)
+
+-- it is this command with arguments that it does not take: it answers the fault
+abbrev pub IsRefused : Dialect → ArgFault → Text → Type 0
+IsRefused dialect fault line = (command : Builtin) × (args : Text) × IsCommand dialect line command args × Answers dialect command args fault
+
+-- it is a jump that leads nowhere
+abbrev pub IsLost : Dialect → ℕ → FlowCommand → List Text → Text → Type 0
+IsLost dialect number command sample line = (args : Text) × IsCommand dialect line (Flow command) args × EndsScript dialect command args sample number
+
+-- it has this many bytes, more than a line may have
+abbrev pub IsLong : ℕ → Text → Type 0
+IsLong count line = (length line ≡ count) × (512 < count) × IsReadAs line (Err LineTooLong)
+
+-- What a problem says of the line of a number is so, in a script of these lines as they are written. Of bytes above 127 the file itself
+-- says more than its lines do; of what is not an error nothing is said.
+abbrev pub SaysSo : Dialect → List Text → ℕ → Problem → Type 0
+SaysSo dialect lines number (problem.LongLine count) = IsLine lines number (λ sample. IsLong count)
+SaysSo dialect lines number (problem.Line fault) = IsLine lines number (λ sample line. IsReadAs line (Err fault))
+SaysSo dialect lines number (problem.Arguments _ _ fault) = IsLine lines number (λ sample. IsRefused dialect fault)
+SaysSo dialect lines number problem.BadDirective = IsNeverCalled lines number
+SaysSo dialect lines number (problem.NoLab label) = IsLine lines number (IsLost dialect number Skip)
+SaysSo dialect lines number problem.ElseWithoutEndIf = IsLine lines number (IsLost dialect number Else)
+SaysSo dialect lines number other = Unit {0}
+
+-- it is so, and not of a byte above 127
+abbrev pub IsSound : Dialect → List Text → ℕ → Problem → Type 0
+IsSound dialect lines number what = (told_sign what ≡ None) × SaysSo dialect lines number what
+
+abbrev pub AreSo : Dialect → List Text → List Finding → Type 0
+AreSo dialect lines found = All (λ one. SaysSo dialect lines one.line one.problem) found
+
+-- so it is whatever the world and the script are
+abbrev pub IsAlwaysSound : ℕ → Problem → Type 0
+IsAlwaysSound number what = (dialect : Dialect) (lines : List Text) → IsSound dialect lines number what
+
+abbrev pub AreAlwaysSo : List Finding → Type 0
+AreAlwaysSo found = (dialect : Dialect) (lines : List Text) → AreSo dialect lines found
+
+-- findings that were so still are
+abbrev pub StaySo : List Finding → List Finding → Type 0
+StaySo old new = (dialect : Dialect) (lines : List Text) → AreSo dialect lines old → AreSo dialect lines new
+
+-- they are, with one more that is
+abbrev pub AreSoWith : ℕ → Problem → List Finding → List Finding → Type 0
+AreSoWith number what old new = (dialect : Dialect) (lines : List Text) → AreSo dialect lines old → SaysSo dialect lines number what → AreSo dialect lines new
+
+abbrev pub AreSoWithFound : ℕ → Option Problem → List Finding → List Finding → Type 0
+AreSoWithFound number found old new =
+    (dialect : Dialect) (lines : List Text) → AreSo dialect lines old → IfSome found (IsSound dialect lines number) → AreSo dialect lines new
+
+-- what a finding in a file of these bytes says is so: a byte above 127 of which it speaks is the one that is to be found there
+abbrev pub IsSo : Dialect → Bytes → Finding → Type 0
+IsSo dialect bytes one = SaysSo dialect (lines_of bytes) one.line one.problem × IfSome (told_sign one.problem) (λ byte. signs_at bytes one.line ≡ byte ∷ [])
