@@ -7,7 +7,7 @@ A script changes files and directories, starts a program, which changes some too
 model says what must stand: what one side changed comes to the other; where both changed this machine's stands; what the Shell
 changed and this machine deleted is written again; what is not as it was at the last time is never deleted; and nothing is deleted
 while something that the Shell has is not written, or after it gave way. What changed is written before a question too. What the script
-moves to T: stays here until it comes in again elsewhere. share_losses.py tries what the model leaves out.
+moves to T: stays here until it comes in again elsewhere, or is kept if a program deletes it. share_losses.py tries what the model leaves out.
 The last line is 'N changes, M starts: ok'.
 """
 import os, random, shutil, subprocess, sys, time
@@ -32,7 +32,7 @@ class Model:
 
     def __init__(self):
         self.shell, self.machine, self.last, self.out = {}, {}, {}, {}
-        self.told, self.let_go = set(), set()
+        self.told, self.let_go, self.copied, self.origins = set(), set(), set(), {}
 
     def of(self, path):
         return (side.get(path, GONE) for side in (self.shell, self.machine, self.last))
@@ -60,6 +60,7 @@ class Model:
             return None
         path, name = random_.choice(files), f't{len(self.out)}{random_.randrange(10 ** 6)}'
         self.out[name] = self.shell.pop(path)
+        self.origins[self.out[name]] = path
         return f'Rename {path} T:{name}'
 
     def is_held(self, path):
@@ -73,10 +74,17 @@ class Model:
             raise Unsure
         return not others
 
+    def note_copied(self):
+        """Notes what is in T: and stands here in another place than it had."""
+        for text in self.out.values():
+            if any(value == text for path, value in self.machine.items() if path != self.origins[text]):
+                self.copied.add(text)
+
     def write_out(self, meanwhile=False):
         """What is new is written first, then what changed, unless it writes over what was moved to one that could not be written; then
         what is gone is deleted, the deepest first, unless something could not be written. Meanwhile, at a question, what is not deleted
         waits."""
+        self.note_copied()
         paths = sorted(set(self.shell) | set(self.last))
         new, owes, unwritten = set(self.shell) - set(self.last), False, []
         for path in ([p for p in paths if p in new] + [p for p in paths if p in self.shell and p not in new]
@@ -116,6 +124,18 @@ class Model:
         if any(text in self.let_go and text not in self.machine.values() for text in self.out.values()):
             # it is written back under a name of its own
             raise Unsure
+
+    def keep_moved(self):
+        """At the end what only T: has, since a program deleted or wrote over it, stands under a name of its own beside where it was."""
+        for text in [text for text in self.out.values() if text not in self.machine.values()]:
+            if text in self.copied:
+                # a program put it elsewhere, and deleted it there
+                raise Unsure
+            path = self.origins[text] + '.kept'
+            folder = os.path.dirname(path)
+            if path in self.machine or folder and self.machine.get(folder) != FOLDER:
+                raise Unsure
+            self.machine[path] = text
 
     def come_in(self):
         paths = sorted(set(self.machine) | set(self.last))
@@ -230,6 +250,7 @@ def plan(random_, count):
             model.come_in()
         done += len(lines)
     model.write_out()
+    model.keep_moved()
     wanted.append(dict(model.machine))
     return [line for _, line in first], script, acts, asks, wanted, model.told, done
 
@@ -303,6 +324,11 @@ def run(program, room, random_, count):
         if number < len(acts):
             # a copy of what was written over waits there
             came = {path: text for path, text in came.items() if not os.path.basename(path).startswith('.amishell-execute.')}
+        else:
+            # bytes that gave way to this machine's may be kept, and those that a program here has put elsewhere just now
+            extra = {path for path in came if path.endswith('.kept') and path not in stands}
+            extra |= {os.path.dirname(path) for path in extra} - set(stands)
+            came = {path: text for path, text in came.items() if path not in extra}
         if came != stands:
             for path in sorted(set(came) | set(stands)):
                 if came.get(path) != stands.get(path):

@@ -1,5 +1,5 @@
 -- A run without a shared folder is a drive; and what a run does, by its result.
-use Rattle.std.proofs.Common.{◌≡◌, ◌∙◌, ℕ, ◌+◌, ◌<◌, ◌≤◌, List, [], Bool, true, length, Option, Some, None, Result, Ok, Err, arith, refl, ap}
+use Rattle.std.proofs.Common.{◌≡◌, ◌∙◌, ℕ, ◌+◌, ◌<◌, ◌≤◌, List, [], Bool, true, length, Option, Some, None, is_none, Result, Ok, Err, arith, refl, sym, ap, true≢false}
 use Rattle.std.specs.Prelude.{IsErrAnd, IfSome}
 use Rattle.ados_machine.specs.World.{WorldState}
 use Rattle.ados_launcher.specs.declared.calls.Call.{Call}
@@ -105,3 +105,8 @@ rule_cut is_cut w last contents contents_now d = record {
   reports = d.reports;
   frames = d.frames;
 }
+
+-- there is nothing
+pub none-by : {X : Type 0} (o : Option X) → is_none o ≡ true → o ≡ None
+none-by None none = refl
+none-by (Some x) none = absurd (true≢false (sym none))

@@ -15,5 +15,5 @@ returns-clause-does g c = does-by-rule _ _ _ _ _ c.in-Err.ensures.does c.new-ses
 pub returns-clause-drives : goal.returns-clause-drives
 returns-clause-drives g c none =
     waited-fault c.args.self.now.turns _
-    (playing_moment g.K.Sink.contents g.K.Sink.faults g.K.Sink.stalls c.drive_session.new.world c.drive_session.new.self.reader c.drive_session.new.writer.inner c.drive_session.new.self.launcher)
+    (playing_moment g.K.Sink.contents g.K.Sink.faults g.K.Sink.stalls c.drive_followed.new.world c.drive_followed.new.self.reader c.drive_followed.new.writer.inner c.drive_followed.new.self.launcher)
     c.abandon.new.launcher.calls c.abandon.new.launcher.is_full c.in-Err.fault c.abandon.ensures.room (c.in-Err.ensures.drives none) c.abandon.ensures.waits c.abandon.ensures.over
