@@ -1,7 +1,8 @@
 /* Makes system calls fail in a program, or runs another program before them, but not in those that it starts. It is put before the
    C library by LD_PRELOAD. FAIL_CALL names the kind of the calls: `read`, of standard input; `write`, to standard output;
    `piece`, a read of a pipe that is not standard input; `wait`, for a process; `pipe`, the making of one; `start`, of a process;
-   `open`, `rename`, `link`, `unlink` (of a folder too), `mkdir`, `look`, of a path; `path`, any of these six.
+   `open`, `rename`, `link`, `unlink` (of a folder too), `mkdir`, `look`, of a path; `path`, any of these six; `store`, a write to a
+   file, and `sync`, which brings one to the disk: these are counted as calls of a path are.
    Of these the one whose number, from 1, FAIL_AT gives fails with the error FAIL_ERRNO, or if that is 0 moves no byte, and
    so does each after it if FAIL_ON is given; if it is made, the file FAIL_MARK is created. Calls of a path are counted only when there is
    the file FAIL_FROM, if that is given; and if FAIL_RUN is, they do not fail: before they are made this program runs to its end, with the kind and the path
@@ -54,6 +55,13 @@ static int fails(const char *kind) {
     return 1;
 }
 
+/* Whether a call of a file fails. */
+static int file_fails(const char *kind, int file) {
+    struct stat about;
+    const char *from = getenv("FAIL_FROM");
+    return is_kind(kind) && (!from || access(from, F_OK) == 0) && fstat(file, &about) == 0 && S_ISREG(about.st_mode) && fails(kind);
+}
+
 static size_t room(const char *kind, size_t count) { return is_kind(kind) && most < count ? most : count; }
 
 /* Files that were written, and what a power cut leaves of them. */
@@ -91,6 +99,7 @@ static void empty_unsynced(void) {
         static int (*next)(int);                          \
         if (!next) next = dlsym(RTLD_NEXT, #name);        \
         struct stat about;                                \
+        if (file_fails("sync", file)) return -1;          \
         if (fstat(file, &about) == 0) forget_written(&about); \
         return next(file);                                \
     }
@@ -124,6 +133,7 @@ ssize_t readv(int file, const struct iovec *parts, int count) {
 ssize_t write(int file, const void *from, size_t count) {
     static ssize_t (*next)(int, const void *, size_t);
     if (!next) next = dlsym(RTLD_NEXT, "write");
+    if (file_fails("store", file)) return -1;
     if (file != STDOUT_FILENO) return note_written(file), next(file, from, count);
     if (fails("write")) return error ? -1 : 0;
     return next(file, from, room("write", count));

@@ -8,7 +8,7 @@ complete -c amishell-execute -l take -x -d 'Writes a file or a directory of the 
 complete -c amishell-execute -l type -x -d 'A line that is typed before the script'
 complete -c amishell-execute -l share -x -a '(__fish_complete_directories)' -d 'Shares a folder of this machine'
 complete -c amishell-execute -l all -d 'Shares also what has a name that begins with a dot'
-complete -c amishell-execute -l part -d 'Shares what fits of a folder that has more files and folders than the Shell can hold'
+complete -c amishell-execute -l part -d 'Shares what fits of a folder, and leaves out the rest'
 complete -c amishell-execute -l dry -d 'Tells what would be written to the shared folders and deleted there, and writes nothing itself'
 complete -c amishell-execute -l quote -d 'Quotes each of ARGS, so that none is the name of an option of .KEY'
 complete -c amishell-execute -l strike -d 'Strikes out of the script what the Shell leaves out and says nothing which matters here'

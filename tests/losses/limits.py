@@ -42,8 +42,9 @@ class Limits:
         self.spare = numbers.randint(0, 8) if self.filled == "objects" else numbers.randint(0, 40)
 
     def options(self):
-        """The options that bring in what fills the Shell."""
-        return ["--bring", f"../{self.filled}=T:filled", "--bring", "rest=T:rest"] if self.filled else []
+        """The options that bring in what fills the Shell, and that share also a folder of which something cannot be opened."""
+        filled = ["--bring", f"../{self.filled}=T:filled", "--bring", "rest=T:rest"] if self.filled else []
+        return [*filled, "--part"] if self.is_nobody or self.descriptors else filled
 
     def rest(self, shared, script):
         """The files that fill the Shell beside these, but for a little room."""

@@ -9,7 +9,7 @@ A file NAME.losses has lines of comment, which begin with `#`, and cases. `== NA
     before PATH ..       what stands before the run
     after PATH ..        what stands afterwards in place of that
     gone PATH            what is not there afterwards
-    anywhere PATH        its bytes stand somewhere below `f` afterwards; nothing else is compared
+    anywhere PATH        its bytes stand somewhere below `f` afterwards; of all else only what is `gone` is looked at
     mode PATH MODE       the mode before; `mode-after` afterwards
     status N             the exit status (default: 0); `not 0`: any other; `any`
     says PATTERN         a line of standard error has it; may be repeated
@@ -23,23 +23,47 @@ A file NAME.losses has lines of comment, which begin with `#`, and cases. `== NA
     blocks N             no file may have more than N blocks of 1,024 bytes; `blocks N ignored`: SIGXFSZ is ignored
     closed N             the descriptor is closed
     nobody               the user is nobody; needs root
+    user UID:GID[:GROUP ..]  the user; needs root
+    owner PATH UID:GID   the owner and the group before; `owner-after` afterwards; needs root
+    no more PATH PATH    no group and no others may do more with the second afterwards than with the first before
     mount PATH PATH      the first folder is mounted at the second too; needs root
+    disk PATH OPTIONS    the folder is a file system in memory, with these options of mount; needs root
+    first LINE           a line of sh that runs before the program; may be repeated
+    outside LINE         a line of sh that runs after the seconds of `waits`, before the answers come; may be repeated
+    fails KIND AT ERRNO [on] [from PATH]  this call of the program fails, as scripts/fail.c tells; needs gcc
 
-PATH is followed by nothing (its lines follow, each after `| `), `of N` (so many bytes), `as PATH` (the bytes that this has before), `-> TARGET` (a link) or `pipe`;
-it ends in `/` if it is a folder. `before PATH to N of M` makes N files PATH1, PATH2 .. of M bytes. All paths are those of the folder in which the program runs.
-What is not said to be otherwise stands afterwards as before.
+PATH is followed by nothing (its lines follow, each after `| `), `of N` (so many bytes), `as PATH` (the bytes that this has before),
+`-> TARGET` (a link) or `pipe`; it ends in `/` if it is a folder. `before PATH to N of M` makes N files PATH1, PATH2 .. of M bytes. All paths
+are those of the folder in which the program runs; `\\xNN` in one is the byte of that number. What is not said to be otherwise stands
+afterwards as before.
 """
+import os
 import re
 import shlex
 
 from rooms import FOLDER, PIPE, Link, filled
 
 ENDING = ".losses"
+NOBODY = 65534
 DEFAULT = ["--host", "sh", "--share", "f"]
 
 
 class BadCase(Exception):
     """A line of a case is unknown."""
+
+
+def bytes_of(text):
+    """The bytes of a text of a case."""
+    return re.sub(rb"\\x([0-9a-f]{2})", lambda sign: bytes([int(sign[1], 16)]), text.encode("latin-1"))
+
+
+def path_of(word):
+    """The path of a word. One that is no UTF-8 is as this machine's names are read."""
+    return os.fsdecode(bytes_of(word)) if "\\x" in word else word
+
+
+def ids_of(word):
+    return [int(number) for number in word.split(":")]
 
 
 class Case:
@@ -50,7 +74,9 @@ class Case:
         self.before, self.after, self.modes, self.modes_after = {"f": FOLDER}, {}, {}, {}
         self.anywhere, self.says, self.prints, self.signals, self.mounts = [], [], [], [], []
         self.status, self.most, self.waits, self.seconds, self.blocks, self.closed = "0", None, 0.0, 60.0, None, None
-        self.is_silent = self.ignores_size = self.is_nobody = False
+        self.user, self.fails, self.owners, self.owners_after, self.disks = None, None, {}, {}, []
+        self.first, self.outside, self.no_more = [], [], []
+        self.is_silent = self.ignores_size = False
 
     def take(self, line, text):
         """Takes a line with the text that follows it."""
@@ -64,14 +90,22 @@ class Case:
             setattr(self, key, shlex.split(rest))
         elif key == "options":
             self.words += shlex.split(rest)
-        elif key in ("anywhere", "says", "prints"):
-            getattr(self, key).append(rest)
+        elif key in ("anywhere", "says", "prints", "first", "outside"):
+            getattr(self, key).append(path_of(rest) if key == "anywhere" else rest)
         elif key == "gone":
-            self.after[rest] = None
+            self.after[path_of(rest)] = None
+        elif key == "no":
+            self.no_more.append(words[1:])
         elif key in ("mode", "mode-after"):
             (self.modes if key == "mode" else self.modes_after)[words[0]] = int(words[1], 8)
-        elif key == "mount":
-            self.mounts.append(words)
+        elif key in ("owner", "owner-after"):
+            (self.owners if key == "owner" else self.owners_after)[words[0]] = tuple(ids_of(words[1]))
+        elif key in ("nobody", "user"):
+            self.user = ids_of(rest) if key == "user" else [NOBODY, NOBODY]
+        elif key in ("mount", "disk"):
+            (self.mounts if key == "mount" else self.disks).append(words)
+        elif key == "fails":
+            self.fails = words
         elif key == "kill":
             self.signals = words
         elif key == "at":
@@ -84,13 +118,13 @@ class Case:
             self.closed = int(rest)
         elif key == "status":
             self.status = rest
-        elif key in ("silent", "nobody"):
-            setattr(self, "is_" + key, True)
+        elif key == "silent":
+            self.is_silent = True
         else:
             raise BadCase(f"{self.name}: {line}")
 
     def place(self, stands, words, text):
-        path, how = words[0], words[1:]
+        path, how = path_of(words[0]), words[1:]
         if path.endswith("/"):
             stands[path.rstrip("/")] = FOLDER
         elif not how:
@@ -109,7 +143,7 @@ class Case:
             raise BadCase(f"{self.name}: {' '.join(words)}")
 
     def needs_root(self):
-        return self.is_nobody or bool(self.mounts)
+        return bool(self.user or self.mounts or self.disks or self.owners or self.owners_after)
 
     def wanted(self):
         """What has to stand afterwards, with the folders on the way to it. One that stood before stays, unless it is gone by name."""
@@ -132,8 +166,7 @@ def cases_of(lines):
     for line in lines:
         line = line.rstrip("\n")
         if line == "|" or line.startswith("| "):
-            raw = (line[2:] + "\n").encode("latin-1")
-            text.append(re.sub(rb"\\x([0-9a-f]{2})", lambda sign: bytes([int(sign[1], 16)]), raw))
+            text.append(bytes_of(line[2:] + "\n"))
         elif line and not line.startswith("#"):
             close()
             key, text = None, []

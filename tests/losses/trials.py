@@ -192,7 +192,7 @@ class Room:
     def difference(self):
         """What the Shell has and the folder has not, or the other way round, with a status that does not say so. Names that begin with a dot and links
         are not shared, and a directory with such a one in it stays. A program may act after the last look, and at the limit of turns. Of two names
-        that differ in case alone one is left alone, with a line, and so is what there is no room for."""
+        that differ in case alone one or both are left alone, with a line, and so is what there is no room for."""
         if "--take" not in self.plan.options or self.plan.call or self.is_killed or {124, 125} & set(self.statuses) or NOT_SHARED.search(self.told):
             return None
         stands = look(f"{self.room}/f")[0]

@@ -1,18 +1,20 @@
 -- What errors say of their lines.
-use Rattle.std.proofs.Common.{ℕ, zero, suc, ◌≡◌, ◌∙◌, ◌==◌, ◌||◌, ◌<◌, List, [], ◌∷◌, ◌++◌, Bool, true, false, cond, Option, Some, None, refl, ap, subst, arith, length, slice_index_or}
+use Rattle.std.proofs.Common.{ℕ, zero, suc, ◌≡◌, ◌∙◌, ◌==◌, ◌&&◌, ◌||◌, ◌-◌, ◌<◌, List, [], ◌∷◌, ◌++◌, Bool, true, false, cond, Option, Some, None, refl, ap, subst, arith, length, slice_index, slice_index_or}
 use Rattle.std.specs.Prelude.{IfSome}
-use Rattle.std.specs.List.{All, filter, flat_map, list_any}
-use Rattle.std.proofs.lemmas.Bool.{eq-eqb, eqb-true}
+use Rattle.std.specs.List.{All, filter, find, flat_map, list_any}
+use Rattle.std.specs.Option.{option_or}
+use Rattle.std.proofs.lemmas.Bool.{both_ways, eq-eqb, eqb-true}
 use Rattle.std.proofs.lemmas.List.Elements.{All-nil, All-push}
 use Rattle.std.proofs.lemmas.List.Folds.{list_any-append}
 use Rattle.ados_text.specs.Lines.{lines_of}
-use Rattle.ados_text.specs.Text.{Bytes, Text}
+use Rattle.ados_text.specs.Text.{Bytes, Text, is_past_ascii}
+use Rattle.ados_line.specs.Comment.{without_comment}
 use Rattle.ados_resident.specs.declared.dialects.Dialect.{Dialect}
 use Rattle.ados_check.specs.declared.directives.Sample.{Sample}
 use Rattle.ados_check.specs.declared.directives.Sample.TheVariants.{Bad}
 use Rattle.ados_check.specs.Directives.{IfBad, IsNeverCalled}
-use Rattle.ados_check.specs.Errors.{AreAlwaysSo, AreSo, AreSoWith, AreSoWithFound, IsAlwaysSound, IsSo, IsSound, SaysSo, StaySo}
-use Rattle.ados_check.specs.Signs.{file_line, is_at, is_dotted, listed, sign_of, signs_at, signs_told, told_sign}
+use Rattle.ados_check.specs.Errors.{AreAlwaysSo, AreSo, AreSoWith, AreSoWithFound, EndsInReturn, IsAlwaysSound, IsSignOf, IsSo, IsSound, SaysOfBytes, SaysSo, StaySo}
+use Rattle.ados_check.specs.Signs.{end_return, file_line, first_sign, is_at, is_dotted, is_remark, is_return, line_at, listed, sign_of, signs_at, signs_told, told_sign}
 use Rattle.ados_check.specs.declared.findings.Finding.{Finding}
 use Rattle.ados_check.specs.declared.findings.Problem.{Problem}
 use Rattle.ados_check.specs.declared.findings.Problem.TheVariants as problem
@@ -22,7 +24,7 @@ pub one_so : (dialect : Dialect) (lines : List Text) (found : List Finding) (lin
     → AreSo dialect lines found → SaysSo dialect lines line what → AreSo dialect lines (found ++ record { line = line; problem = what } ∷ [])
 one_so dialect lines found line what are is = All-push (λ (one : Finding). SaysSo dialect lines one.line one.problem) found (record { line = line; problem = what }) are is
 
--- of a problem with a byte above 127 nothing more is said
+-- of a problem with a sign nothing more is said
 pub sign_so : (dialect : Dialect) (lines : List Text) (line byte : ℕ) (what : Problem) → told_sign what ≡ Some byte → SaysSo dialect lines line what
 sign_so dialect lines line byte (problem.LongLine count) e = cc
 sign_so dialect lines line byte (problem.Line fault) e = cc
@@ -112,16 +114,61 @@ if-some : (found : Option ℕ) (P : ℕ → Type 0) → ((byte : ℕ) → found 
 if-some None P holds = tt
 if-some (Some byte) P holds = holds byte refl
 
--- what each of them says is so, if each byte is found of which they speak
+past-found : (text : Bytes) (byte : ℕ) → find is_past_ascii text ≡ Some byte → is_past_ascii byte ≡ true
+past-found [] byte e = cc
+past-found (c ∷ cs) byte e = by (is_past_ascii c) refl (λ rest. past-found cs byte rest) e
+  where
+    by : (b : Bool) → is_past_ascii c ≡ b → (find is_past_ascii cs ≡ Some byte → is_past_ascii byte ≡ true) → cond b (Some c) (find is_past_ascii cs) ≡ Some byte
+        → is_past_ascii byte ≡ true
+    by true is rest e = let same : c ≡ byte = cc in subst (λ k. is_past_ascii k ≡ true) same is
+    by false is rest e = rest e
+
+both-hold : (a b : Bool) → cond {A = Option ℕ} (a && b) (Some 13) None ≡ Some 13 → (a ≡ true) × (b ≡ true)
+both-hold true true e = (refl, refl)
+both-hold true false e = cc
+both-hold false b e = cc
+
+ends-in : (line : Bytes) → end_return line (without_comment line) ≡ Some 13 → EndsInReturn line
+ends-in line e =
+    let both = both-hold (is_return (slice_index line (length line - 1))) (length (without_comment line) == length line) e in
+    (eqb-true _ _ both.0, eqb-true _ _ both.1)
+
+-- a sign 13 is no byte past ASCII
+not-past : (line : Bytes) (found : Option ℕ) → find is_past_ascii (without_comment line) ≡ found
+    → option_or found (end_return line (without_comment line)) ≡ Some 13 → EndsInReturn line
+not-past line None is e = ends-in line e
+not-past line (Some byte) is e =
+    let same : byte ≡ 13 = cc in
+    absurd (both_ways false refl (subst (λ k. is_past_ascii k ≡ true) same (past-found (without_comment line) byte is)))
+
+returned : (bytes : Bytes) (number : ℕ) → signs_at bytes number ≡ 13 ∷ [] → EndsInReturn (line_at bytes number)
+returned bytes zero e = cc
+returned bytes (suc k) e = by (is_dotted bytes && is_remark line) e
+  where
+    line : Bytes
+    line = file_line bytes k
+
+    only : (sign : Option ℕ) → listed sign ≡ 13 ∷ [] → sign ≡ Some 13
+    only None e = cc
+    only (Some byte) e = let same : byte ≡ 13 = cc in ap Some same
+
+    by : (b : Bool) → listed (cond b None (first_sign line (without_comment line))) ≡ 13 ∷ [] → EndsInReturn line
+    by true e = cc
+    by false e = not-past line (find is_past_ascii (without_comment line)) refl (only _ e)
+
+of-bytes : (bytes : Bytes) (number : ℕ) (what : Problem) → IsSignOf bytes number what → SaysOfBytes (line_at bytes number) what
+of-bytes bytes number (problem.EndReturn others) at = returned bytes number at
+of-bytes bytes number (problem.PrintedReturn others) at = returned bytes number at
+of-bytes bytes number other at = tt
+
+-- what each of them says is so, if each sign is found of which they speak
 pub all_so : (dialect : Dialect) (bytes : Bytes) (found : List Finding) → ((number : ℕ) → signs_told number found ≡ signs_at bytes number)
     → AreSo dialect (lines_of bytes) found → All (IsSo dialect bytes) found
-all_so dialect bytes found signs are k d inside = (
-  are k d inside,
-  if-some (told_sign (slice_index_or found k d).problem) (λ byte. signs_at bytes (slice_index_or found k d).line ≡ byte ∷ [])
-      (λ byte told.
-      let line = (slice_index_or found k d).line in
-      only-at bytes line byte (subst (Has byte) (signs line) (told-at found k d byte inside told))),
-)
+all_so dialect bytes found signs are k d inside =
+    let one = slice_index_or found k d in
+    let sign = if-some (told_sign one.problem) (λ byte. signs_at bytes one.line ≡ byte ∷ [])
+    (λ byte told. only-at bytes one.line byte (subst (Has byte) (signs one.line) (told-at found k d byte inside told))) in
+    record { says = are k d inside; sign = sign; of_bytes = of-bytes bytes one.line one.problem sign }
 
 pub none_so : (dialect : Dialect) (lines : List Text) → AreSo dialect lines []
 none_so dialect lines = All-nil (λ (one : Finding). SaysSo dialect lines one.line one.problem)

@@ -1,8 +1,10 @@
 mod AliasLemmas
 mod AlikeLemmas
+mod ArgumentLemmas
 mod DirectiveLemmas
 mod ErrorLemmas
 mod LookLemmas
 mod ReadingLemmas
+mod ReturnLemmas
 mod SignLemmas
 mod StrikeLemmas

@@ -1,7 +1,7 @@
--- Bytes above 127 in lines, and the problems that speak of them.
-use Rattle.std.proofs.Common.{ℕ, zero, suc, ◌+◌, ◌<◌, ◌≤◌, ◌≡◌, ◌∙◌, ◌==◌, ◌&&◌, List, [], ◌∷◌, ◌++◌, Bool, true, false, not, cond, Option, Some, None, nat_cmp, refl, ap, sym, inl, inr, arith, length, take, get_or}
+-- Signs in lines, and the problems that speak of them.
+use Rattle.std.proofs.Common.{ℕ, zero, suc, ◌+◌, ◌<◌, ◌≤◌, ◌≡◌, ◌∙◌, ◌==◌, ◌&&◌, ◌||◌, ◌-◌, List, [], ◌∷◌, ◌++◌, Bool, true, false, not, cond, Option, Some, None, nat_cmp, refl, ap, sym, inl, inr, arith, length, take, get_or, slice_index}
 use Rattle.std.specs.Ordering.{is_lt}
-use Rattle.std.specs.List.{filter, find, flat_map, onto_first, slice_split}
+use Rattle.std.specs.List.{filter, find, flat_map, list_any, onto_first, slice_split}
 use Rattle.std.specs.List.Sorted.{IsStableBy, ties}
 use Rattle.std.specs.Str.{IsAscii}
 use Rattle.std.proofs.lemmas.Bool.{cases_lt, both_ways}
@@ -14,7 +14,7 @@ use Rattle.ados_line.specs.Comment.{comment_start, without_comment}
 use Rattle.ados_check.specs.declared.findings.Finding.{Finding}
 use Rattle.ados_check.specs.declared.findings.Problem.{Problem}
 use Rattle.ados_check.specs.declared.findings.Problem.TheVariants.{BadDirective}
-use Rattle.ados_check.specs.Signs.{file_line, is_at, is_dotted, is_remark, listed, sign_of, signs_at, signs_told, told_sign}
+use Rattle.ados_check.specs.Signs.{file_line, first_sign, is_at, is_dotted, is_remark, is_return, listed, sign_of, signs_at, signs_told, told_sign}
 
 -- one more problem speaks of its byte in its line
 pub told_more : (number : ℕ) (found : List Finding) (one : Finding)
@@ -60,7 +60,7 @@ next-sign bytes place number sign after within is = elim-number number after wit
     elim-number zero after within = absurd (omega (arith, after))
     elim-number (suc k) after within = let same : k ≡ place = omega (arith, after, within) in rw (same, is) refl
 
--- the next line has no byte above 127
+-- the next line has no sign
 pub none_more : (place : ℕ) (bytes : Bytes) (found : List Finding) → ToldUpTo place bytes found
     → sign_of (is_dotted bytes) (file_line bytes place) ≡ None → ToldUpTo (place + 1) bytes found
 none_more place bytes found told none = (
@@ -98,18 +98,94 @@ one_more place byte bytes found problem told sign speaks = (
     one : Finding
     one = record { line = place + 1; problem = problem }
 
+-- a list of which no byte passes, and so none of its parts
+abbrev pub HasNone : (ℕ → Bool) → Bytes → Type 0
+HasNone p bytes = find p bytes ≡ None
+
+abbrev is-none : Option ℕ → Bool
+is-none None = true
+is-none (Some c) = false
+
+rest-test : (p : ℕ → Bool) (b : Bool) (c : ℕ) (cs : Bytes) → cond b (Some c) (find p cs) ≡ None → HasNone p cs
+rest-test p true c cs h = absurd (both_ways false refl (ap is-none h))
+rest-test p false c cs h = h
+
+rest-none : (p : ℕ → Bool) (c : ℕ) (cs : Bytes) → HasNone p (c ∷ cs) → HasNone p cs
+rest-none p c cs none = rest-test p (p c) c cs none
+
+first-test : (p : ℕ → Bool) (b : Bool) (c : ℕ) (cs : Bytes) → cond b (Some c) (find p cs) ≡ None → b ≡ false
+first-test p true c cs h = absurd (both_ways false refl (ap is-none h))
+first-test p false c cs h = refl
+
+first-none : (p : ℕ → Bool) (c : ℕ) (cs : Bytes) → HasNone p (c ∷ cs) → p c ≡ false
+first-none p c cs none = first-test p (p c) c cs none
+
+none-in-front : (p : ℕ → Bool) (n : ℕ) (cs : Bytes) → HasNone p cs → HasNone p (take n cs)
+none-in-front p zero cs none = refl
+none-in-front p (suc n) [] none = refl
+none-in-front p (suc n) (c ∷ cs) none = rw (first-none p c cs none) (none-in-front p n cs (rest-none p c cs none))
+
+none-onto : (p : ℕ → Bool) (c : ℕ) (parts : List Bytes) → p c ≡ false → ((k : ℕ) → HasNone p (get_or parts k [])) → (k : ℕ) → HasNone p (get_or (onto_first c parts) k [])
+none-onto p c [] low none zero = rw low refl
+none-onto p c [] low none (suc k) = refl
+none-onto p c (part ∷ parts) low none zero = rw low (none 0)
+none-onto p c (part ∷ parts) low none (suc k) = none (suc k)
+
+none-in-test : (p : ℕ → Bool) (b : Bool) (c : ℕ) (parts : List Bytes) → p c ≡ false → ((k : ℕ) → HasNone p (get_or parts k []))
+    → (k : ℕ) → HasNone p (get_or (cond b ([] ∷ parts) (onto_first c parts)) k [])
+none-in-test p true c parts low none zero = refl
+none-in-test p true c parts low none (suc k) = none k
+none-in-test p false c parts low none k = none-onto p c parts low none k
+
+none-in-part : (p : ℕ → Bool) (cs : Bytes) → HasNone p cs → (k : ℕ) → HasNone p (get_or (slice_split is_newline cs) k [])
+none-in-part p [] none zero = refl
+none-in-part p [] none (suc k) = refl
+none-in-part p (c ∷ cs) none k =
+    none-in-test p (is_newline c) c (slice_split is_newline cs) (first-none p c cs none) (none-in-part p cs (rest-none p c cs none)) k
+
+ascii-none : (cs : Bytes) → IsAscii cs → HasNone is_past_ascii cs
+ascii-none [] ascii = refl
+ascii-none (c ∷ cs) ascii =
+    let low : is_past_ascii c ≡ false = (let first : c < 128 = ascii 0 in grind (arith, nat_tests)) in
+    rw low (ascii-none cs (λ i. ascii (suc i)))
+
+any-none : (p : ℕ → Bool) (cs : Bytes) → list_any p cs ≡ false → HasNone p cs
+any-none p [] none = refl
+any-none p (c ∷ cs) none = by (p c) (λ rest. any-none p cs rest) none
+  where
+    by : (b : Bool) → (list_any p cs ≡ false → HasNone p cs) → (b || list_any p cs) ≡ false → cond b (Some c) (find p cs) ≡ None
+    by true rest none = absurd (both_ways false refl (sym none))
+    by false rest none = rest none
+
+none-at : (line : Bytes) (k : ℕ) → HasNone is_return line → is_return (slice_index line k) ≡ false
+none-at [] zero none = refl
+none-at [] (suc k) none = refl
+none-at (c ∷ cs) zero none = first-none is_return c cs none
+none-at (c ∷ cs) (suc k) none = none-at cs k (rest-none is_return c cs none)
+
+no-first-sign : (line text : Bytes) → HasNone is_past_ascii text → HasNone is_return line → first_sign line text ≡ None
+no-first-sign line text low none = rw (low, none-at line (length line - 1) none) refl
+
+no-sign : (dotted : Bool) (line : Bytes) → HasNone is_past_ascii line → HasNone is_return line → sign_of dotted line ≡ None
+no-sign dotted line low none = by-test (dotted && is_remark line)
+  where
+    by-test : (b : Bool) → cond b None (first_sign line (without_comment line)) ≡ None
+    by-test true = refl
+    by-test false = no-first-sign line (without_comment line) (none-in-front is_past_ascii (comment_start line) line low) none
+
+-- a file of ASCII without a carriage return has none
+pub plain_none : (bytes : Bytes) → IsAscii bytes → list_any is_return bytes ≡ false → (number : ℕ) → signs_told number [] ≡ signs_at bytes number
+plain_none bytes ascii none zero = refl
+plain_none bytes ascii none (suc k) =
+    let line = file_line bytes k in
+    let low : HasNone is_past_ascii line = none-in-part is_past_ascii bytes (ascii-none bytes ascii) k in
+    let kept : HasNone is_return line = none-in-part is_return bytes (any-none is_return bytes none) k in
+    sym (ap listed (no-sign (is_dotted bytes) line low kept))
+
 past-last : {X : Type 0} (lines : List (List X)) (k : ℕ) → length lines ≤ k → get_or lines k [] ≡ []
 past-last [] k past = refl
 past-last (line ∷ lines) zero past = absurd (omega (arith, past))
 past-last (line ∷ lines) (suc k) past = past-last lines k (omega (arith, past))
-
-none-in-empty : (n : ℕ) → find is_past_ascii (take n []) ≡ None
-none-in-empty zero = refl
-none-in-empty (suc n) = refl
-
-empty-sign : (dotted : Bool) → sign_of dotted [] ≡ None
-empty-sign true = none-in-empty (comment_start [])
-empty-sign false = none-in-empty (comment_start [])
 
 -- what is told up to the last line of a file is told of all lines
 pub told_all : (place : ℕ) (bytes : Bytes) (found : List Finding) → ToldUpTo place bytes found → length (slice_split is_newline bytes) ≤ place
@@ -123,71 +199,7 @@ told_all place bytes found told last number = elim (cases_lt place number) [
     beyond zero after = refl
     beyond (suc k) after =
         let none : file_line bytes k ≡ [] = past-last (slice_split is_newline bytes) k (omega (arith, after, last)) in
-        ap (λ line. listed (sign_of (is_dotted bytes) line)) none ∙ ap listed (empty-sign (is_dotted bytes))
-
--- no byte of a list, and so none of its parts
-abbrev HasNone : Bytes → Type 0
-HasNone bytes = find is_past_ascii bytes ≡ None
-
-abbrev is-none : Option ℕ → Bool
-is-none None = true
-is-none (Some c) = false
-
-rest-test : (b : Bool) (c : ℕ) (cs : Bytes) → cond b (Some c) (find is_past_ascii cs) ≡ None → HasNone cs
-rest-test true c cs h = absurd (both_ways false refl (ap is-none h))
-rest-test false c cs h = h
-
-rest-none : (c : ℕ) (cs : Bytes) → HasNone (c ∷ cs) → HasNone cs
-rest-none c cs none = rest-test (is_past_ascii c) c cs none
-
-first-test : (b : Bool) (c : ℕ) (cs : Bytes) → cond b (Some c) (find is_past_ascii cs) ≡ None → b ≡ false
-first-test true c cs h = absurd (both_ways false refl (ap is-none h))
-first-test false c cs h = refl
-
-first-none : (c : ℕ) (cs : Bytes) → HasNone (c ∷ cs) → is_past_ascii c ≡ false
-first-none c cs none = first-test (is_past_ascii c) c cs none
-
-none-in-front : (n : ℕ) (cs : Bytes) → HasNone cs → HasNone (take n cs)
-none-in-front zero cs none = refl
-none-in-front (suc n) [] none = refl
-none-in-front (suc n) (c ∷ cs) none = rw (first-none c cs none) (none-in-front n cs (rest-none c cs none))
-
-none-onto : (c : ℕ) (parts : List Bytes) → is_past_ascii c ≡ false → ((k : ℕ) → HasNone (get_or parts k [])) → (k : ℕ) → HasNone (get_or (onto_first c parts) k [])
-none-onto c [] low none zero = rw low refl
-none-onto c [] low none (suc k) = refl
-none-onto c (part ∷ parts) low none zero = rw low (none 0)
-none-onto c (part ∷ parts) low none (suc k) = none (suc k)
-
-none-in-test : (b : Bool) (c : ℕ) (parts : List Bytes) → is_past_ascii c ≡ false → ((k : ℕ) → HasNone (get_or parts k []))
-    → (k : ℕ) → HasNone (get_or (cond b ([] ∷ parts) (onto_first c parts)) k [])
-none-in-test true c parts low none zero = refl
-none-in-test true c parts low none (suc k) = none k
-none-in-test false c parts low none k = none-onto c parts low none k
-
-none-in-part : (cs : Bytes) → HasNone cs → (k : ℕ) → HasNone (get_or (slice_split is_newline cs) k [])
-none-in-part [] none zero = refl
-none-in-part [] none (suc k) = refl
-none-in-part (c ∷ cs) none k =
-    none-in-test (is_newline c) c (slice_split is_newline cs) (first-none c cs none) (none-in-part cs (rest-none c cs none)) k
-
-ascii-none : (cs : Bytes) → IsAscii cs → HasNone cs
-ascii-none [] ascii = refl
-ascii-none (c ∷ cs) ascii =
-    let low : is_past_ascii c ≡ false = (let first : c < 128 = ascii 0 in grind (arith, nat_tests)) in
-    rw low (ascii-none cs (λ i. ascii (suc i)))
-
-no-sign : (dotted : Bool) (line : Bytes) → HasNone line → sign_of dotted line ≡ None
-no-sign true line none = by-test (is_remark line)
-  where
-    by-test : (b : Bool) → cond b None (find is_past_ascii (without_comment line)) ≡ None
-    by-test true = refl
-    by-test false = none-in-front (comment_start line) line none
-no-sign false line none = none-in-front (comment_start line) line none
-
--- a file of ASCII has none
-pub ascii_none : (bytes : Bytes) → IsAscii bytes → (number : ℕ) → signs_told number [] ≡ signs_at bytes number
-ascii_none bytes ascii zero = refl
-ascii_none bytes ascii (suc k) = sym (ap listed (no-sign (is_dotted bytes) (file_line bytes k) (none-in-part bytes (ascii-none bytes ascii) k)))
+        ap (λ line. listed (sign_of (is_dotted bytes) line)) none ∙ ap listed (no-sign (is_dotted bytes) [] refl refl)
 
 -- two problems of which neither comes before the other are of the same line
 tied : (number : ℕ) (problem : Problem) (one : Finding)

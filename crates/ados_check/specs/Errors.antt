@@ -1,5 +1,5 @@
 -- What an error says of a line of a script is so.
-use Rattle.std.specs.Prelude.{ℕ, ◌≡◌, ◌<◌, List, [], ◌∷◌, Option, Some, None, Result, Ok, Err, IfSome, length}
+use Rattle.std.specs.Prelude.{ℕ, ◌-◌, ◌≡◌, ◌<◌, List, [], ◌∷◌, Option, Some, None, Result, Ok, Err, IfSome, length, slice_index}
 use Rattle.std.specs.List.{All}
 use Rattle.ados_text.specs.declared.codes.TheConstants.Result2.{OBJECT_NOT_FOUND}
 use Rattle.ados_text.specs.Lines.{lines_of}
@@ -31,7 +31,7 @@ use Rattle.ados_script.specs.Lines.{line_of}
 use Rattle.ados_vars.specs.Vars.{Pairs}
 use Rattle.ados_check.specs.Commands.{meaning_of}
 use Rattle.ados_check.specs.Directives.{IsNeverCalled, IsSample}
-use Rattle.ados_check.specs.Signs.{signs_at, told_sign}
+use Rattle.ados_check.specs.Signs.{line_at, signs_at, told_sign}
 use Rattle.ados_check.specs.declared.commands.Meaning.TheVariants as meaning
 use Rattle.ados_check.specs.declared.findings.Finding.{Finding}
 use Rattle.ados_check.specs.declared.findings.Problem.{Problem}
@@ -76,8 +76,8 @@ IsLost dialect number command sample line = (args : Text) × IsCommand dialect l
 abbrev pub IsLong : ℕ → Text → Type 0
 IsLong count line = (length line ≡ count) × (512 < count) × IsReadAs line (Err LineTooLong)
 
--- What a problem says of the line of a number is so, in a script of these lines as they are written. Of bytes above 127 the file itself
--- says more than its lines do; of what is not an error nothing is said.
+-- What a problem says of the line of a number is so, in a script of these lines as they are written. Of signs the file itself says
+-- more than its lines do; of what is not an error nothing is said.
 abbrev pub SaysSo : Dialect → List Text → ℕ → Problem → Type 0
 SaysSo dialect lines number (problem.LongLine count) = IsLine lines number (λ sample. IsLong count)
 SaysSo dialect lines number (problem.Line fault) = IsLine lines number (λ sample line. IsReadAs line (Err fault))
@@ -87,7 +87,7 @@ SaysSo dialect lines number (problem.NoLab label) = IsLine lines number (IsLost 
 SaysSo dialect lines number problem.ElseWithoutEndIf = IsLine lines number (IsLost dialect number Else)
 SaysSo dialect lines number other = Unit {0}
 
--- it is so, and not of a byte above 127
+-- it is so, and not of a sign
 abbrev pub IsSound : Dialect → List Text → ℕ → Problem → Type 0
 IsSound dialect lines number what = (told_sign what ≡ None) × SaysSo dialect lines number what
 
@@ -113,6 +113,22 @@ abbrev pub AreSoWithFound : ℕ → Option Problem → List Finding → List Fin
 AreSoWithFound number found old new =
     (dialect : Dialect) (lines : List Text) → AreSo dialect lines old → IfSome found (IsSound dialect lines number) → AreSo dialect lines new
 
--- what a finding in a file of these bytes says is so: a byte above 127 of which it speaks is the one that is to be found there
-abbrev pub IsSo : Dialect → Bytes → Finding → Type 0
-IsSo dialect bytes one = SaysSo dialect (lines_of bytes) one.line one.problem × IfSome (told_sign one.problem) (λ byte. signs_at bytes one.line ≡ byte ∷ [])
+-- the line ends in a carriage return, which no comment takes
+abbrev pub EndsInReturn : Bytes → Type 0
+EndsInReturn line = (slice_index line (length line - 1) ≡ 13) × (length (without_comment line) ≡ length line)
+
+-- what a problem says of the bytes of its line is so
+abbrev pub SaysOfBytes : Bytes → Problem → Type 0
+SaysOfBytes line (problem.EndReturn others) = EndsInReturn line
+SaysOfBytes line (problem.PrintedReturn others) = EndsInReturn line
+SaysOfBytes line other = Unit {0}
+
+-- the sign of which a problem speaks is the one that is to be found in the line of a number
+abbrev pub IsSignOf : Bytes → ℕ → Problem → Type 0
+IsSignOf bytes number what = IfSome (told_sign what) (λ byte. signs_at bytes number ≡ byte ∷ [])
+
+-- what a finding in a file of these bytes says is so
+pub record IsSo (dialect : Dialect) (bytes : Bytes) (one : Finding) : Type 0 where
+  pub says : SaysSo dialect (lines_of bytes) one.line one.problem
+  pub sign : IsSignOf bytes one.line one.problem
+  pub of_bytes : SaysOfBytes (line_at bytes one.line) one.problem

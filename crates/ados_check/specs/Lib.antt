@@ -1,8 +1,12 @@
 pub mod Aliases
+pub mod Arguments
 pub mod Commands
 pub mod Directives
 pub mod Errors
 pub mod Jumps
 pub mod LeftOut
+pub mod Printing
+pub mod Problems
 pub mod Readings
+pub mod Returns
 pub mod Signs

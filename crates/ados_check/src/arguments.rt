@@ -1,5 +1,9 @@
 //! The words of a line as a command's arguments are read: redirections are skipped.
 
+ghost use Rattle.std.specs.Prelude.{◌≡◌, true};
+ghost use Rattle.ados_items.specs.Items.{bytes_between, item_at};
+ghost use Rattle.ados_check.specs.Arguments.{has_redirection, next_end_of_run, run_end, sign_width, word_at};
+
 use ados_items::{Item, between, next_item, next_word};
 
 /// A word: a text in quotes, or a touching run of words and equal signs.
@@ -34,20 +38,28 @@ pub fn next_argument(line: &[u8], place: usize) -> Option<Word> {
 }
 
 /// A redirection is in the line.
-pub fn has_redirection(line: &[u8]) -> bool {
+pub fn has_redirection(line: &[u8]) -> bool
+    ensures { result ≡ has_redirection line.now }
+{
     let mut place = 0;
-    for _ in 0..line.len() {
+    for step in 0..line.len() {
         match word_at(line, place) {
-            Some(word) if sign_width(line, word) > 0 => return true,
-            Some(word) => place = word.to,
             None => return false,
+            Some(word) => {
+                if sign_width(line, word) > 0 {
+                    return true;
+                }
+                place = word.to;
+            }
         }
     }
     false
 }
 
 // The word at a place.
-fn word_at(line: &[u8], place: usize) -> Option<Word> {
+fn word_at(line: &[u8], place: usize) -> Option<Word>
+    ensures { result ≡ word_at line.now place }
+{
     match next_item(line, place) {
         Item::Word { from, to } => Some(Word {
             from,
@@ -69,21 +81,35 @@ fn word_at(line: &[u8], place: usize) -> Option<Word> {
 }
 
 // Where a run ends that goes up to a place at least.
-fn run_end(line: &[u8], place: usize) -> usize {
+fn run_end(line: &[u8], place: usize) -> usize
+    ensures { result ≡ run_end line.now place }
+{
     let mut end = place;
-    for _ in 0..line.len() {
-        match next_item(line, end) {
-            Item::Word { from, to } if from == end => end = to,
-            Item::Equal(at) if at == end => end = at + 1,
-            _ => return end,
+    for step in 0..line.len() {
+        match next_end_of_run(line, end) {
+            Some(to) => end = to,
+            None => return end,
         }
     }
     end
 }
 
+// Where the item ends with which a run goes on from a place; `None` if it ends there.
+fn next_end_of_run(line: &[u8], end: usize) -> Option<usize>
+    ensures { result ≡ next_end_of_run end (item_at true line.now end) }
+{
+    match next_item(line, end) {
+        Item::Word { from, to } => (from == end).then_some(to),
+        Item::Equal(at) => (at == end).then_some(at + 1),
+        Item::Quoted { .. } | Item::End(_) | Item::Unmatched(_) => None,
+    }
+}
+
 // How many bytes the redirection sign has with which a word begins; 0 if it begins with none. A word `<name>`
 // is a value of the script's arguments.
-fn sign_width(line: &[u8], word: Word) -> usize {
+fn sign_width(line: &[u8], word: Word) -> usize
+    ensures { result ≡ sign_width (bytes_between line.now word.from word.to) }
+{
     match between(line, word.from, word.to) {
         [b'>', b'>', ..] => 2,
         [b'>', ..] => 1,

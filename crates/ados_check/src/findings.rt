@@ -1,10 +1,26 @@
 //! What is found in a line of a script: its number and the problem, as texts.
 
+ghost use Rattle.std.specs.Prelude.{◌≡◌};
+ghost use Rattle.ados_check.specs.Problems.{is_error, is_harmless, refused, speaks_of_return};
+
 use crate::left_out::LeftOut;
 use ados_line::LineFault;
 use ados_readargs::ArgFault;
 use ados_text::Text;
 use std::fmt;
+
+// What mends the bytes of a script: its letters, its ends of lines, its beginning.
+const LETTERS: &str = "(iconv -f LATIN1 -t ASCII//TRANSLIT)";
+
+const RETURNS: &str = "(tr -d '\\r')";
+
+const ORDER_MARK: &str = "(sed '1s/^\\xEF\\xBB\\xBF//')";
+
+// What becomes of a byte that Echo or Ask prints.
+const PRINTED: &str = ", and is printed as _ or ?";
+
+// Why a line is no directive that looks like one.
+const IDLE: &str = "no directive, since the first line does not begin with a dot";
 
 /// A problem of a line.
 #[derive(Drop)]
@@ -22,6 +38,10 @@ pub enum Problem {
     NotAscii(u8),
     /// A byte above 127 in the words of Echo or Ask, which print another sign in its place.
     PrintedByte(u8),
+    /// A carriage return at the end, outside of a comment: the Shell takes it for a byte of the last word. So many other lines have one.
+    EndReturn(usize),
+    /// The same after the words of Echo or Ask, which print it.
+    PrintedReturn(usize),
     /// A UTF-8 byte order mark stands before the first line.
     ByteOrderMark,
     /// A command has options of Release 2 that the Shell leaves out, and takes for names.
@@ -56,22 +76,38 @@ pub enum Problem {
 
 impl Problem {
     /// The line may be run all the same.
-    pub fn is_harmless(&self) -> bool {
-        matches!(self, Problem::PrintedByte(_))
+    pub fn is_harmless(&self) -> bool
+        ensures { result ≡ is_harmless self.now }
+    {
+        matches!(self, Problem::PrintedByte(_) | Problem::PrintedReturn(_))
     }
 
     /// The line must not be run after all, since Echo or Ask is another command there.
-    pub fn refuse(&mut self) {
-        if let Problem::PrintedByte(byte) = self {
-            *self = Problem::NotAscii(*byte);
+    pub fn refuse(&mut self)
+        ensures { self.new ≡ refused self.old }
+    {
+        match self {
+            Problem::PrintedByte(byte) => *self = Problem::NotAscii(*byte),
+            Problem::PrintedReturn(others) => *self = Problem::EndReturn(*others),
+            _ => {}
         }
     }
 
+    /// It speaks of a carriage return at the end of its line.
+    pub fn is_return(&self) -> bool
+        ensures { result ≡ speaks_of_return self.now }
+    {
+        matches!(self, Problem::EndReturn(_) | Problem::PrintedReturn(_))
+    }
+
     /// Whenever the line is taken, it fails; otherwise it may be meant as it is.
-    pub fn is_error(&self) -> bool {
+    pub fn is_error(&self) -> bool
+        ensures { result ≡ is_error self.now }
+    {
         matches!(
             self,
             Problem::NotAscii(_)
+                | Problem::EndReturn(_)
                 | Problem::ByteOrderMark
                 | Problem::LongLine(_)
                 | Problem::Line(_)
@@ -86,20 +122,20 @@ impl Problem {
 impl fmt::Display for Problem {
     fn fmt<W: fmt::Write>(&self, f: &mut fmt::Formatter<W>) -> Result<(), fmt::Error> {
         match self {
-            Problem::NotAscii(byte) => write!(
-                f,
-                "byte 0x{byte:02x} is not ASCII (iconv -f LATIN1 -t ASCII//TRANSLIT)"
-            ),
-            Problem::PrintedByte(byte) => {
+            Problem::NotAscii(byte) => write!(f, "byte 0x{byte:02x} is not ASCII {}", LETTERS),
+            Problem::PrintedByte(byte) => write!(f, "byte 0x{byte:02x} is not ASCII{}", PRINTED),
+            Problem::EndReturn(0) => write!(f, "byte 0x0d (CR) at its end {}", RETURNS),
+            Problem::EndReturn(others) => {
                 write!(
                     f,
-                    "byte 0x{byte:02x} is not ASCII, and is printed as _ or ?"
+                    "byte 0x0d (CR) at its end, and {others} more {}",
+                    RETURNS
                 )
             }
-            Problem::ByteOrderMark => write!(
-                f,
-                "a UTF-8 byte order mark (sed '1s/^\\xEF\\xBB\\xBF//')"
-            ),
+            Problem::PrintedReturn(_) => {
+                write!(f, "byte 0x0d (CR) at its end is printed {}", RETURNS)
+            }
+            Problem::ByteOrderMark => write!(f, "a UTF-8 byte order mark {}", ORDER_MARK),
             Problem::LeftOut(options) => write!(f, "{options}"),
             Problem::LongLine(bytes) => write!(f, "{bytes} bytes (at most 512)"),
             Problem::Line(fault) => write!(f, "{fault}"),
@@ -114,12 +150,7 @@ impl fmt::Display for Problem {
             Problem::ElseWithoutEndIf => write!(f, "Else without EndIf"),
             Problem::IfWithoutEndIf => write!(f, "If without EndIf"),
             Problem::EndIfWithoutIf => write!(f, "EndIf without If"),
-            Problem::IdleDirective => {
-                write!(
-                    f,
-                    "no directive, since the first line does not begin with a dot"
-                )
-            }
+            Problem::IdleDirective => f.write_str(IDLE),
             Problem::UnknownCommand(name) => write!(f, "{}: unknown command", shown(name)),
             Problem::NoScript(name) => write!(f, "{}: no such script", shown(name)),
         }

@@ -14,7 +14,9 @@ mod made_aliases;
 mod readings;
 mod release_two;
 mod renames;
+mod returns;
 mod signs;
+mod targets;
 
 pub use commands::name_in_c;
 pub use directives::bad_directive;
@@ -23,4 +25,5 @@ pub use inspection::inspect;
 pub use jumps::label_in;
 pub use left_out::strike;
 pub use lines::check;
+pub use returns::merge_returns;
 pub use signs::{mark, mark_printed};

@@ -8,7 +8,7 @@ ghost use Rattle.ados_check.specs.Signs.{SaysTheSame, signs_at, signs_told, told
 use crate::findings::{Finding, Problem};
 use crate::left_out::options_left_out;
 use crate::renames::{may_call, renames_printers};
-use crate::signs::{is_dotted, sign_in, sign_problem};
+use crate::signs::{RETURN, are_plain, is_dotted, sign_in, sign_problem};
 use ados_resident::Dialect;
 use ados_text::{NoMemory, Text};
 use ados_vars::Aliases;
@@ -48,8 +48,8 @@ pub fn sort(found: &mut Vec<Finding>) -> Result<(), NoMemory>
     Ok(())
 }
 
-// The problems of a file's bytes above 127. Nearly all files have none.
-#[tactic(auto, using(crate::proofs::SignLemmas::ascii_none, crate::proofs::SignLemmas::none_yet, crate::proofs::SignLemmas::none_more, crate::proofs::SignLemmas::one_more, crate::proofs::SignLemmas::told_all))]
+// The problems of a file's signs. Nearly all files have none.
+#[tactic(auto, using(crate::proofs::SignLemmas::plain_none, crate::proofs::SignLemmas::none_yet, crate::proofs::SignLemmas::none_more, crate::proofs::SignLemmas::one_more, crate::proofs::SignLemmas::told_all))]
 fn signs_found(
     alloc: Global,
     dialect: Dialect,
@@ -60,25 +60,37 @@ fn signs_found(
     ensures signs { IfOk result (λ found. (number : ℕ) → signs_told number found.items ≡ signs_at bytes.now number) }
     ensures so { IfOk result (λ found. AreAlwaysSo found.items) }
 {
-    if bytes.is_ascii() {
+    if are_plain(bytes) {
         return Ok(Vec::new(alloc));
     }
     let is_told_only = !renames_printers(alloc, aliases, lines)?
         && !may_call(alloc, dialect, lines)?;
     let is_dotted = is_dotted(bytes);
     let in_file = lines_in(alloc, bytes)?;
+    let others = other_returns(is_dotted, &in_file);
     let mut found = Vec::new(alloc);
     for place in 0..in_file.len() {
         let line = line_at(&in_file, place);
         match sign_in(is_dotted, line) {
             None => {}
             Some(byte) => {
-                let problem = sign_problem(place, is_told_only, line, byte);
+                let problem = sign_problem(place, is_told_only, line, byte, others);
                 push_problem(&mut found, place + 1, problem)?;
             }
         }
     }
     Ok(found)
+}
+
+// How many lines end in a carriage return that is their sign, besides one of them.
+fn other_returns(is_dotted: bool, lines: &[&[u8]]) -> usize {
+    let mut count: usize = 0;
+    for line in lines {
+        if let Some(RETURN) = sign_in(is_dotted, line) {
+            count = count.saturating_add(1);
+        }
+    }
+    count.saturating_sub(1)
 }
 
 // The lines of a file's bytes.

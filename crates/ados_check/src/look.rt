@@ -15,6 +15,8 @@ use crate::left_out::name_in;
 use crate::lines::push_sound;
 use crate::made_aliases::MadeAliases;
 use crate::readings::read_line;
+use crate::signs::ends_in_return;
+use crate::targets::are_targets_open;
 use ados_flow::gather;
 use ados_items::{between, first_word, trimmed};
 use ados_line::{Expanded, Line, LineFault, without_comment};
@@ -76,7 +78,7 @@ impl<'a> Look<'a> {
             let number = place.saturating_add(1);
             let of_block = self.block_problem(number, &mut depth);
             push_sound(found, number, of_block)?;
-            let of_line = self.problem_unless(gathered > 0, number)?;
+            let of_line = self.problem_unless(gathered > 0 || self.has_return(number), number)?;
             push_sound(found, number, of_line)?;
             gathered = if gathered > 0 {
                 gathered - 1
@@ -111,6 +113,14 @@ impl<'a> Look<'a> {
         Ok(is_run || is_open || self.made.has(self.alloc, name)?)
     }
 
+    // A line ends in a carriage return: what is said of its last word would be said of each such line.
+    fn has_return(&self, number: usize) -> bool {
+        match self.script.line(number) {
+            Some(line) => ends_in_return(line.as_bytes()),
+            None => false,
+        }
+    }
+
     // The problem of a line where a block begins or ends that is not whole; `depth` is how many blocks are open.
     fn block_problem(&self, number: usize, depth: &mut usize) -> Option<Problem>
         ensures { IfSome result (IsSound self.now.dialect self.now.written.now number) }
@@ -119,7 +129,7 @@ impl<'a> Look<'a> {
         let word = first_word(trimmed(line.as_bytes()));
         if same_name(word, b"If") {
             *depth = depth.saturating_add(1);
-            let is_lost = self.script.after_if(number) == Jump::None;
+            let is_lost = self.script.after_if(number) == Jump::None && !self.has_return(number);
             return is_lost.then_some(Problem::IfWithoutEndIf);
         }
         if same_name(word, b"EndIf") {
@@ -130,12 +140,12 @@ impl<'a> Look<'a> {
         None
     }
 
-    // The problem of a line, unless a line above it takes it.
-    fn problem_unless(&self, is_taken: bool, number: usize) -> Result<Option<Problem>, NoMemory>
+    // The problem of a line, unless it is passed over.
+    fn problem_unless(&self, is_passed: bool, number: usize) -> Result<Option<Problem>, NoMemory>
         requires { IsSample self.now.written.now self.now.script }
         ensures { IfOk result (λ found. IfSome found (IsSound self.now.dialect self.now.written.now number)) }
     {
-        if is_taken {
+        if is_passed {
             return Ok(None);
         }
         self.line_problem(number)
@@ -280,19 +290,4 @@ impl<'a> Look<'a> {
             &args,
         )
     }
-}
-
-// What a line is for a jump depends on the arguments of the script.
-fn are_targets_open(written: &[Text], lines: &[Text]) -> bool {
-    written.iter().zip(lines.iter()).any(|(written, line)| written != line
-        && may_be_target(written.as_bytes(), line.as_bytes()))
-}
-
-// The same of one line.
-fn may_be_target(written: &[u8], line: &[u8]) -> bool {
-    if written.starts_with(b".") {
-        return false;
-    }
-    let word = first_word(trimmed(written));
-    !same_name(word, first_word(trimmed(line))) || same_name(word, b"Lab")
 }

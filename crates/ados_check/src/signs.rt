@@ -1,8 +1,13 @@
-//! Bytes above 127 in a script. The Shell reads each as `?`, which in a name is a pattern that other names fit.
-ghost use Rattle.std.specs.Prelude.{◌≡◌, Some};
-ghost use Rattle.std.specs.List.{find};
+//! Signs in a script that the Shell takes for something else: a byte above 127 is read as `?`, which in a name is a pattern that other
+//! names fit, and a carriage return at the end of a line is a byte of its last word.
+ghost use Rattle.std.specs.Prelude.{◌≡◌, ◌&&◌, true, false, is_some, Some};
+ghost use Rattle.std.specs.List.{find, list_any};
+ghost use Rattle.std.specs.Str.{IsAscii};
 ghost use Rattle.ados_text.specs.Text.{is_past_ascii};
-ghost use Rattle.ados_check.specs.Signs.{is_dotted, is_remark, sign_of, told_sign};
+ghost use Rattle.ados_line.specs.Comment.{without_comment};
+ghost use Rattle.ados_check.specs.Printing.{only_prints};
+ghost use Rattle.ados_check.specs.Problems.{is_harmless};
+ghost use Rattle.ados_check.specs.Signs.{end_return, first_sign, is_dotted, is_remark, is_return, sign_of, told_sign};
 
 use crate::arguments::has_redirection;
 use crate::findings::{Finding, Problem};
@@ -15,6 +20,9 @@ use std::alloc::Global;
 
 // What is written in the place of such a byte: no pattern has it.
 const MARK: u8 = b'_';
+
+// What a line that was written on another system ends in, before its newline.
+pub const RETURN: u8 = b'\r';
 
 // The byte order mark of UTF-8, which editors write at the beginning of a file.
 const ORDER_MARK: [u8; 3] = [0xef, 0xbb, 0xbf];
@@ -47,7 +55,7 @@ pub fn mark_printed(alloc: Global, script: &mut [u8]) -> Result<Vec<Finding>, No
             break;
         };
         if let Some(byte) = sign_in(is_dotted, bytes)
-            && let problem @ Problem::PrintedByte(_) = sign_problem(place, true, bytes, byte)
+            && let problem @ Problem::PrintedByte(_) = sign_problem(place, true, bytes, byte, 0)
         {
             mark(bytes);
             let line = place.saturating_add(1);
@@ -68,28 +76,74 @@ pub fn is_dotted(bytes: &[u8]) -> bool
     }
 }
 
-/// The first byte above 127 of a line before its comment. `is_dotted`: its script has directives.
+/// No line has a sign: all bytes are ASCII, and none is a carriage return.
+pub fn are_plain(bytes: &[u8]) -> bool
+    ensures ascii { result ≡ true → IsAscii bytes.now }
+    ensures no_return { result ≡ true → list_any is_return bytes.now ≡ false }
+{
+    bytes.is_ascii() && !bytes.contains(&RETURN)
+}
+
+/// The line ends in a carriage return that no comment takes.
+pub fn ends_in_return(line: &[u8]) -> bool
+    ensures { result ≡ is_some (end_return line.now (without_comment line.now)) }
+{
+    end_return(line, without_comment(line)).is_some()
+}
+
+/// The sign of a line: the first byte above 127 before its comment, or otherwise the carriage return at its end, unless that is in its
+/// comment. `is_dotted`: its script has directives.
 pub fn sign_in(is_dotted: bool, line: &[u8]) -> Option<u8>
     ensures { result ≡ sign_of is_dotted line.now }
 {
     if is_dotted && is_remark(line) {
         return None;
     }
-    first_past_ascii(without_comment(line))
+    first_sign(line, without_comment(line))
 }
 
-/// The problem of a line, which is at this place from 0, with a byte above 127. `is_told_only`: in its script Echo and Ask only print
-/// their words.
-pub fn sign_problem(place: usize, is_told_only: bool, line: &[u8], byte: u8) -> Problem
-    ensures { told_sign result ≡ Some byte }
+/// The problem of a line, which is at this place from 0, with a sign. `is_told_only`: in its script Echo and Ask only print their
+/// words. `others` is how many other lines end in a carriage return.
+pub fn sign_problem(
+    place: usize,
+    is_told_only: bool,
+    line: &[u8],
+    byte: u8,
+    others: usize,
+) -> Problem
+    ensures told { told_sign result ≡ Some byte }
+    // Harmless is only what the line prints, if its script lets it do only that.
+    ensures harmless { is_harmless result ≡ true → (is_told_only && only_prints (without_comment line.now)) ≡ true }
 {
     if place == 0 && byte == 0xef && line.starts_with(&ORDER_MARK) {
         return Problem::ByteOrderMark;
     }
-    if is_told_only && is_printed(without_comment(line)) {
-        Problem::PrintedByte(byte)
-    } else {
-        Problem::NotAscii(byte)
+    let is_harmless = is_told_only && is_printed(without_comment(line));
+    match byte {
+        RETURN if is_harmless => Problem::PrintedReturn(others),
+        RETURN => Problem::EndReturn(others),
+        _ if is_harmless => Problem::PrintedByte(byte),
+        _ => Problem::NotAscii(byte),
+    }
+}
+
+// The sign of a line, which is this text without its comment.
+fn first_sign(line: &[u8], text: &[u8]) -> Option<u8>
+    ensures { result ≡ first_sign line.now text.now }
+{
+    match first_past_ascii(text) {
+        Some(byte) => Some(byte),
+        None => end_return(line, text),
+    }
+}
+
+// The carriage return at the end of a line, which is this text without its comment.
+fn end_return(line: &[u8], text: &[u8]) -> Option<u8>
+    ensures { result ≡ end_return line.now text.now }
+{
+    match line {
+        [.., b'\r'] if text.len() == line.len() => Some(RETURN),
+        _ => None,
     }
 }
 
@@ -117,7 +171,9 @@ fn is_remark(line: &[u8]) -> bool
 
 // The line only prints its words: its command is Echo or Ask, and it has neither a redirection nor a command between back-ticks.
 // A single byte as its only argument would be read as the `?` that asks for arguments.
-fn is_printed(line: &[u8]) -> bool {
+fn is_printed(line: &[u8]) -> bool
+    ensures { result ≡ only_prints line.now }
+{
     let line = trimmed(line);
     let name = first_word(line);
     let is_printer = name.eq_ignore_ascii_case(b"Echo") || name.eq_ignore_ascii_case(b"Ask");

@@ -1,2 +1,3 @@
+mod AccountLemmas
 mod PathLemmas
 mod KeyLemmas

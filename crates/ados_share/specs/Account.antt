@@ -1,9 +1,10 @@
 -- What one update of the shared folder could not write.
-use Rattle.std.specs.Prelude.{List, [], ◌∷◌, ◌++◌, Bool, false, ◌&&◌, not, ◌==◌, Option, Some, None, length}
+use Rattle.std.specs.Prelude.{List, [], ◌∷◌, ◌++◌, Bool, false, ◌&&◌, not, ◌==◌, Option, Some, None, if◌then◌else◌, length}
 use Rattle.std.specs.List.{list_any}
 use Rattle.ados_text.specs.Text.{Bytes}
 use Rattle.ados_ram.specs.declared.entries.Body.{Body}
 use Rattle.ados_ram.specs.declared.entries.Body.TheVariants.{Directory, File}
+use Rattle.ados_share.specs.declared.syncs.FreshFile.{FreshFile}
 use Rattle.ados_transfer.specs.declared.here.Here.{Here}
 use Rattle.ados_transfer.specs.declared.here.Here.TheVariants.{Absent, Directory as Folder, File as Seen, Large, Foreign, Unread}
 use Rattle.ados_transfer.specs.Within.{is_beginning, is_substring}
@@ -13,10 +14,18 @@ abbrev pub first_path : Option Bytes → Bytes → Option Bytes
 first_path None path = Some path
 first_path (Some old) path = Some old
 
+-- what bars programs after an update: what the system refused to write; with `--dry` nothing was to be written
+abbrev pub barred_by : {A : Type 0} → Bool → Option A → Option A
+barred_by dry refused = if dry then None else refused
+
 -- the contents of the files that could not be written, with this one; a directory has none
 abbrev pub with_bytes_of : List Bytes → Body → List Bytes
 with_bytes_of all Directory = all
 with_bytes_of all (File bytes) = all ++ bytes ∷ []
+
+-- the files that were written and that a power cut may empty, with this one; one without bytes is none of them
+abbrev pub with_fresh : List FreshFile → FreshFile → List FreshFile
+with_fresh all file = if length file.bytes == 0 then all else all ++ file ∷ []
 
 -- the bytes are not empty, and occur in one of the files that could not be written
 abbrev pub is_in_unwritten : List Bytes → Bytes → Bool

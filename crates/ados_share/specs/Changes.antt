@@ -32,6 +32,13 @@ has_last_stamp files object seen (File bytes) (AnyFile is_executable) = not obje
 has_last_stamp files object seen (StandIn comment) (AnyFile is_executable) = is_same_stamp object.stamp seen.stamp && has_stand_in (map.get files (key_of object.place)) comment
 has_last_stamp files object seen _ _ = false
 
+-- it is of the kind that it was at the last comparison
+abbrev pub is_of_kind : Last → Kind → Bool
+is_of_kind Directory Folder = true
+is_of_kind (File bytes) (AnyFile is_executable) = true
+is_of_kind (StandIn comment) (AnyFile is_executable) = true
+is_of_kind _ _ = false
+
 -- it is neither a file nor a folder
 abbrev pub is_foreign : Kind → Bool
 is_foreign Foreign = true

@@ -1,5 +1,7 @@
 pub mod Account
+pub mod Arrivals
 pub mod Backups
 pub mod Records
 pub mod Changes
+pub mod Fit
 pub mod Moves

@@ -2,7 +2,7 @@
 ghost use Rattle.std.specs.Prelude.{◌≡◌, ◌++◌, ◌∷◌, ◌+◌, ◌-◌, ◌^◌, [], IfOk, OnErr, OnOk, if◌then◌else◌, min, string_bytes};
 ghost use Rattle.std.specs.List.{list_any};
 ghost use Rattle.std.specs.Option.{option_map, is_some};
-ghost use Rattle.ados_share.specs.Account.{first_path, is_in_unwritten, with_bytes_of};
+ghost use Rattle.ados_share.specs.Account.{first_path, is_in_unwritten, with_bytes_of, with_fresh};
 ghost use Rattle.ados_transfer.specs.Within.{is_substring};
 
 use crate::moves::Destination;
@@ -36,6 +36,8 @@ pub struct Account {
     pub copies: Vec<String>,
     /// The path of the first object that could not be written.
     pub unwritten: Option<String>,
+    /// The path of the first object that the system refused to write.
+    pub refused: Option<String>,
     /// The contents of the files that could not be written.
     pub bytes: Vec<FileBytes>,
     /// The path of the first object that is not deleted because of that.
@@ -76,6 +78,7 @@ impl Account {
             left_out: Vec::new(alloc),
             copies: Vec::new(alloc),
             unwritten: None,
+            refused: None,
             bytes: Vec::new(alloc),
             held: None,
             more: 0,
@@ -137,6 +140,18 @@ impl Account {
         Ok(())
     }
 
+    /// Notes that the system refused to write an object: no program starts after the update.
+    pub fn refuse(&mut self, path: &str) -> Result<(), TransferFault>
+        ensures refused { OnOk result (option_map string_bytes self.new.refused ≡ first_path (option_map string_bytes self.old.refused) path.now) }
+        ensures unchanged { OnErr result (self.new ≡ self.old) }
+        ensures rest { self.new ≡ record self.old { refused = self.new.refused } }
+    {
+        if self.refused.is_none() {
+            self.refused = Some(String::from_str(self.alloc, path)?);
+        }
+        Ok(())
+    }
+
     /// Notes that the Shell holds this entry, which is not written.
     pub fn add_unwritten_entry(&mut self, path: &str, entry: &Entry) -> Result<(), TransferFault>
         ensures unwritten { OnOk result (option_map string_bytes self.new.unwritten ≡ first_path (option_map string_bytes self.old.unwritten) path.now) }
@@ -193,23 +208,22 @@ impl Account {
         std::mem::replace(&mut self.aside, Vec::new(self.alloc))
     }
 
-    /// Notes that an object was written. A directory, and a file without bytes, have nothing that a power cut may take.
-    pub fn add_fresh(&mut self, path: &str, entry: &Entry) -> Result<(), TransferFault>
+    /// Notes that a file was written. One without bytes has nothing that a power cut may take.
+    pub fn add_fresh(&mut self, file: FreshFile) -> Result<(), TransferFault>
+        ensures fresh { OnOk result (self.new.fresh.items ≡ with_fresh self.old.fresh.items file) }
         ensures rest { self.new ≡ record self.old { fresh = self.new.fresh } }
     {
-        match &entry.body {
-            Body::File(bytes) if bytes.len() > 0 => {
-                let path = String::from_str(self.alloc, path)?;
-                let bytes = bytes.clone()?;
-                self.fresh.push(FreshFile { path, bytes })?;
-                Ok(())
-            }
-            Body::File(_) | Body::Directory => Ok(()),
+        if file.bytes.len() == 0 {
+            return Ok(());
         }
+        self.fresh.push(file)?;
+        Ok(())
     }
 
     /// The files that were written; none of them is noted any longer.
     pub fn take_fresh(&mut self) -> Vec<FreshFile>
+        ensures all { result.items ≡ self.old.fresh.items }
+        ensures none { self.new.fresh.items ≡ [] }
         ensures rest { self.new ≡ record self.old { fresh = self.new.fresh } }
     {
         std::mem::replace(&mut self.fresh, Vec::new(self.alloc))

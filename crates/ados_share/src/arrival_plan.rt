@@ -5,7 +5,9 @@ use crate::mirror::Mirror;
 use ados_names::PATH_LIMIT;
 use ados_ram::{Entry, FileBytes, Limits, Place, Ram};
 use ados_text::NoMemory;
-use ados_transfer::{Here, Kind, Room, Seen, ShareLines, TransferFault, is_shell_script};
+use ados_transfer::{
+    Here, Kind, LeftAlone, Obstacle, Room, Seen, ShareLines, TransferFault, is_shell_script,
+};
 use std::alloc::Global;
 use std::collections::BTreeSet;
 use std::time::SystemTime;
@@ -22,6 +24,8 @@ pub struct ArrivalPlan<'a> {
     // The keys of the directories that are made in them.
     made: BTreeSet<String>,
     arrivals: Vec<Arrival>,
+    // What does not come in, though it is there.
+    left_out: Vec<LeftAlone>,
 }
 
 impl<'a> ArrivalPlan<'a> {
@@ -40,12 +44,31 @@ impl<'a> ArrivalPlan<'a> {
             deleted: BTreeSet::new(alloc),
             made: BTreeSet::new(alloc),
             arrivals: Vec::new(alloc),
+            left_out: Vec::new(alloc),
         })
     }
 
     /// The arrivals.
     pub fn into_arrivals(self) -> Vec<Arrival> {
         self.arrivals
+    }
+
+    /// The files and folders that do not come in, though they are there: their paths are too long for the Shell, or they can't be read.
+    pub fn left_out(&self) -> &[LeftAlone] {
+        self.left_out.as_slice()
+    }
+
+    /// An object does not come in, though it is there.
+    pub fn leave_out(&mut self, obstacle: Obstacle, path: &str) -> Result<(), TransferFault> {
+        let path = String::from_str(self.alloc, path)?;
+        self.left_out.push(LeftAlone { obstacle, path })?;
+        Ok(())
+    }
+
+    // Reports that the path of an object is too long for the Shell.
+    fn leave_too_long(&mut self, mirror: &mut Mirror, path: &str) -> Result<(), TransferFault> {
+        self.leave_out(Obstacle::BadName, path)?;
+        mirror.reports.report_once(Obstacle::BadName.text(), path)
     }
 
     /// The time of the look.
@@ -122,9 +145,7 @@ impl<'a> ArrivalPlan<'a> {
     ) -> Result<(), TransferFault> {
         let entry = self.look(key, place);
         if place.path(self.alloc)?.as_bytes().len() > PATH_LIMIT {
-            return mirror
-                .reports
-                .report_once("bad name for the Shell, left alone", seen.path.as_str());
+            return self.leave_too_long(mirror, seen.path.as_str());
         }
         let Some(stamp) = here.stamp() else {
             return Ok(());
@@ -217,10 +238,7 @@ impl<'a> ArrivalPlan<'a> {
                 Ok(())
             }
             Err(TransferFault::LongLine(_)) => {
-                mirror.reports.report_once(
-                    "bad name for the Shell, left alone",
-                    arrival.path.as_str(),
-                )
+                self.leave_too_long(mirror, arrival.path.as_str())
             }
             Err(fault) => Err(fault),
         }

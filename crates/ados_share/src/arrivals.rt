@@ -5,6 +5,7 @@ ghost use Rattle.std.specs.List.{list_any};
 ghost use Rattle.std.specs.Option.{option_copied};
 ghost use Rattle.ados_text.specs.Text.{Bytes};
 ghost use Rattle.ados_share.specs.Changes.{has_changed, has_last_stamp, has_stand_in, is_gone, is_unchanged};
+ghost use Rattle.ados_share.specs.Arrivals.{size_of_coming};
 ghost use Rattle.ados_share.specs.Records.{OthersStay, has_key};
 
 use crate::arrival_plan::ArrivalPlan;
@@ -48,7 +49,9 @@ pub enum Coming {
 
 impl Coming {
     /// How many bytes it takes in the Shell's files.
-    pub fn size(&self) -> usize {
+    pub fn size(&self) -> usize
+        ensures { result ≡ size_of_coming self.now }
+    {
         match self {
             Coming::File(bytes) => bytes.len(),
             Coming::Nothing | Coming::Directory | Coming::StandIn(_) => 0,
@@ -103,7 +106,8 @@ impl Mirror {
     /// What changed in the folders since the last comparison, in an order in which it can come in; the first time everything. If both
     /// sides changed, this machine's version comes in, and a line reports it. If both are alike there is no arrival.
     ///
-    /// `DoesNotFit` if the first time there is no room for all names, unless a part is enough; `CannotRead` if there are too many folders.
+    /// `DoesNotFit` if the first time not all of it can come in, unless a part is enough: there is no room for a name, or a file or a
+    /// folder is left out for its name, or since it can't be read. `CannotRead` if there are too many folders.
     pub fn arrivals<R: AllocGlobal + Files + Clock + Clone + Drop>(
         &mut self,
         rt: &R,
@@ -113,33 +117,57 @@ impl Mirror {
         let volumes = self.volumes.copy()?;
         let rt = &Below::new(rt, &volumes);
         let look = Look::new(rt, self.options.all, &self.records)?;
-        for unread in &look.unread {
-            self.reports
-                .report_unread(unread.key.as_str(), unread.path.as_str())?;
+        self.report_look(&look)?;
+        let is_first = self.begins();
+        if is_first {
+            self.check_fit(&look, &[], files)?;
         }
-        for (text, path) in &look.left_alone {
-            self.reports.report_once(text, path.as_str())?;
-        }
-        let is_first = self.begins(&look, files)?;
         let changes = self.changes(&look, files)?;
         if changes.is_empty() {
             return Ok(Vec::new(self.alloc));
         }
-        let mut plan = ArrivalPlan::new(self.alloc, self.options.limits, files, self.now(rt))?;
-        for (key, seen) in changes.iter().rev() {
-            self.plan_gone(rt, &mut plan, key.as_str(), *seen)?;
+        let plan = self.plan(rt, &changes, files)?;
+        if is_first {
+            self.check_fit(&look, plan.left_out(), files)?;
         }
-        for (key, seen) in &changes {
-            if let Some(seen) = seen {
-                self.plan_come(rt, &mut plan, key.as_str(), seen)?;
-            }
-        }
-        self.hold_deletions(files)?;
         let arrivals = plan.into_arrivals();
         if is_first {
             self.report_stand_ins(&arrivals)?;
         }
         Ok(arrivals)
+    }
+
+    // Reports what a look could not read, and what it left alone.
+    fn report_look(&mut self, look: &Look) -> Result<(), TransferFault> {
+        for unread in &look.unread {
+            self.reports
+                .report_unread(unread.key.as_str(), unread.path.as_str())?;
+        }
+        for one in &look.left_alone {
+            self.reports
+                .report_once(one.obstacle.text(), one.path.as_str())?;
+        }
+        Ok(())
+    }
+
+    // Plans the arrivals for these changes: first of what is gone, the deepest first, then of what is there.
+    fn plan<'a, R: AllocGlobal + Files + Clock>(
+        &mut self,
+        rt: &R,
+        changes: &BTreeMap<String, Option<&Seen>>,
+        files: &'a Ram,
+    ) -> Result<ArrivalPlan<'a>, TransferFault> {
+        let mut plan = ArrivalPlan::new(self.alloc, self.options.limits, files, self.now(rt))?;
+        for (key, seen) in changes.iter().rev() {
+            self.plan_gone(rt, &mut plan, key.as_str(), *seen)?;
+        }
+        for (key, seen) in changes {
+            if let Some(seen) = seen {
+                self.plan_come(rt, &mut plan, key.as_str(), seen)?;
+            }
+        }
+        self.hold_deletions(files)?;
+        Ok(plan)
     }
 
     /// Checks whether the files have what an arrival, whose lines were run, was to bring in, and keeps that as the last state.

@@ -1,13 +1,28 @@
 //! What is planned for one object of the folder of a share.
+ghost use Rattle.std.specs.Prelude.{◌≡◌};
+ghost use Rattle.ados_share.specs.Changes.{is_of_kind};
 
 use crate::arrival_plan::ArrivalPlan;
 use crate::arrivals::{Arrival, Coming};
 use crate::mirror::Mirror;
-use ados_ram::{Body, Entry};
+use ados_ram::{Body, Entry, Place};
 use ados_transfer::{
-    Decision, Here, Kind, Last, Record, Seen, Stamp, State, TransferFault, decide, is_stand_in,
+    Decision, Here, Kind, Last, Obstacle, Record, Seen, Stamp, State, TransferFault, decide,
+    is_stand_in,
 };
 use std::rt::Files;
+
+// An object that is gone on this machine, or is of another kind there, and what the Shell has in its place.
+#[derive(Drop)]
+struct Disappearance<'a> {
+    // By this the Shell's is deleted.
+    arrival: Arrival,
+    place: Place,
+    entry: Option<&'a Entry>,
+    decision: Decision,
+    // A link or the like is there now.
+    is_foreign: bool,
+}
 
 impl Mirror {
     /// Plans the removal from the Shell's files of an object that is gone on this machine, or is of another kind there.
@@ -26,31 +41,53 @@ impl Mirror {
         let place = record.place.copy()?;
         let entry = plan.look(key, &place);
         let state = here.state(Some(record));
-        let decision = decide(&record.state(), &state, &record.state_there(entry), false);
-        let (is_absent, is_foreign) = (state.is_absent(), matches!(state, State::Foreign));
+        let is_absent = state.is_absent();
         let gone = (key, record.path.as_str());
-        let arrival = Arrival::new(self.alloc, gone, Coming::Nothing, Stamp::NONE)?;
-        self.note_vanished(key, &here, entry)?;
-        if decision == Decision::Conflict {
-            self.reports.report_kept(key, arrival.path.as_str(), false)?;
-            let is_there = entry.is_some() && !is_foreign;
-            self.overrule(plan.files(), key, arrival.path.as_str(), is_there)?;
-        }
-        let is_forgotten = match (decision, entry) {
-            (Decision::Conflict, _) if is_foreign => false,
-            (Decision::Conflict | Decision::Bring, Some(entry)) => {
-                plan.add_deletion(self, arrival, &place, entry)?;
-                !plan.deletes(key)
-            }
-            (Decision::Keep, _) => true,
-            // What the Shell changed is new there: it is written again.
-            (Decision::Write, Some(_)) => !self.reports.is_failing(key),
-            _ => false,
+        let disappearance = Disappearance {
+            arrival: Arrival::new(self.alloc, gone, Coming::Nothing, Stamp::NONE)?,
+            place,
+            entry,
+            decision: decide(&record.state(), &state, &record.state_there(entry), false),
+            is_foreign: matches!(state, State::Foreign),
         };
-        if is_absent && is_forgotten {
+        self.note_vanished(key, &here, entry)?;
+        let is_over = self.plan_deletion(plan, key, disappearance)?;
+        if is_absent && is_over {
             self.forget(key);
         }
         Ok(())
+    }
+
+    // Plans the deletion of what the Shell has in place of what is gone; whether the record says nothing any longer, if nothing is here.
+    fn plan_deletion(
+        &mut self,
+        plan: &mut ArrivalPlan<'_>,
+        key: &str,
+        disappearance: Disappearance<'_>,
+    ) -> Result<bool, TransferFault> {
+        let Disappearance {
+            arrival,
+            place,
+            entry,
+            decision,
+            is_foreign,
+        } = disappearance;
+        if decision == Decision::Conflict {
+            let path = arrival.path.as_str();
+            self.reports.report_kept(key, path, false)?;
+            self.overrule(plan.files(), key, path, entry.is_some() && !is_foreign)?;
+        }
+        match (decision, entry) {
+            (Decision::Conflict, _) if is_foreign => Ok(false),
+            (Decision::Conflict | Decision::Bring, Some(entry)) => {
+                plan.add_deletion(self, arrival, &place, entry)?;
+                Ok(!plan.deletes(key))
+            }
+            (Decision::Keep, _) => Ok(true),
+            // What the Shell changed is new there: it is written again.
+            (Decision::Write, Some(_)) => Ok(!self.reports.is_failing(key)),
+            _ => Ok(false),
+        }
     }
 
     // What this machine has at the place of an object that may have changed.
@@ -80,6 +117,7 @@ impl Mirror {
         }
         let here = Here::look(rt, self.options.limits, seen.path.as_str())?;
         if here.is_unread() {
+            plan.leave_out(Obstacle::Unread, seen.path.as_str())?;
             return self.reports.report_unread(key, seen.path.as_str());
         }
         self.note_vanished(key, &here, entry)?;
@@ -147,7 +185,9 @@ impl Mirror {
 }
 
 // The object on this machine is of the kind that it was at the last comparison.
-fn is_of_kind(record: &Record, kind: Kind) -> bool {
+fn is_of_kind(record: &Record, kind: Kind) -> bool
+    ensures { result ≡ is_of_kind «record».now.last kind }
+{
     match (&record.last, kind) {
         (Last::Directory, Kind::Directory) => true,
         (Last::File(_) | Last::StandIn(_), Kind::File { .. }) => true,

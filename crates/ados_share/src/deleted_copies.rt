@@ -3,7 +3,7 @@
 
 use crate::backups::{Backup, Backups};
 use crate::departure::Departure;
-use crate::last_copies::Holders;
+use crate::holders::Holders;
 use crate::mirror::Mirror;
 use crate::moves::Elsewhere;
 use crate::syncs::write_synced;

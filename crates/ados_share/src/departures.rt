@@ -30,6 +30,8 @@ impl Mirror {
         let mut account = Account::new(self.alloc, moment);
         let updated = self.update(rt, files, &mut account);
         let finished = self.finish_backups(rt, files, &mut account);
+        self.note_refused(&mut account);
+        self.reports.report_further()?;
         self.report_temporaries(rt, &account)?;
         updated?;
         finished
@@ -50,23 +52,15 @@ impl Mirror {
             self.forgive_undone(files)?;
         }
         self.watch(files)?;
-        self.settle_moves(files)?;
+        self.settle_moves(files);
         self.note_copies(files, account)?;
         let asides = self.begin_moves(rt, files, account)?;
         let mut departures = self.departures(files, account)?;
         departures.leave_out(away.as_slice());
         self.find_copies(files, &mut departures)?;
-        account.is_private = self.loses_private(rt, &departures);
-        for is_new in [true, false] {
-            for (key, departure) in &departures.by_key {
-                if departure.is_new == is_new && !departure.is_within_kind_change {
-                    self.write_here(rt, files, key.as_str(), departure, account)?;
-                }
-            }
-        }
-        self.change_kinds(rt, files, &departures, account)?;
+        self.write_all(rt, files, &departures, account)?;
         self.delete_gone(rt, files, &departures, account)?;
-        if self.rename_all(rt, files)? {
+        if self.rename_all(rt, files)?.is_any {
             self.delete_gone(rt, files, &departures, account)?;
         }
         if self.finish_moves(rt, files, asides, account)? {
@@ -76,6 +70,25 @@ impl Mirror {
             self.report_waiting(files)?;
         }
         self.report_account(account)
+    }
+
+    // Writes what is new, then what changed, then what is of another kind now and what needs its place.
+    fn write_all<R: AllocGlobal + Files + Clock>(
+        &mut self,
+        rt: &Below<'_, R>,
+        files: &Ram,
+        departures: &Departures<'_>,
+        account: &mut Account,
+    ) -> Result<(), TransferFault> {
+        account.is_private = self.loses_private(rt, departures);
+        for is_new in [true, false] {
+            for (key, departure) in &departures.by_key {
+                if departure.is_new == is_new && !departure.is_within_kind_change {
+                    self.write_here(rt, files, key.as_str(), departure, account)?;
+                }
+            }
+        }
+        self.change_kinds(rt, files, departures, account)
     }
 
     // The labels of the volumes whose directory or folder is gone. Nothing is written there, and so nothing is deleted in any other.
@@ -92,6 +105,7 @@ impl Mirror {
                 self.report_no_directory(volume, account.moment)?;
             } else if rt.is_gone(label) {
                 self.reports.fail(label, "cannot write", label)?;
+                account.refuse(label)?;
             } else {
                 self.forget(label);
                 continue;

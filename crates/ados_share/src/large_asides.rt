@@ -2,20 +2,21 @@
 
 use crate::account::{Account, Aside};
 use crate::departure::move_aside;
-use crate::large_moves::{Moved, renamed};
+use crate::large_moves::Moved;
 use crate::mirror::Mirror;
+use crate::renaming::{Renaming, renamed};
 use ados_ram::Ram;
 use ados_transfer::{Here, Record, TransferFault, lower};
 use std::io::ErrorKind;
 use std::rt::Files;
 
 impl Mirror {
-    // Moves a large file aside whose new name is in the directory, and gives it.
+    // Moves a large file aside whose new name is in the directory, and gives it. That the system refuses it is noted.
     pub(crate) fn set_large_aside<R: AllocGlobal + Files>(
         &mut self,
         rt: &R,
         moved: &Moved,
-        account: &Account,
+        account: &mut Account,
     ) -> Result<Option<Aside>, TransferFault> {
         if moved.new_path.is_none() || account.is_meanwhile() {
             return Ok(None);
@@ -27,7 +28,11 @@ impl Mirror {
             Err(error) if error.kind() == ErrorKind::OutOfMemory => {
                 return Err(TransferFault::NoMemory);
             }
-            _ => return Ok(None),
+            Err(_) => {
+                account.refuse(path)?;
+                return Ok(None);
+            }
+            Ok(None) => return Ok(None),
         };
         let Some((key, record)) = self.records.remove_entry(moved.key.as_str()) else {
             return Ok(None);
@@ -84,7 +89,7 @@ impl Mirror {
             return Ok(Some(aside));
         }
         match renamed(rt, beside.as_str(), path.as_str(), &aside.record.stamp)? {
-            Some(stamp) => {
+            Renaming::Done(stamp) => {
                 let record = aside.record;
                 self.keep(
                     key,
@@ -96,7 +101,7 @@ impl Mirror {
                 )?;
                 Ok(None)
             }
-            None => Ok(Some(aside)),
+            Renaming::Left | Renaming::Refused => Ok(Some(aside)),
         }
     }
 
@@ -118,13 +123,10 @@ impl Mirror {
         };
         let path = record.path.clone()?;
         match renamed(rt, beside.as_str(), path.as_str(), &record.stamp)? {
-            Some(stamp) => self.keep(key, Record { stamp, ..record }),
-            None => {
+            Renaming::Done(stamp) => self.keep(key, Record { stamp, ..record }),
+            Renaming::Left | Renaming::Refused => {
                 self.stand_ins.is_lost = true;
-                let whole = self.volumes.whole(beside.as_str())?;
-                let text = format!(in self.alloc; "kept as {whole}")?;
-                account.kept.push(beside)?;
-                self.reports.report(text.as_str(), path.as_str())
+                self.report_aside(beside, path.as_str(), account)
             }
         }
     }

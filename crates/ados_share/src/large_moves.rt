@@ -1,14 +1,12 @@
 //! Large files whose stand-ins the script renamed: they are renamed in the folder of the share.
 
 use crate::account::{Account, Aside};
-use crate::departure::{is_key_left_out, own_path};
+use crate::departure::is_key_left_out;
 use crate::mirror::Mirror;
+use crate::renaming::{Renaming, renamed};
 use ados_ram::{Entry, Place, Ram};
-use ados_transfer::{
-    Last, Record, Stamp, TransferFault, is_descendant, is_immovable, lower, own_entry, place_new,
-};
+use ados_transfer::{Last, Record, Stamp, TransferFault, is_descendant, lower, own_entry};
 use std::rt::Files;
-use std::{fs, io};
 
 /// A large file whose stand-in is no longer in its own place.
 #[derive(Drop)]
@@ -21,6 +19,15 @@ pub struct Moved {
     pub new_path: Option<String>,
     /// Its stamp.
     pub stamp: Stamp,
+}
+
+/// What came of renaming all large files.
+#[derive(Drop)]
+pub struct Renames {
+    /// One was renamed.
+    pub is_any: bool,
+    /// The new path of the first that the system refused to rename the last time.
+    pub refused: Option<String>,
 }
 
 impl Mirror {
@@ -74,7 +81,7 @@ impl Mirror {
     }
 
     // Renames those whose names are free by now, and reports the others. One that was moved aside gets its old name back if its new one
-    // is not free. Gives whether anything was renamed.
+    // is not free. Gives whether anything was renamed; that the system refused it is noted.
     pub(crate) fn finish_moves<R: AllocGlobal + Files>(
         &mut self,
         rt: &R,
@@ -85,13 +92,16 @@ impl Mirror {
         if self.options.dry {
             return Ok(false);
         }
-        let is_first = self.rename_all(rt, files)?;
+        let first = self.rename_all(rt, files)?;
         let is_aside = self.rename_asides(rt, files, asides, account)?;
-        let is_last = self.rename_all(rt, files)?;
+        let last = self.rename_all(rt, files)?;
+        if let Some(path) = &last.refused {
+            account.refuse(path.as_str())?;
+        }
         if !account.is_meanwhile() {
             self.report_blocked(files)?;
         }
-        Ok(is_first || is_aside || is_last)
+        Ok(first.is_any || is_aside || last.is_any)
     }
 
     // The large files whose stand-ins are no longer in their own places.
@@ -121,25 +131,31 @@ impl Mirror {
         self.path_of(&files.written(place)?)
     }
 
-    // Renames as many as possible, but none with `dry`; gives whether there was one.
+    // Renames as many as possible, but none with `dry`.
     pub(crate) fn rename_all<R: AllocGlobal + Files>(
         &mut self,
         rt: &R,
         files: &Ram,
-    ) -> Result<bool, TransferFault> {
+    ) -> Result<Renames, TransferFault> {
         let count = if self.options.dry {
             0
         } else {
             self.moved(files)?.len()
         };
-        let mut is_renamed = false;
+        let mut is_any = false;
+        let mut refused = None;
         // One may free the name of another one.
         for _ in 0..count {
-            for moved in &self.moved(files)? {
-                is_renamed = self.rename_one(rt, moved)? || is_renamed;
+            refused = None;
+            for moved in self.moved(files)? {
+                match self.rename_one(rt, &moved)? {
+                    Renaming::Done(_) => is_any = true,
+                    Renaming::Refused if refused.is_none() => refused = moved.new_path,
+                    Renaming::Refused | Renaming::Left => {}
+                }
             }
         }
-        Ok(is_renamed)
+        Ok(Renames { is_any, refused })
     }
 
     // Renames a large file, if it is still the same and its new name is free.
@@ -147,19 +163,20 @@ impl Mirror {
         &mut self,
         rt: &R,
         moved: &Moved,
-    ) -> Result<bool, TransferFault> {
+    ) -> Result<Renaming, TransferFault> {
         let Some(path) = &moved.new_path else {
-            return Ok(false);
+            return Ok(Renaming::Left);
         };
         let new_key = lower(self.alloc, path.as_str())?;
         if !self.may_have(new_key.as_str()) {
-            return Ok(false);
+            return Ok(Renaming::Left);
         }
-        let Some(stamp) = renamed(rt, moved.path.as_str(), path.as_str(), &moved.stamp)? else {
-            return Ok(false);
+        let renaming = renamed(rt, moved.path.as_str(), path.as_str(), &moved.stamp)?;
+        let Renaming::Done(stamp) = renaming else {
+            return Ok(renaming);
         };
         let Some((_, record)) = self.records.remove_entry(moved.key.as_str()) else {
-            return Ok(false);
+            return Ok(Renaming::Left);
         };
         self.forget(moved.key.as_str());
         let path = path.clone()?;
@@ -171,7 +188,7 @@ impl Mirror {
                 ..record
             },
         )?;
-        Ok(true)
+        Ok(Renaming::Done(stamp))
     }
 
     // A large file may get the name of this key: it is shared, and no object that is known has it.
@@ -250,41 +267,4 @@ impl Mirror {
         }
         Ok(())
     }
-}
-
-/// Gives a file a path below the folder that nothing has, and gives its stamp; nothing if it is not the file of this stamp, if
-/// something has the path, or if it can't be done. If it was changed since, it keeps the old stamp, so that the change is seen.
-pub fn renamed<R: AllocGlobal + Files>(
-    rt: &R,
-    from: &str,
-    path: &str,
-    stamp: &Stamp,
-) -> Result<Option<Stamp>, TransferFault> {
-    match try_rename(rt, from, path, stamp) {
-        Ok(done) => Ok(done),
-        Err(error) if error.kind() == io::ErrorKind::OutOfMemory => Err(TransferFault::NoMemory),
-        Err(_) => Ok(None),
-    }
-}
-
-// The same, with the error.
-fn try_rename<R: AllocGlobal + Files>(
-    rt: &R,
-    from: &str,
-    path: &str,
-    stamp: &Stamp,
-) -> io::Result<Option<Stamp>> {
-    let found = fs::symlink_metadata(rt, from)?;
-    let before = Stamp::of(&found);
-    if !found.is_file() || before.number != stamp.number || is_immovable(rt, from)? {
-        return Ok(None);
-    }
-    let target = own_path(rt, path)?;
-    if !place_new(rt, from, target.as_str())? {
-        return Ok(None);
-    }
-    if !before.is_same_file(stamp) {
-        return Ok(Some(*stamp));
-    }
-    Ok(Some(Stamp::of(&fs::symlink_metadata(rt, target.as_str())?)))
 }

@@ -4,9 +4,8 @@ use crate::departure::{Departure, Departures};
 use crate::mirror::Mirror;
 use crate::moves::{Destination, Elsewhere};
 use ados_ram::{FileBytes, Place, Ram};
-use ados_text::NoMemory;
 use ados_transfer::{
-    Here, Last, Records, TransferFault, Volumes, is_descendant, is_one_name, shell_path,
+    Here, Last, Record, Records, TransferFault, Volumes, is_descendant, is_one_name, shell_path,
 };
 use std::alloc::Global;
 use std::collections::BTreeMap;
@@ -71,59 +70,6 @@ impl Waiting {
     }
 }
 
-/// A file of the Shell that has bytes.
-#[derive(Drop)]
-pub struct Holder<'a> {
-    place: Place,
-    bytes: &'a FileBytes,
-}
-
-impl Holder<'_> {
-    /// Where it is.
-    pub fn place(&self) -> &Place {
-        &self.place
-    }
-}
-
-/// The files of the Shell that have bytes: those in the directory, and those outside of it.
-#[derive(Drop)]
-pub struct Holders<'a> {
-    inside: Vec<Holder<'a>>,
-    outside: Vec<Holder<'a>>,
-}
-
-impl<'a> Holders<'a> {
-    /// The first file that has these bytes, of those outside if one of them does.
-    pub fn first_with(&self, bytes: &FileBytes) -> Option<&Holder<'a>> {
-        match first_with(self.outside.as_slice(), bytes) {
-            Some(found) => Some(found),
-            None => first_with(self.inside.as_slice(), bytes),
-        }
-    }
-
-    /// A file outside of the directory has these bytes.
-    pub fn has_outside(&self, bytes: &FileBytes) -> bool {
-        first_with(self.outside.as_slice(), bytes).is_some()
-    }
-
-    // The file whose bytes would be lost with memory if those of a file of the folder are deleted or written over. For one that gives
-    // way to what is written in its place (`is_moved`) there is none if a file in the directory has them.
-    fn copy_of(
-        &self,
-        departure: &Departure<'_>,
-        bytes: &FileBytes,
-        is_moved: bool,
-    ) -> Option<&Holder<'a>> {
-        if !departure.is_gone() {
-            return self.first_with(bytes);
-        }
-        if is_moved && first_with(self.inside.as_slice(), bytes).is_some() {
-            return None;
-        }
-        first_with(self.outside.as_slice(), bytes)
-    }
-}
-
 impl Mirror {
     // Begins an update: nothing waits yet. For each file that is to be deleted or written over the Shell's file is noted which has its
     // bytes. With `dry` nothing is written over.
@@ -144,34 +90,12 @@ impl Mirror {
             let is_moved = departure.is_within_kind_change || is_dry;
             if let Some(bytes) = bytes_of(&self.records, key.as_str()) {
                 departure.elsewhere = match holders.copy_of(departure, bytes, is_moved) {
-                    Some(found) => Some(Elsewhere::Copy(self.copy_path(files, &found.place)?)),
+                    Some(found) => Some(Elsewhere::Copy(self.copy_path(files, found.place())?)),
                     None => self.destined_elsewhere(files, self.moves.destination(key.as_str()))?,
                 };
             }
         }
         Ok(())
-    }
-
-    // The Shell's files that have bytes.
-    pub(crate) fn holders<'a>(&self, files: &'a Ram) -> Result<Holders<'a>, TransferFault> {
-        let mut holders = Holders {
-            inside: Vec::new(self.alloc),
-            outside: Vec::new(self.alloc),
-        };
-        for place in files.contents(&Place::root(self.alloc))? {
-            let Some(bytes) = files.look(&place).and_then(|entry| entry.bytes()) else {
-                continue;
-            };
-            if bytes.len() == 0 {
-                continue;
-            }
-            if self.volumes.of_place(&place).is_some() {
-                holders.inside.push(Holder { place, bytes })?;
-            } else {
-                holders.outside.push(Holder { place, bytes })?;
-            }
-        }
-        Ok(holders)
     }
 
     // The path of a file of the Shell, for lines.
@@ -222,8 +146,14 @@ impl Mirror {
         bytes: &FileBytes,
     ) -> Result<bool, TransferFault> {
         let own = self.records.get(key).map(|record| record.path.as_str());
-        for (other, record) in &self.records {
-            if other.as_str() == key || !record.is_file_of(bytes) {
+        let Some(alike) = self.contents.alike(bytes) else {
+            return Ok(false);
+        };
+        for other in alike {
+            let Some(record) = self.file_of(other.as_str(), bytes) else {
+                continue;
+            };
+            if other.as_str() == key {
                 continue;
             }
             let is_one = own.is_some_and(|own| is_one_name(rt, own, record.path.as_str()));
@@ -236,6 +166,27 @@ impl Mirror {
             }
         }
         Ok(false)
+    }
+
+    // The file of the folder that had these bytes: the first one that the Shell no longer has in its place, or else the last one of all.
+    pub(crate) fn original_of(&self, files: &Ram, bytes: &FileBytes) -> Option<&Record> {
+        let mut original = None;
+        for key in self.contents.alike(bytes)? {
+            if let Some(record) = self.file_of(key.as_str(), bytes) {
+                original = Some(record);
+                if !record.is_kept(files.look(&record.place)) {
+                    break;
+                }
+            }
+        }
+        original
+    }
+
+    // The record of a key, if it is that of a file of these bytes.
+    fn file_of(&self, key: &str, bytes: &FileBytes) -> Option<&Record> {
+        self.records
+            .get(key)
+            .filter(|record| record.is_file_of(bytes))
     }
 
     // Notes that an object is not deleted, since its bytes would then be only in memory.
@@ -274,9 +225,4 @@ fn bytes_of<'a>(records: &'a Records, key: &str) -> Option<&'a FileBytes> {
         Some(Last::File(bytes)) => Some(bytes),
         _ => None,
     }
-}
-
-// The first file that has these bytes.
-fn first_with<'a, 'b>(holders: &'a [Holder<'b>], bytes: &FileBytes) -> Option<&'a Holder<'b>> {
-    holders.iter().find(|holder| holder.bytes == bytes)
 }

@@ -5,6 +5,7 @@ ghost use Rattle.std.specs.String.{string_cmp};
 ghost use Rattle.ados_share.specs.Records.{Sets};
 
 use crate::backups::Backups;
+use crate::contents::Contents;
 use crate::last_copies::Waiting;
 use crate::moves::Moves;
 use crate::reports::Reports;
@@ -23,6 +24,8 @@ pub struct Mirror {
     pub(crate) volumes: Volumes,
     pub(crate) options: MirrorOptions,
     pub(crate) records: Records,
+    // The keys of the records of files, by their bytes.
+    pub(crate) contents: Contents,
     pub(crate) stand_ins: StandIns,
     // Where the script moved files of the folder.
     pub(crate) moves: Moves,
@@ -39,6 +42,8 @@ pub struct Mirror {
     pub(crate) is_holding: bool,
     // At the last comparison the Shell had something that was not written.
     pub(crate) is_lacking: bool,
+    // The first object that the system refused to write at the last update: no program starts.
+    pub(crate) refused: Option<String>,
     // The first object of the Shell that gave way to this machine's at this look.
     pub(crate) overruled: Option<String>,
 }
@@ -54,6 +59,7 @@ impl Mirror {
             alloc,
             options,
             records: BTreeMap::new(alloc),
+            contents: Contents::new(alloc),
             stand_ins: StandIns::new(alloc),
             moves: Moves::new(alloc),
             waiting: Waiting::new(alloc),
@@ -64,6 +70,7 @@ impl Mirror {
             has_begun: false,
             is_holding: false,
             is_lacking: false,
+            refused: None,
             overruled: None,
         })
     }
@@ -97,10 +104,14 @@ impl Mirror {
         ensures once { IsOrdered string_cmp self.new.records }
     {
         let noted = self.stand_ins.note(key.as_str(), record.is_stand_in());
+        let found = self
+            .contents
+            .note(key.as_str(), self.records.get(key.as_str()), &record);
         self.reports.settle(key.as_str());
         self.moves.take(key.as_str());
         self.records.insert(key, record)?;
-        Ok(noted?)
+        noted?;
+        Ok(found?)
     }
 
     // Keeps an object as it is on both sides now, with this stamp.
@@ -131,6 +142,7 @@ impl Mirror {
         self.reports.settle(key);
         self.stand_ins.leave_out(key);
         self.moves.take(key);
+        self.contents.leave_out(key, self.records.get(key));
         self.records.remove(key);
     }
 

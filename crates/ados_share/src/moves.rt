@@ -189,36 +189,19 @@ impl Mirror {
     }
 
     /// After an event: what the script deleted is followed no longer, so that another object in its place is not taken for it.
-    pub fn forget_deleted(&mut self, files: &Ram) -> Result<(), TransferFault> {
-        let mut deleted = Vec::new(self.alloc);
-        for (key, destination) in &self.moves.by_key {
-            if destination.is_deleted(files) {
-                deleted.push(key.clone()?)?;
-            }
-        }
-        for key in &deleted {
-            self.moves.take(key.as_str());
-        }
+    pub fn forget_deleted(&mut self, files: &Ram) {
+        self.moves
+            .by_key
+            .retain(|_, destination| !destination.is_deleted(files));
         self.backups.forget_deleted(files);
-        Ok(())
     }
 
     // What is in its place again as it was at the last comparison is followed no longer.
-    pub(crate) fn settle_moves(&mut self, files: &Ram) -> Result<(), TransferFault> {
-        let mut settled = Vec::new(self.alloc);
-        for key in self.moves.by_key.keys() {
-            let is_kept = match self.records.get(key.as_str()) {
-                Some(record) => record.is_kept(files.look(&record.place)),
-                None => true,
-            };
-            if is_kept {
-                settled.push(key.clone()?)?;
-            }
-        }
-        for key in &settled {
-            self.moves.take(key.as_str());
-        }
-        Ok(())
+    pub(crate) fn settle_moves(&mut self, files: &Ram) {
+        let records = &self.records;
+        self.moves
+            .by_key
+            .retain(|key, _| !is_settled(records.get(key.as_str()), files));
     }
 
     // Where the Shell has what was moved, if that would be gone with its files, or gave way to what came in.
@@ -265,6 +248,14 @@ impl Mirror {
     // A file is at a place that is in no directory of the share.
     fn is_out(&self, files: &Ram, place: &Place) -> bool {
         self.volumes.of_place(place).is_none() && is_file(files, place)
+    }
+}
+
+// What was moved is in its place again as it was at the last comparison, or has no record any longer.
+fn is_settled(record: Option<&Record>, files: &Ram) -> bool {
+    match record {
+        Some(record) => record.is_kept(files.look(&record.place)),
+        None => true,
     }
 }
 

@@ -3,6 +3,8 @@
 use crate::departure::own_path;
 use crate::mirror::Mirror;
 use crate::moves::Elsewhere;
+use ados_names::is_name;
+use ados_text::Text;
 use ados_transfer::{
     TransferFault, Volumes, folder_of, is_nothing, last_piece, lower, place_new, step_into,
 };
@@ -107,17 +109,31 @@ fn try_place_as<R: AllocGlobal + Files + Clone + Drop>(
 ) -> io::Result<Option<String>> {
     let taken = names_beside(rt, stem)?;
     for number in 0..NAMES {
-        let name = if number == 0 {
-            format!(in rt.alloc(); "{stem}.kept")?
-        } else {
-            format!(in rt.alloc(); "{stem}.kept{number}")?
-        };
+        let name = kept_name(rt.alloc(), stem, number)?;
         let is_taken = taken.contains(lower(rt.alloc(), last_piece(name.as_str()))?.as_str());
         if !is_taken && try_place(rt, path, name.as_str())? {
             return Ok(Some(name));
         }
     }
     Ok(None)
+}
+
+// The name of this number for what stays of a path. A long one is cut, so that the Shell allows it and the next run shares the file.
+fn kept_name(alloc: Global, stem: &str, number: u32) -> io::Result<String> {
+    let ending = if number == 0 {
+        String::from_str(alloc, ".kept")?
+    } else {
+        format!(in alloc; ".kept{number}")?
+    };
+    for length in (1..=stem.len()).rev() {
+        let begin = stem.get(..length).unwrap_or(stem);
+        let name = format!(in alloc; "{begin}{ending}")?;
+        let last = Text::from_bytes(alloc, last_piece(name.as_str()).as_bytes())?;
+        if is_name(&last) {
+            return Ok(name);
+        }
+    }
+    Ok(format!(in alloc; "{stem}{ending}")?)
 }
 
 // The names in the folder of a path, in lower case: the Shell does not tell apart names that differ in case alone.

@@ -1,17 +1,12 @@
 //! How an object of the folder of a share that is gone in the Shell's files, or of another kind there, is deleted.
 
-use crate::account::{Account, Aside, Moment};
-use crate::departure::{Departure, move_aside, own_path, remove};
+use crate::account::{Account, Moment};
+use crate::departure::{Departure, remove};
 use crate::mirror::Mirror;
 use ados_ram::Ram;
-use ados_transfer::{
-    Below, Here, Record, Removal, Stamp, Terms, TransferFault, decide_removal, place_new,
-};
-use std::fs::Permissions;
+use ados_transfer::{Below, Here, Removal, Terms, TransferFault, decide_removal};
 use std::io::ErrorKind;
-use std::os::unix::fs::PermissionsExt;
 use std::rt::Files;
-use std::{fs, io};
 
 impl Mirror {
     // Deletes an object on this machine that is gone in the Shell's files, or of another kind there, if it has not changed since and
@@ -25,24 +20,7 @@ impl Mirror {
     ) -> Result<(), TransferFault> {
         let path = departure.path.as_str();
         let here = self.look_here(rt, key, departure)?;
-        let is_last_copy = self.is_last_copy(rt, key, departure)?
-            && !self.is_backed_up(rt, (key, path), departure, &here, account)?;
-        let Some(record) = self.records.get(key) else {
-            return Ok(());
-        };
-        let is_large = record.is_stand_in();
-        let terms = Terms {
-            may_delete: record.watch.may_delete(),
-            has_unwritten: account.has_unwritten(),
-            is_last_copy,
-        };
-        let removal = decide_removal(
-            &record.state(),
-            &here.state(Some(record)),
-            &record.state_there(departure.entry),
-            terms,
-        );
-        match removal {
+        match self.removal(rt, key, departure, &here, account)? {
             Removal::Forget => {
                 self.forget(key);
                 self.reports.agree(key);
@@ -51,15 +29,43 @@ impl Mirror {
             Removal::Delete => self.delete(rt, key, departure, &here, account),
             Removal::Hold => self.hold(key, path, account),
             Removal::Wait => {
-                add_unwritten_within_kind_change(departure, account)?;
+                note_in_the_way(departure, account, false)?;
                 self.wait(key, departure, &here)
             }
             Removal::Conflict => {
-                add_unwritten_within_kind_change(departure, account)?;
-                self.not_touched(rt, (key, path), &here, "cannot delete", is_large)
+                note_in_the_way(departure, account, here.is_unread())?;
+                self.not_touched(rt, (key, path), &here, "cannot delete")
             }
             Removal::Leave => Ok(()),
         }
+    }
+
+    // What is done with an object that was looked at. One that is not known is left.
+    fn removal<R: AllocGlobal + Files>(
+        &mut self,
+        rt: &R,
+        key: &str,
+        departure: &Departure<'_>,
+        here: &Here,
+        account: &mut Account,
+    ) -> Result<Removal, TransferFault> {
+        let object = (key, departure.path.as_str());
+        let is_last_copy = self.is_last_copy(rt, key, departure)?
+            && !self.is_backed_up(rt, object, departure, here, account)?;
+        let Some(record) = self.records.get(key) else {
+            return Ok(Removal::Leave);
+        };
+        let terms = Terms {
+            may_delete: record.watch.may_delete(),
+            has_unwritten: account.has_unwritten(),
+            is_last_copy,
+        };
+        Ok(decide_removal(
+            &record.state(),
+            &here.state(Some(record)),
+            &record.state_there(departure.entry),
+            terms,
+        ))
     }
 
     // Something that the script has is not written, so that an object is not deleted. It comes in again, unless the script goes on: later
@@ -73,14 +79,14 @@ impl Mirror {
     }
 
     // A file that is in the way of an object of another kind has a backup from now on, so that it may go. There is none if the file changed,
-    // if nothing is to be deleted, or if it can't be made.
+    // if nothing is to be deleted, or if the system refused it.
     fn is_backed_up<R: AllocGlobal + Files>(
         &mut self,
         rt: &R,
         object: (&str, &str),
         departure: &Departure<'_>,
         here: &Here,
-        account: &Account,
+        account: &mut Account,
     ) -> Result<bool, TransferFault> {
         let Here::File { bytes, .. } = here else {
             return Ok(false);
@@ -96,7 +102,10 @@ impl Mirror {
         match self.back_up(rt, object, here) {
             Ok(()) => Ok(true),
             Err(error) if error.kind() == ErrorKind::OutOfMemory => Err(TransferFault::NoMemory),
-            Err(_) => Ok(false),
+            Err(_) => {
+                account.refuse(object.1)?;
+                Ok(false)
+            }
         }
     }
 
@@ -121,8 +130,10 @@ impl Mirror {
         } else {
             remove(rt, path, here)
         };
+        let is_refused =
+            matches!(&is_done, Err(error) if error.kind() != ErrorKind::DirectoryNotEmpty);
         if !matches!(is_done, Ok(true)) {
-            add_unwritten_within_kind_change(departure, account)?;
+            note_in_the_way(departure, account, is_refused)?;
         }
         match is_done {
             Ok(true) => {
@@ -160,125 +171,19 @@ impl Mirror {
         }
         self.report_account(&account)
     }
-
-    // Moves an object aside; `false` if something else came to be there since it was looked at.
-    fn set_aside<R: AllocGlobal + Files>(
-        &mut self,
-        rt: &R,
-        key: &str,
-        path: &str,
-        here: &Here,
-        account: &mut Account,
-    ) -> io::Result<bool> {
-        let Some((beside, mode)) = move_aside(rt, self.volumes.root_of(path), path, here)? else {
-            return Ok(false);
-        };
-        let Some((key, record)) = self.records.remove_entry(key) else {
-            return Ok(true);
-        };
-        let moved = self.moves.take(key.as_str());
-        let aside = Aside {
-            key,
-            record,
-            beside,
-            mode,
-            moved,
-        };
-        match account.set_aside(aside) {
-            Ok(()) => Ok(true),
-            Err(_) => Err(io::Error::from(ErrorKind::OutOfMemory)),
-        }
-    }
-
-    // Deletes what was moved aside; if anything is not written each object gets its place back, the last one first.
-    pub(crate) fn finish_kind_changes<R: AllocGlobal + Files>(
-        &mut self,
-        rt: &R,
-        account: &mut Account,
-        is_written: bool,
-    ) -> Result<(), TransferFault> {
-        let is_safe = is_written
-            && (account.aside.is_empty() || matches!(self.is_synced(rt, account), Ok(true)));
-        for one in account.take_aside().into_iter().rev() {
-            if account.has_unwritten() || !is_safe {
-                self.put_back(rt, one, account)?;
-            } else if let Some(beside) = &one.beside {
-                let _ = fs::remove_file(rt, beside.as_str());
-            }
-        }
-        Ok(())
-    }
-
-    // Gives an object its place back. If something else is there by now it stays where it is, and a line says so.
-    fn put_back<R: AllocGlobal + Files>(
-        &mut self,
-        rt: &R,
-        aside: Aside,
-        account: &mut Account,
-    ) -> Result<(), TransferFault> {
-        let Aside {
-            key,
-            record,
-            beside,
-            mode,
-            moved,
-        } = aside;
-        match placed_back(rt, &record, beside.as_ref(), mode) {
-            Ok(Some(stamp)) => {
-                let mut record = record;
-                record.stamp = stamp;
-                record.is_fresh = true;
-                if let Some(moved) = moved {
-                    self.moves.add(key.clone()?, moved)?;
-                }
-                self.records.insert(key, record)?;
-                Ok(())
-            }
-            _ => match beside {
-                Some(beside) => {
-                    let whole = self.volumes.whole(beside.as_str())?;
-                    let text = format!(in self.alloc; "kept as {whole}")?;
-                    account.kept.push(beside)?;
-                    self.reports.report(text.as_str(), record.path.as_str())
-                }
-                None => Ok(()),
-            },
-        }
-    }
 }
 
-// What needs the place of an object that stays cannot be written.
-fn add_unwritten_within_kind_change(
+// If an object that stays is in the way of one of another kind, that cannot be written; `is_refused`: since the system refused to move it.
+fn note_in_the_way(
     departure: &Departure<'_>,
     account: &mut Account,
+    is_refused: bool,
 ) -> Result<(), TransferFault> {
-    if departure.is_within_kind_change {
-        account.add_unwritten(departure.path.as_str())
-    } else {
-        Ok(())
+    if !departure.is_within_kind_change {
+        return Ok(());
     }
-}
-
-// Gives an object its place back, and gives its stamp; nothing if something else is there. A folder that was made there is deleted
-// if it is empty.
-fn placed_back<R: AllocGlobal + Files>(
-    rt: &R,
-    record: &Record,
-    beside: Option<&String>,
-    mode: u32,
-) -> io::Result<Option<Stamp>> {
-    let whole = own_path(rt, record.path.as_str())?;
-    match beside {
-        Some(beside) => {
-            let _ = fs::remove_dir(rt, whole.as_str());
-            if !place_new(rt, beside.as_str(), whole.as_str())? {
-                return Ok(None);
-            }
-        }
-        None => {
-            fs::create_dir(rt, whole.as_str())?;
-            fs::set_permissions(rt, whole.as_str(), Permissions::from_mode(mode))?;
-        }
+    if is_refused {
+        account.refuse(departure.path.as_str())?;
     }
-    Ok(Some(Stamp::of(&fs::symlink_metadata(rt, whole.as_str())?)))
+    account.add_unwritten(departure.path.as_str())
 }

@@ -1,7 +1,8 @@
 //! What a share reports on standard error: each line about an object once in a run, or once until it is settled.
 
+use crate::failures::Failures;
 use ados_ram::Limits;
-use ados_transfer::{TransferFault, Volumes, with_reason};
+use ados_transfer::{TransferFault, Volumes};
 use std::alloc::Global;
 use std::collections::BTreeSet;
 use std::io::ErrorKind;
@@ -18,6 +19,8 @@ pub struct Reports {
     // The keys of those for which this machine's object stays, and of those that could not be written or brought in.
     kept: BTreeSet<String>,
     failing: BTreeSet<String>,
+    // Those that failed at this update with a reason.
+    failures: Vec<Failures>,
     // The keys of those that could not be brought in: they are on this machine alone.
     absent: BTreeSet<String>,
     // The keys of those that the script changed, and for which this machine's object stood. They have not been written since.
@@ -39,6 +42,7 @@ impl Reports {
             reported: BTreeSet::new(alloc),
             kept: BTreeSet::new(alloc),
             failing: BTreeSet::new(alloc),
+            failures: Vec::new(alloc),
             absent: BTreeSet::new(alloc),
             lost: BTreeSet::new(alloc),
             unread: BTreeSet::new(alloc),
@@ -162,7 +166,7 @@ impl Reports {
         Ok(())
     }
 
-    /// The same, with the reason for an error of this kind.
+    /// The same, with the reason for an error of this kind. Only the first of a folder that failed so has its line at once.
     pub fn fail_for(
         &mut self,
         key: &str,
@@ -170,11 +174,26 @@ impl Reports {
         path: &str,
         kind: ErrorKind,
     ) -> Result<(), TransferFault> {
-        if self.failing.insert(String::from_str(self.alloc, key)?)? {
-            let path = self.volumes.shown(path)?;
-            let reason = with_reason(self.alloc, path.as_str(), kind)?;
-            self.lines
-                .push(format!(in self.alloc; "{text}: {reason}")?)?;
+        if !self.failing.insert(String::from_str(self.alloc, key)?)? {
+            return Ok(());
+        }
+        for failures in &mut self.failures {
+            if failures.has(text, path, kind) {
+                return failures.add(path);
+            }
+        }
+        let failures = Failures::new(self.alloc, text, path, kind)?;
+        self.lines.push(failures.line(&self.volumes)?)?;
+        self.failures.push(failures)?;
+        Ok(())
+    }
+
+    /// After an update reports those that failed after the first of their folders.
+    pub fn report_further(&mut self) -> Result<(), TransferFault> {
+        for failures in std::mem::replace(&mut self.failures, Vec::new(self.alloc)) {
+            if let Some(line) = failures.further_line(&self.volumes)? {
+                self.lines.push(line)?;
+            }
         }
         Ok(())
     }

@@ -1,5 +1,9 @@
-//! Where the programs of a share start.
+//! Where the programs of a share start, and when none does.
+ghost use Rattle.std.specs.Prelude.{◌≡◌, true, IfOk};
+ghost use Rattle.std.specs.Option.{is_some};
+ghost use Rattle.ados_share.specs.Account.{barred_by};
 
+use crate::account::Account;
 use crate::mirror::Mirror;
 use ados_ram::Place;
 use ados_transfer::{Below, TransferFault, step_into};
@@ -13,18 +17,50 @@ pub enum StartPlace {
     Home,
     /// In the folder to which this path leads.
     Folder(String),
-    /// Nowhere: the share has no such folder, or a link is on the way to it.
+    /// Nowhere: the share has no such folder, or a link is on the way to it; or the system refused to write what the script made.
     Nowhere,
 }
 
 impl Mirror {
-    /// Where a program starts whose shell has this current directory. If the share has no folder for it, a line reports that: a
-    /// link is not followed, which could lead outside of the share.
+    // After an update notes what the system refused to write at it. With `dry` nothing was to be written.
+    pub(crate) fn note_refused(&mut self, account: &mut Account)
+        ensures refused { self.new.refused ≡ barred_by self.old.options.dry account.old.refused }
+    {
+        let refused = account.refused.take();
+        self.refused = if self.options.dry { None } else { refused };
+    }
+
+    /// Where a program starts whose shell has this current directory, or is outside the share. If the share has no folder for it, a line
+    /// reports that: a link is not followed, which could lead outside of the share. No program starts if the system refused to write
+    /// something at the last update, which a line names: it would work on a folder that is not what the script made of it.
     pub fn start_place<R: AllocGlobal + Files>(
         &mut self,
         rt: &R,
+        place: Option<&Place>,
+    ) -> Result<StartPlace, TransferFault>
+        ensures barred { is_some self.old.refused ≡ true → IfOk result (λ start. start ≡ StartPlace.Nowhere) }
+    {
+        let start = match place {
+            Some(place) => self.own_place(rt, place)?,
+            None => StartPlace::Home,
+        };
+        let Some(path) = &self.refused else {
+            return Ok(start);
+        };
+        if !matches!(&start, StartPlace::Nowhere) {
+            self.reports.report_once("no program starts, since it is not written", path.as_str())?;
+        }
+        Ok(StartPlace::Nowhere)
+    }
+
+    // Where a program starts as far as the current directory matters.
+    fn own_place<R: AllocGlobal + Files>(
+        &mut self,
+        rt: &R,
         place: &Place,
-    ) -> Result<StartPlace, TransferFault> {
+    ) -> Result<StartPlace, TransferFault>
+        ensures refused { self.new.refused ≡ self.old.refused }
+    {
         let Some(path) = self.path_of(place)? else {
             return Ok(StartPlace::Home);
         };

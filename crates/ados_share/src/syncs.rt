@@ -1,5 +1,8 @@
 //! What an update wrote is on the disk before the update deletes or replaces anything whose bytes stand only there: a power cut would
 //! otherwise leave an empty file while the old one is gone.
+ghost use Rattle.std.specs.Prelude.{◌≡◌, [], true, false, IfOk, OnOk, string_bytes};
+ghost use Rattle.std.specs.Option.{is_some, option_map};
+ghost use Rattle.ados_transfer.specs.Paths.{IsBelow};
 
 use crate::account::Account;
 use crate::mirror::Mirror;
@@ -35,22 +38,42 @@ impl Mirror {
     }
 
     // Brings to the disk what the update wrote; `false` if that failed, so that nothing is to be deleted.
+    #[tactic(auto, using(crate::proofs::AccountLemmas::first_is_some))]
     pub(crate) fn is_synced<R: AllocGlobal + Files>(
         &mut self,
         rt: &R,
         account: &mut Account,
-    ) -> Result<bool, TransferFault> {
-        let mut is_synced = true;
-        for file in account.take_fresh() {
-            let path = file.path.as_str();
-            if let Err(error) = sync(rt, path) {
-                account.add_unwritten(path)?;
-                let key = lower(self.alloc, path)?;
-                self.not_done(&error, "cannot write", key.as_str(), path)?;
-                is_synced = false;
+    ) -> Result<bool, TransferFault>
+        ensures taken { OnOk result (account.new.fresh.items ≡ []) }
+        ensures written { IfOk result (λ is. is ≡ true → account.new ≡ record account.old { fresh = account.new.fresh }) }
+        ensures unwritten { IfOk result (λ is. is ≡ false → is_some (option_map string_bytes account.new.unwritten) ≡ true) }
+        ensures refused { IfOk result (λ is. is ≡ false → is_some (option_map string_bytes account.new.refused) ≡ true) }
+    {
+        let Some(path) = self.first_unsynced(rt, account.take_fresh())? else {
+            return Ok(true);
+        };
+        account.add_unwritten(path.as_str())?;
+        account.refuse(path.as_str())?;
+        Ok(false)
+    }
+
+    // Brings files to the disk. Reports those for which that failed, and gives the path of the first.
+    fn first_unsynced<R: AllocGlobal + Files>(
+        &mut self,
+        rt: &R,
+        files: Vec<FreshFile>,
+    ) -> Result<Option<String>, TransferFault> {
+        let mut first = None;
+        for file in files {
+            if let Err(error) = sync(rt, file.path.as_str()) {
+                let key = lower(self.alloc, file.path.as_str())?;
+                self.not_done(&error, "cannot write", key.as_str(), file.path.as_str())?;
+                if first.is_none() {
+                    first = Some(file.path);
+                }
             }
         }
-        Ok(is_synced)
+        Ok(first)
     }
 }
 
@@ -74,7 +97,9 @@ pub(crate) fn write_synced<R: AllocGlobal + Files>(
     folder: &str,
     bytes: &FileBytes,
     mode: u32,
-) -> io::Result<String> {
+) -> io::Result<String>
+    ensures { IfOk result (λ path. IsBelow folder.now (string_bytes path)) }
+{
     let beside = write_beside(rt, folder, bytes, Manner::Mode(mode))?;
     match sync(rt, beside.as_str()) {
         Ok(()) => Ok(beside),
@@ -87,13 +112,20 @@ pub(crate) fn write_synced<R: AllocGlobal + Files>(
 
 // Brings a file to the disk. One that may not be read, or that another program moved, is left.
 fn sync<R: AllocGlobal + Files>(rt: &R, path: &str) -> io::Result<()> {
-    match fs::open(rt, path) {
-        Ok(file) => file.sync_all(),
+    match try_sync(rt, path) {
         Err(error)
             if matches!(
                 error.kind(),
                 ErrorKind::NotFound | ErrorKind::PermissionDenied
             ) => { Ok(()) }
-        Err(error) => Err(error),
+        done => done,
     }
+}
+
+// The same, with each error. What another program put in its place is not opened: a pipe would be waited for.
+fn try_sync<R: AllocGlobal + Files>(rt: &R, path: &str) -> io::Result<()> {
+    if fs::symlink_metadata(rt, path)?.is_file() {
+        fs::open(rt, path)?.sync_all()?;
+    }
+    Ok(())
 }

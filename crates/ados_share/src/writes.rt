@@ -7,7 +7,7 @@ use crate::account::Account;
 use crate::backups::needs_backup;
 use crate::departure::{Departure, Departures, write_entry};
 use crate::mirror::Mirror;
-use crate::syncs::sync_copies;
+use crate::syncs::{FreshFile, sync_copies};
 use ados_ram::{Entry, Ram};
 use ados_text::NoMemory;
 use ados_transfer::{
@@ -42,13 +42,15 @@ impl Mirror {
         }
         let here = self.look_here(rt, key, departure)?;
         let record = self.records.get(key);
-        let is_large = record.is_some_and(Record::is_stand_in);
         match here.decision(record, Some(entry)) {
             Decision::Keep => self.keep_same(rt, (key, path), entry, &here),
             Decision::Bring => Ok(()),
             Decision::Conflict => {
                 account.add_unwritten_entry(path, entry)?;
-                self.not_touched(rt, (key, path), &here, "cannot write", is_large)
+                if here.is_unread() {
+                    account.refuse(path)?;
+                }
+                self.not_touched(rt, (key, path), &here, "cannot write")
             }
             Decision::Write if self.options.dry => self.reports.report_once("would write", path),
             Decision::Write => {
@@ -81,7 +83,11 @@ impl Mirror {
         }
         match self.replace(rt, object, draft, account) {
             Ok(Some(stamp)) => {
-                account.add_fresh(path, draft.entry)?;
+                if let Some(bytes) = draft.entry.bytes() {
+                    let path = String::from_str(self.alloc, path)?;
+                    let bytes = bytes.clone()?;
+                    account.add_fresh(FreshFile { path, bytes })?;
+                }
                 self.keep_written(rt, object, draft.entry, stamp)
             }
             Ok(None) => {
@@ -90,6 +96,7 @@ impl Mirror {
             }
             Err(error) => {
                 account.add_unwritten_entry(path, draft.entry)?;
+                account.refuse(path)?;
                 self.not_done(&error, "cannot write", key, path)
             }
         }
@@ -150,14 +157,11 @@ impl Mirror {
         let Some(bytes) = entry.bytes() else {
             return Ok(None);
         };
-        let mut original = None;
-        for record in self.records.values() {
-            if record.is_file_of(bytes) {
-                if !record.is_kept(files.look(&record.place)) {
-                    return self.mode_here(rt, record);
-                }
-                original = Some(record);
-            }
+        let original = self.original_of(files, bytes);
+        if let Some(record) = original
+            && !record.is_kept(files.look(&record.place))
+        {
+            return self.mode_here(rt, record);
         }
         let moved = match account.mode_of(bytes) {
             Some(mode) => Some(mode),
@@ -194,10 +198,10 @@ impl Mirror {
         object: (&str, &str),
         here: &Here,
         text: &str,
-        is_large: bool,
     ) -> Result<(), TransferFault> {
         let (key, path) = object;
         if !here.is_unread() {
+            let is_large = self.records.get(key).is_some_and(Record::is_stand_in);
             return self.reports.report_kept(key, path, is_large);
         }
         match check_readable(rt, path) {

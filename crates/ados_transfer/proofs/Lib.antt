@@ -1,3 +1,4 @@
 mod WordLemmas
 mod WithinLemmas
 mod VolumeLemmas
+mod PathLemmas

@@ -8,4 +8,7 @@ pub mod Stamps
 pub mod Here
 pub mod Records
 pub mod Folders
+pub mod LeftAlone
+pub mod Choice
 pub mod Volumes
+pub mod Room

@@ -257,6 +257,11 @@ impl<R: AllocGlobal + Files> Files for Below<'_, R> {
         self.rt.remove_dir_all(alloc, way.path.as_str())
     }
 
+    fn lchown(&self, path: &str, user: Option<u32>, group: Option<u32>) -> io::Result<()> {
+        let way = self.way(path)?;
+        self.rt.lchown(way.path.as_str(), user, group)
+    }
+
     fn set_permissions(&self, path: &str, permissions: Permissions) -> io::Result<()> {
         let way = self.way(path)?;
         self.rt.set_permissions(way.path.as_str(), permissions)

@@ -1,6 +1,10 @@
 //! Which of the names of a folder are shared.
+ghost use Rattle.std.specs.Prelude.{◌≡◌};
+ghost use Rattle.std.specs.Option.{option_copied};
+ghost use Rattle.ados_transfer.specs.Choice.{is_alike, is_chosen, is_known};
 
-use crate::records::Records;
+use crate::records::{Record, Records};
+use std::alloc::{AllocError, Global};
 use std::cmp::Ordering;
 
 /// An object of a folder by its name alone.
@@ -20,28 +24,41 @@ pub fn order(a: &Named, b: &Named) -> Ordering {
     }
 }
 
-/// Of the names that differ from this one only in case, this is the one that is taken.
-pub fn is_chosen(below: &[Named], place: usize, records: &Records) -> bool {
-    let Some(named) = below.get(place) else {
-        return false;
-    };
-    let (before, from) = below.split_at(place);
-    let is_first = before
-        .last()
-        .is_none_or(|one| one.key.as_str() != named.key.as_str());
-    let is_only = from
-        .get(1)
-        .is_none_or(|one| one.key.as_str() != named.key.as_str());
-    if is_first && is_only {
-        return true;
+/// For each name of a folder, in this order, whether it is shared: no other differs from it in case alone, or it is the one of the records. Of
+/// others none is shared, since what the script does to one name would happen to another file.
+pub fn chosen(alloc: Global, below: &[Named], records: &Records) -> Result<Vec<bool>, AllocError> {
+    let mut chosen = Vec::new(alloc);
+    for (place, named) in below.iter().enumerate() {
+        let (before, from) = below.split_at(place);
+        let record = records.get(named.key.as_str());
+        chosen.push(is_chosen(named, before.last(), from.get(1), record))?;
     }
-    match records.get(named.key.as_str()) {
-        Some(record)
-            if below
-                .iter()
-                .any(|one| one.path.as_str() == record.path.as_str()) => {
-            named.path.as_str() == record.path.as_str()
-        }
-        _ => is_first,
-    }
+    Ok(chosen)
+}
+
+// A name is shared, given those before and after it, and the record of its key.
+fn is_chosen(
+    named: &Named,
+    before: Option<&Named>,
+    after: Option<&Named>,
+    record: Option<&Record>,
+) -> bool
+    ensures { result ≡ is_chosen named.now (option_copied before.entry) (option_copied after.entry) (option_copied «record».entry) }
+{
+    let is_only = !is_alike(named, before) && !is_alike(named, after);
+    is_only || is_known(named, record)
+}
+
+// Another name differs from this one in case alone.
+fn is_alike(named: &Named, other: Option<&Named>) -> bool
+    ensures { result ≡ is_alike named.now (option_copied other.entry) }
+{
+    other.is_some_and(|other| other.key.as_str() == named.key.as_str())
+}
+
+// The name is that of a record, in the same spelling.
+fn is_known(named: &Named, record: Option<&Record>) -> bool
+    ensures { result ≡ is_known named.now (option_copied «record».entry) }
+{
+    record.is_some_and(|record| record.path.as_str() == named.path.as_str())
 }

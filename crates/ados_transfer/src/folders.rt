@@ -6,9 +6,10 @@ ghost use Rattle.ados_transfer.specs.Folders.{hides, is_descendant, is_some_slas
 ghost use Rattle.ados_transfer.specs.Paths.{is_unshared};
 
 use crate::below::Below;
-use crate::choice::{Named, is_chosen, order};
+use crate::choice::{Named, chosen, order};
 use crate::faults::TransferFault;
 use crate::here::is_nothing;
+use crate::left_alone::{LeftAlone, Obstacle};
 use crate::paths::{name_of, step_into};
 use crate::records::Records;
 use crate::stamps::Stamp;
@@ -23,8 +24,6 @@ use std::{fs, io};
 
 // A look at a folder goes through no more folders than this.
 const FOLDERS: usize = 65_536;
-
-const BAD_NAME: &str = "bad name for the Shell, left alone";
 
 /// What an object of the folder is.
 #[derive(Clone, Copy, PartialEq, Eq)]
@@ -71,13 +70,13 @@ pub struct Look {
     pub seen: BTreeMap<String, Seen>,
     /// The folders that could not be read, and the objects that could not be looked at.
     pub unread: Vec<Unread>,
-    /// What is left alone: a text, and the path.
-    pub left_alone: Vec<(&'static str, String)>,
+    /// What else is not shared, but for names that begin with a dot and temporary files.
+    pub left_alone: Vec<LeftAlone>,
 }
 
 impl Look {
     /// Looks at everything below the folders of all volumes. Names that begin with a dot are left out unless `all`. If two names differ
-    /// only in case, the one of the records is taken, otherwise the first.
+    /// only in case, the one of the records is taken, otherwise none.
     pub fn new<R: AllocGlobal + Files + Clone + Drop>(
         rt: &Below<'_, R>,
         all: bool,
@@ -123,6 +122,12 @@ impl Look {
         Ok(())
     }
 
+    // Notes that an object is not shared.
+    fn leave(&mut self, obstacle: Obstacle, path: String) -> Result<(), AllocError> {
+        self.left_alone.push(LeftAlone { obstacle, path })?;
+        Ok(())
+    }
+
     // Adds what is directly in a folder.
     fn add_folder<R: AllocGlobal + Files + Clone + Drop>(
         &mut self,
@@ -148,16 +153,12 @@ impl Look {
             }
         };
         let below = self.named(alloc, path, &names)?;
-        let mut chosen = Vec::new(alloc);
-        for place in 0..below.len() {
-            chosen.push(is_chosen(&below, place, records))?;
-        }
+        let chosen = chosen(alloc, &below, records)?;
         for (named, is_chosen) in below.into_iter().zip(chosen) {
             if is_chosen {
                 self.add(rt, named, &mut folders)?;
             } else {
-                self.left_alone
-                    .push(("name is taken twice, left alone", named.path))?;
+                self.leave(Obstacle::Twice, named.path)?;
             }
         }
         Ok(folders)
@@ -180,7 +181,7 @@ impl Look {
                         return Err(no_memory());
                     };
                     let one = format!(in rt.alloc(); "one in {whole}")?;
-                    self.left_alone.push((BAD_NAME, one))?;
+                    self.leave(Obstacle::BadName, one)?;
                 }
                 Err(error) => return Err(error),
             }
@@ -204,7 +205,7 @@ impl Look {
                     path,
                 })?,
                 Err(TransferFault::NoMemory) => return Err(TransferFault::NoMemory),
-                Err(_) => self.left_alone.push((BAD_NAME, path))?,
+                Err(_) => self.leave(Obstacle::BadName, path)?,
             }
         }
         below.sort_by(|a, b| order(a, b))?;
@@ -230,11 +231,7 @@ impl Look {
                 rt.check_apart(named.path.as_str(), &found)?;
                 folders.push(named.path.clone()?)?;
             }
-            Kind::Foreign => {
-                let path = named.path.clone()?;
-                self.left_alone
-                    .push(("no file or folder, left alone", path))?;
-            }
+            Kind::Foreign => self.leave(Obstacle::Foreign, named.path.clone()?)?,
             Kind::File { .. } => {}
         }
         let seen = Seen {

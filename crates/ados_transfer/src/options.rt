@@ -7,7 +7,8 @@ use ados_ram::Limits;
 pub struct MirrorOptions {
     /// Names that begin with a dot are shared too.
     pub all: bool,
-    /// The folders may have more files and folders than the Shell's files can hold.
+    /// Of the folders a part is enough: they may have more files and folders than the Shell's files can hold, names that these do not allow,
+    /// and what can't be read.
     pub part: bool,
     /// Nothing of this machine is changed; changes are only reported.
     pub dry: bool,

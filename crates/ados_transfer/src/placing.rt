@@ -5,7 +5,9 @@
 
 use crate::bringing::bytes_of;
 use crate::here::Here;
+use crate::owners::Owner;
 use crate::paths::{folder_of, last_piece};
+use crate::stamps::Stamp;
 use crate::writing::{Manner, link_beside, open_beside, place_new, write_beside};
 use ados_ram::{Entry, FileBytes};
 use std::fs::Metadata;
@@ -59,7 +61,7 @@ pub fn place_whole<R: AllocGlobal + Files>(
     let Some(bytes) = draft.entry.bytes() else {
         return Err(Error::from(ErrorKind::InvalidInput));
     };
-    let beside = write_beside(rt, folder, bytes, manner(draft)?)?;
+    let beside = write_beside(rt, folder, bytes, manner(rt, target, draft)?)?;
     let placed = match draft.here {
         Here::File { bytes, .. } => { place_over(rt, folder, beside.as_str(), target, bytes) }
         _ => place_new(rt, beside.as_str(), target),
@@ -71,12 +73,22 @@ pub fn place_whole<R: AllocGlobal + Files>(
 }
 
 // The permissions for a file: those it had before, or those of the file of which it is a copy; a new script is executable.
-fn manner(draft: &Draft<'_>) -> io::Result<Manner> {
+fn manner<R: Files>(rt: &R, target: &str, draft: &Draft<'_>) -> io::Result<Manner> {
     match (draft.here, draft.mode) {
-        (Here::File { mode, .. }, _) => Manner::over(*mode),
+        (Here::File { mode, .. }, _) => Manner::over(*mode, owner_of(rt, target, draft.here)),
         (_, Some(mode)) => Ok(Manner::Mode(mode)),
         _ if draft.entry.bits.script => Ok(Manner::Executable),
         _ => Ok(Manner::Plain),
+    }
+}
+
+// Whose a file is that was looked at, if it is still there.
+fn owner_of<R: Files>(rt: &R, target: &str, here: &Here) -> Option<Owner> {
+    let found = fs::symlink_metadata(rt, target).ok()?;
+    if here.has_stamp(&Stamp::of(&found)) {
+        Some(Owner::of(&found))
+    } else {
+        None
     }
 }
 

@@ -1,8 +1,9 @@
 //! How files and folders of this machine are written: to a temporary file in the same folder, which then takes the file's
 //! name. No link is followed.
-ghost use Rattle.std.specs.Prelude.{◌≡◌, true, IfOk, OnOk, string_bytes};
-ghost use Rattle.ados_transfer.specs.Paths.{is_file_name, path_in};
+ghost use Rattle.std.specs.Prelude.{◌≡◌, true, IfOk, IfSome, OnOk, string_bytes};
+ghost use Rattle.ados_transfer.specs.Paths.{IsBelow, is_file_name, path_in};
 
+use crate::owners::{Owner, give};
 use crate::paths::{is_file_name, step_into};
 use crate::stamps::Stamp;
 use ados_ram::FileBytes;
@@ -26,22 +27,28 @@ pub enum Manner {
     Executable,
     /// Those of this mode.
     Mode(u32),
+    /// Those of this mode, as the file had them that is replaced, and its owner.
+    Over(u32, Owner),
 }
 
 impl Manner {
-    /// The permissions of a file in place of one with this mode; one that may not be written is refused.
-    pub fn over(mode: u32) -> io::Result<Manner> {
+    /// The permissions of a file in place of one with this mode, and with this owner if that is known; one that may not be written is
+    /// refused: `PermissionDenied`.
+    pub fn over(mode: u32, owner: Option<Owner>) -> io::Result<Manner> {
         if mode & 0o222 == 0 {
             return Err(io::Error::from(ErrorKind::PermissionDenied));
         }
-        Ok(Manner::Mode(mode))
+        Ok(match owner {
+            Some(owner) => Manner::Over(mode, owner),
+            None => Manner::Mode(mode),
+        })
     }
 
     // The permissions that the file has until all of it is written: a file that others may not read must not be open to them.
     fn first_mode(self) -> u32 {
         match self {
             Manner::Plain | Manner::Executable => 0o666,
-            Manner::Mode(_) => 0o600,
+            Manner::Mode(_) | Manner::Over(..) => 0o600,
         }
     }
 }
@@ -107,7 +114,7 @@ pub fn no_memory() -> io::Error {
 }
 
 /// Writes a file with this name in a folder: a temporary file beside it, which then takes the name. A file that is there keeps its
-/// permissions; one that may not be written is refused, and so are a link, a device, and a name that leads elsewhere. What came to be
+/// permissions and, where this user may give them, its owner and its group; one that may not be written is refused, and so are a link, a device, and a name that leads elsewhere. What came to be
 /// there since the look at it is not replaced: `AlreadyExists`.
 pub fn write_whole<R: AllocGlobal + Files>(
     rt: &R,
@@ -124,7 +131,7 @@ pub fn write_whole<R: AllocGlobal + Files>(
         Err(error) => return Err(error),
     };
     let manner = match &seen {
-        Some(seen) => Manner::over(seen.permissions().mode())?,
+        Some(seen) => Manner::over(seen.permissions().mode(), Some(Owner::of(seen)))?,
         None => Manner::Plain,
     };
     let beside = write_beside(rt, folder, bytes, manner)?;
@@ -178,9 +185,11 @@ pub fn write_beside<R: AllocGlobal + Files>(
     folder: &str,
     bytes: &FileBytes,
     manner: Manner,
-) -> io::Result<String> {
+) -> io::Result<String>
+    ensures { IfOk result (λ path. IsBelow folder.now (string_bytes path)) }
+{
     let (beside, mut file) = open_beside(rt, folder, manner.first_mode())?;
-    let written = fill(&mut file, bytes, manner);
+    let written = fill(rt, beside.as_str(), &mut file, bytes, manner);
     drop(file);
     match written {
         Ok(()) => Ok(beside),
@@ -191,8 +200,14 @@ pub fn write_beside<R: AllocGlobal + Files>(
     }
 }
 
-// Writes the bytes, and sets the permissions.
-fn fill<F: Write + OpenFile>(file: &mut F, bytes: &FileBytes, manner: Manner) -> io::Result<()> {
+// Writes the bytes to the file that was made at this path, and sets the owner and then the permissions, which a new owner may change.
+fn fill<R: Files>(
+    rt: &R,
+    path: &str,
+    file: &mut R::File,
+    bytes: &FileBytes,
+    manner: Manner,
+) -> io::Result<()> {
     for block in bytes.blocks() {
         for piece in block.pieces() {
             file.write_all(piece.as_bytes())?;
@@ -201,6 +216,7 @@ fn fill<F: Write + OpenFile>(file: &mut F, bytes: &FileBytes, manner: Manner) ->
     let mode = match manner {
         Manner::Plain => return Ok(()),
         Manner::Mode(mode) => mode & 0o777,
+        Manner::Over(mode, owner) => give(rt, path, &*file, owner, mode & 0o777)?,
         Manner::Executable => {
             let mode = file.metadata()?.permissions().mode() & 0o777;
             mode | ((mode & 0o444) >> 2)
@@ -214,7 +230,9 @@ pub fn open_beside<R: AllocGlobal + Files>(
     rt: &R,
     folder: &str,
     mode: u32,
-) -> io::Result<(String, R::File)> {
+) -> io::Result<(String, R::File)>
+    ensures { IfOk result (λ made. IsBelow folder.now (string_bytes made.0)) }
+{
     let mut options = OpenOptions::new();
     options.write(true);
     options.create_new(true);
@@ -235,7 +253,9 @@ pub fn link_beside<R: AllocGlobal + Files>(
     rt: &R,
     folder: &str,
     path: &str,
-) -> io::Result<Option<String>> {
+) -> io::Result<Option<String>>
+    ensures { IfOk result (λ named. IfSome named (λ path. IsBelow folder.now (string_bytes path))) }
+{
     for number in 0..u32::MAX {
         let beside = name_beside(rt.alloc(), folder, number)?;
         match fs::hard_link(rt, path, beside.as_str()) {
@@ -248,7 +268,10 @@ pub fn link_beside<R: AllocGlobal + Files>(
 }
 
 // The path of a temporary file in a folder.
-fn name_beside(alloc: Global, folder: &str, number: u32) -> io::Result<String> {
+#[tactic(auto, using(crate::proofs::PathLemmas::below_in))]
+fn name_beside(alloc: Global, folder: &str, number: u32) -> io::Result<String>
+    ensures { IfOk result (λ path. IsBelow folder.now (string_bytes path)) }
+{
     let name = format!(in alloc; "{BESIDE}{number}")?;
-    joined(alloc, folder, name.as_str())
+    path_of(alloc, folder, name.as_str())
 }

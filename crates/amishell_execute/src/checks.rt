@@ -3,7 +3,7 @@ ghost use Rattle.std.specs.Prelude.{◌≡◌, None, IfErr};
 ghost use Rattle.amishell_execute.specs.Playing.{drive_fault_of};
 
 use crate::faults::{Fault, report, unread_script};
-use ados_check::{Finding, bad_directive, check, mark, mark_printed, strike};
+use ados_check::{Finding, bad_directive, check, mark, mark_printed, merge_returns, strike};
 use ados_flow::{Frame, FrameKind};
 use ados_launch::Next;
 use ados_ram::Place;
@@ -24,7 +24,7 @@ pub struct Checks<'a> {
     // The script of the command line: its file on this machine, and its full path in the Shell's files.
     file: &'a str,
     path: Text,
-    // The full paths of the scripts of which a harmless problem was reported.
+    // The full paths of the scripts of which a harmless problem was reported, or with `--lenient` any.
     reported: Vec<Text>,
     // The shells in which a frame began, and which had no turn since.
     begun: Vec<u8>,
@@ -70,20 +70,24 @@ impl<'a> Checks<'a> {
         options: &Options<'a>,
         script: &Place,
     ) -> Result<Checks<'a>, NoMemory> {
+        let path = script.path(alloc)?;
+        let mut reported = Vec::new(alloc);
+        if options.lenient {
+            // What is found in it was reported before anything ran.
+            reported.push(path.copy()?)?;
+        }
         Ok(Checks {
             is_lenient: options.lenient,
             file: options.script,
-            path: script.path(alloc)?,
-            reported: Vec::new(alloc),
+            path,
+            reported,
             begun: Vec::new(alloc),
         })
     }
 
     /// A frame began in this shell.
     pub fn add_begun(&mut self, number: u8) -> Result<(), NoMemory> {
-        if !self.is_lenient {
-            self.begun.push(number)?;
-        }
+        self.begun.push(number)?;
         Ok(())
     }
 
@@ -95,7 +99,8 @@ impl<'a> Checks<'a> {
     /// Before an event, while checks are due: if a shell is to take the first line of a script, all lines of that script are checked,
     /// with its arguments in them.
     ///
-    /// `NotRun` if one of them must not be run as it is.
+    /// `NotRun` if one of them must not be run as it is; with `--lenient` a carriage return at the end of a line is only reported, once for
+    /// each script.
     pub fn attend<R: AllocGlobal + Eprint>(
         &mut self,
         rt: &R,
@@ -139,8 +144,15 @@ impl<'a> Checks<'a> {
                 one.problem.refuse();
             }
         }
+        if self.is_lenient {
+            found.retain(|one| one.problem.is_return());
+        }
+        merge_returns(&mut found);
         let is_new = self.is_first_report(name)?;
-        if report_all(rt, self.shown(name), &found, is_new)? {
+        if self.is_lenient && !is_new {
+            return Ok(());
+        }
+        if report_all(rt, self.shown(name), &found, is_new)? && !self.is_lenient {
             return Err(not_run(alloc, self.shown(name)));
         }
         Ok(())

@@ -3,11 +3,11 @@
 use crate::faults::{Fault, unread_script};
 use crate::hosts::hosts_for;
 use crate::status::Status;
-use ados_check::{Finding, Problem, inspect, mark, mark_printed, name_in_c, strike};
+use ados_check::{Finding, Problem, inspect, mark, mark_printed, merge_returns, name_in_c, strike};
 use ados_resident::{DiskCommand, HostEntry};
 use ados_text::{NoMemory, Text};
 use ados_trace::escaped;
-use ados_transfer::{last_piece, parted, read_script, step_into};
+use ados_transfer::{bytes_of, last_piece, parted, read_script, step_into};
 use execute_options::Options;
 use std::alloc::Global;
 use std::io::Write;
@@ -79,10 +79,7 @@ impl Inspector<'_> {
         rt: &R,
         path: &str,
     ) -> Result<bool, Fault> {
-        let mut script = match read_script(rt, self.options.mirror.limits, path) {
-            Ok(script) => script,
-            Err(fault) => return Err(unread_script(rt, fault)),
-        };
+        let mut script = self.script_at(rt, path)?;
         if self.options.ascii_marks {
             mark(&mut script);
         }
@@ -96,6 +93,7 @@ impl Inspector<'_> {
         for finding in inspect(rt.alloc(), self.options.dialect, &self.typed, &script)? {
             found.push(finding)?;
         }
+        merge_returns(&mut found);
         found.sort_by(|a, b| a.line.cmp(&b.line))?;
         let mut is_wrong = false;
         for finding in &found {
@@ -105,6 +103,19 @@ impl Inspector<'_> {
             }
         }
         Ok(is_wrong)
+    }
+
+    // A script as the Shell has it: a carriage return at the end of a line is taken off those of the command line alone.
+    fn script_at<R: AllocGlobal + Files>(&self, rt: &R, path: &str) -> Result<Vec<u8>, Fault> {
+        let limits = self.options.mirror.limits;
+        let script = match read_script(rt, limits, path) {
+            Ok(script) => script,
+            Err(fault) => return Err(unread_script(rt, fault)),
+        };
+        if self.is_given(path) {
+            return Ok(script);
+        }
+        Ok(bytes_of(rt, path, limits.file()).unwrap_or(script))
     }
 
     // It is a script of the command line.

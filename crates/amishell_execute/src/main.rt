@@ -178,8 +178,9 @@ fn run_script<
         play(rt, world, script, teller, share.as_mut(), &mut writer)
     };
     let closed = close(rt, world, share.as_mut());
-    // What is to be taken is taken even if the shared folder could not be brought up to date.
-    let is_taken = take_all(rt, options, world);
+    // What is to be taken is taken even if the shared folder could not be brought up to date, but not if it did not come in.
+    let has_begun = share.as_ref().is_none_or(Share::is_filled);
+    let is_taken = has_begun && take_all(rt, options, world);
     let is_alike = closed?;
     let code = ended.as_ref().ok().map(|end| end.code);
     let status = status_after(rt, options, world, &origins, ended)?;

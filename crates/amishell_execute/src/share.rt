@@ -1,5 +1,5 @@
 //! Folders of this machine that are shared with the Shell.
-ghost use Rattle.std.specs.Prelude.{◌≡◌, ◌<◌, ◌^◌, ◌-◌, [], IsOk, OnOk};
+ghost use Rattle.std.specs.Prelude.{◌≡◌, ◌<◌, ◌^◌, ◌-◌, [], None, IsOk, OnOk};
 ghost use Rattle.ados_launch.specs.Agreement.{Agrees, IsOpenTable};
 ghost use Rattle.ados_launch.specs.Deeds.{RunsLines};
 
@@ -71,6 +71,11 @@ impl Share {
         self.mirror.volumes()
     }
 
+    /// What was in the folders at the beginning was brought in. Before that nothing of the script runs.
+    pub fn is_filled(&self) -> bool {
+        self.is_filled
+    }
+
     /// The line that makes the first directory the current one.
     pub fn change_line(&self, alloc: Global) -> Result<Text, Fault> {
         let mut line = Text::from_bytes(alloc, b"\"CD\"")?;
@@ -131,6 +136,7 @@ impl Share {
 
     /// What the event before renamed is followed, and what it deleted no longer.
     pub fn follow(&mut self, world: &World, session: &mut Session<'_>) -> Result<(), Fault>
+        ensures taken { session.new.renamed ≡ None }
         ensures children { session.new.children ≡ session.old.children }
         ensures schedule { session.new.schedule ≡ session.old.schedule }
         ensures held { session.new.held ≡ session.old.held }
@@ -140,7 +146,8 @@ impl Share {
                 self.mirror.follow(&object.from, &object.to)?;
             }
         }
-        Ok(self.mirror.forget_deleted(world.files())?)
+        self.mirror.forget_deleted(world.files());
+        Ok(())
     }
 
     /// Writes what changed to the folders at the end. `false` if the two sides are not alike then.
@@ -171,7 +178,10 @@ impl Share {
         ensures held { session.new.held ≡ session.old.held }
         ensures ran { RunsLines world.old world.new }
     {
-        for arrival in self.mirror.arrivals(rt, world.files())? {
+        let arrivals = self.mirror.arrivals(rt, world.files());
+        // Before the fault too: a folder does not fit because of what these lines name.
+        self.report_lines(rt);
+        for arrival in arrivals? {
             let arrival = take_in(rt.alloc(), world, launcher, session, arrival)?;
             self.mirror.settle(arrival, world.files())?;
         }
@@ -199,11 +209,8 @@ impl Share {
         world: &World,
         number: u8,
     ) -> Result<Start, Fault> {
-        let place = match world.shell(number) {
-            Some(shell) => self.mirror.start_place(rt, shell.directory())?,
-            None => StartPlace::Home,
-        };
-        match place {
+        let place = world.shell(number).map(|shell| shell.directory());
+        match self.mirror.start_place(rt, place)? {
             StartPlace::Home => Ok(Start::Home),
             StartPlace::Folder(path) => self.home.start(path),
             StartPlace::Nowhere => {

@@ -51,7 +51,8 @@ folder comes in when it ends. May be given again; the script begins in the first
 const ALL: &str = "Shares also what has a name that begins with a dot";
 
 const PART: &str =
-    "Shares what fits of a folder that has more files and folders than the Shell can hold; without it nothing runs then";
+    "Shares what fits of a folder, and leaves out the rest: files and folders for which the Shell has no room, names that it
+does not allow, names that differ in case alone, and what can't be read. Without it nothing runs then";
 
 const DRY: &str =
     "Tells what would be written to the shared folders and deleted there, and writes nothing itself; programs

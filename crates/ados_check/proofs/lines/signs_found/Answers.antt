@@ -10,7 +10,7 @@ pub loop-place-preserved : goal.loop-place-preserved
 loop-place-preserved c =
     let place = c.loop-place.place in
     let bytes = c.args.bytes.now in
-    let line : c.line_at-line.result.now ≡ file_line bytes place = rw (c.line_at-line.ensures, c.deref.ensures.value, c.in_ok-in_file.ensures) refl in
+    let line : c.line_at-line.result.now ≡ file_line bytes place = rw (c.line_at-line.ensures, c.deref-in-loop-place.ensures.value, c.in_ok-in_file.ensures) refl in
     let sign : sign_of (is_dotted bytes) (file_line bytes place) ≡ c.sign_in.result =
     sym (c.sign_in.ensures ∙ ap (λ d. sign_of d c.line_at-line.result.now) c.is_dotted-is_dotted.ensures ∙ ap (sign_of (is_dotted bytes)) line) in
     elim c.match-sign_in.branch [
@@ -21,7 +21,7 @@ loop-place-preserved c =
       )
       | in-Some+in_ok-push_problem-in-Some w ↦
           let added = ap (λ f. f.items) w.found-is ∙ w.in_ok-push_problem-in-Some.ensures in
-          let speaks = w.sign_problem-problem.ensures in (
+          let speaks = w.sign_problem-problem.ensures.told in (
             subst (ToldUpTo (place + 1) bytes) (sym added)
                 (one_more place w.in-Some.byte bytes c.loop-place.found.items w.sign_problem-problem.result c.loop-place.invariant.0 (sign ∙ w.in-Some.is) speaks),
             λ world script. subst (AreSo world script) (sym added)

@@ -1,0 +1,39 @@
+-- What problems mean for a run and for a check.
+use Rattle.std.specs.Prelude.{Bool, true, false}
+use Rattle.ados_check.specs.declared.findings.Problem.{Problem}
+use Rattle.ados_check.specs.declared.findings.Problem.TheVariants as problem
+
+-- the line may be run all the same
+abbrev pub is_harmless : Problem → Bool
+is_harmless (problem.PrintedByte byte) = true
+is_harmless (problem.PrintedReturn others) = true
+is_harmless other = false
+
+-- the same where Echo or Ask is another command: then nothing of it is harmless
+abbrev pub refused : Problem → Problem
+refused (problem.PrintedByte byte) = problem.NotAscii byte
+refused (problem.PrintedReturn others) = problem.EndReturn others
+refused other = other
+
+-- the line must not be run, since it ends in a carriage return
+abbrev pub refuses_return : Problem → Bool
+refuses_return (problem.EndReturn others) = true
+refuses_return other = false
+
+abbrev pub speaks_of_return : Problem → Bool
+speaks_of_return (problem.EndReturn others) = true
+speaks_of_return (problem.PrintedReturn others) = true
+speaks_of_return other = false
+
+-- whenever the line is taken, it fails, or it must not be run
+abbrev pub is_error : Problem → Bool
+is_error (problem.NotAscii byte) = true
+is_error (problem.EndReturn others) = true
+is_error problem.ByteOrderMark = true
+is_error (problem.LongLine count) = true
+is_error (problem.Line fault) = true
+is_error (problem.Arguments command template fault) = true
+is_error problem.BadDirective = true
+is_error (problem.NoLab label) = true
+is_error problem.ElseWithoutEndIf = true
+is_error other = false

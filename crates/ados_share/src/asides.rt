@@ -1,0 +1,133 @@
+//! Objects of the folder of a share that are moved aside while others of another kind get their places.
+
+use crate::account::{Account, Aside};
+use crate::departure::{move_aside, own_path};
+use crate::mirror::Mirror;
+use ados_transfer::{Here, Record, Stamp, TransferFault, place_new};
+use std::fs::Permissions;
+use std::io::ErrorKind;
+use std::os::unix::fs::PermissionsExt;
+use std::rt::Files;
+use std::{fs, io};
+
+impl Mirror {
+    // Moves an object aside; `false` if something else came to be there since it was looked at.
+    pub(crate) fn set_aside<R: AllocGlobal + Files>(
+        &mut self,
+        rt: &R,
+        key: &str,
+        path: &str,
+        here: &Here,
+        account: &mut Account,
+    ) -> io::Result<bool> {
+        let Some((beside, mode)) = move_aside(rt, self.volumes.root_of(path), path, here)? else {
+            return Ok(false);
+        };
+        let Some((key, record)) = self.records.remove_entry(key) else {
+            return Ok(true);
+        };
+        self.contents.leave_out(key.as_str(), Some(&record));
+        let moved = self.moves.take(key.as_str());
+        let aside = Aside {
+            key,
+            record,
+            beside,
+            mode,
+            moved,
+        };
+        match account.set_aside(aside) {
+            Ok(()) => Ok(true),
+            Err(_) => Err(io::Error::from(ErrorKind::OutOfMemory)),
+        }
+    }
+
+    // Deletes what was moved aside; if anything is not written each object gets its place back, the last one first.
+    pub(crate) fn finish_kind_changes<R: AllocGlobal + Files>(
+        &mut self,
+        rt: &R,
+        account: &mut Account,
+        is_written: bool,
+    ) -> Result<(), TransferFault> {
+        let is_safe = is_written
+            && (account.aside.is_empty() || matches!(self.is_synced(rt, account), Ok(true)));
+        for one in account.take_aside().into_iter().rev() {
+            if account.has_unwritten() || !is_safe {
+                self.put_back(rt, one, account)?;
+            } else if let Some(beside) = &one.beside {
+                let _ = fs::remove_file(rt, beside.as_str());
+            }
+        }
+        Ok(())
+    }
+
+    // Gives an object its place back. If something else is there by now it stays where it is, and a line says so.
+    fn put_back<R: AllocGlobal + Files>(
+        &mut self,
+        rt: &R,
+        aside: Aside,
+        account: &mut Account,
+    ) -> Result<(), TransferFault> {
+        let Aside {
+            key,
+            record,
+            beside,
+            mode,
+            moved,
+        } = aside;
+        match placed_back(rt, &record, beside.as_ref(), mode) {
+            Ok(Some(stamp)) => {
+                let mut record = record;
+                record.stamp = stamp;
+                record.is_fresh = true;
+                if let Some(moved) = moved {
+                    self.moves.add(key.clone()?, moved)?;
+                }
+                self.contents
+                    .note(key.as_str(), self.records.get(key.as_str()), &record)?;
+                self.records.insert(key, record)?;
+                Ok(())
+            }
+            _ => match beside {
+                Some(beside) => self.report_aside(beside, record.path.as_str(), account),
+                None => Ok(()),
+            },
+        }
+    }
+
+    // Reports that what was moved aside stays where it is, and not in its own place.
+    pub(crate) fn report_aside(
+        &mut self,
+        beside: String,
+        path: &str,
+        account: &mut Account,
+    ) -> Result<(), TransferFault> {
+        let whole = self.volumes.whole(beside.as_str())?;
+        let text = format!(in self.alloc; "kept as {whole}")?;
+        account.kept.push(beside)?;
+        self.reports.report(text.as_str(), path)
+    }
+}
+
+// Gives an object its place back, and gives its stamp; nothing if something else is there. A folder that was made there is deleted
+// if it is empty.
+fn placed_back<R: AllocGlobal + Files>(
+    rt: &R,
+    record: &Record,
+    beside: Option<&String>,
+    mode: u32,
+) -> io::Result<Option<Stamp>> {
+    let whole = own_path(rt, record.path.as_str())?;
+    match beside {
+        Some(beside) => {
+            let _ = fs::remove_dir(rt, whole.as_str());
+            if !place_new(rt, beside.as_str(), whole.as_str())? {
+                return Ok(None);
+            }
+        }
+        None => {
+            fs::create_dir(rt, whole.as_str())?;
+            fs::set_permissions(rt, whole.as_str(), Permissions::from_mode(mode))?;
+        }
+    }
+    Ok(Some(Stamp::of(&fs::symlink_metadata(rt, whole.as_str())?)))
+}

@@ -1,0 +1,123 @@
+//! Which files of the Shell have the same bytes as a file of the folder of a share.
+
+use crate::contents::digest;
+use crate::departure::Departure;
+use crate::mirror::Mirror;
+use ados_ram::{FileBytes, Place, Ram};
+use ados_text::NoMemory;
+use ados_transfer::TransferFault;
+use std::alloc::Global;
+use std::collections::BTreeMap;
+
+/// A file of the Shell that has bytes.
+#[derive(Drop)]
+pub struct Holder<'a> {
+    place: Place,
+    bytes: &'a FileBytes,
+}
+
+impl Holder<'_> {
+    /// Where it is.
+    pub fn place(&self) -> &Place {
+        &self.place
+    }
+}
+
+/// The files of the Shell that have bytes: those in the directory, and those outside of it.
+#[derive(Drop)]
+pub struct Holders<'a> {
+    inside: Index<'a>,
+    outside: Index<'a>,
+}
+
+// An index of files, each among those whose bytes have the same digest, in the order in which they were added.
+#[derive(Drop)]
+struct Index<'a> {
+    alloc: Global,
+    by_digest: BTreeMap<u64, Vec<Holder<'a>>>,
+}
+
+impl<'a> Index<'a> {
+    // There are none.
+    fn new(alloc: Global) -> Index<'a> {
+        Index {
+            alloc,
+            by_digest: BTreeMap::new(alloc),
+        }
+    }
+
+    // Adds a file.
+    fn add(&mut self, holder: Holder<'a>) -> Result<(), NoMemory> {
+        let digest = digest(holder.bytes);
+        if let Some(alike) = self.by_digest.get_mut(&digest) {
+            alike.push(holder)?;
+            return Ok(());
+        }
+        let mut alike = Vec::new(self.alloc);
+        alike.push(holder)?;
+        self.by_digest.insert(digest, alike)?;
+        Ok(())
+    }
+
+    // The first file that was added with these bytes.
+    fn first_with(&self, bytes: &FileBytes) -> Option<&Holder<'a>> {
+        let alike = self.by_digest.get(&digest(bytes))?;
+        alike.iter().find(|holder| holder.bytes == bytes)
+    }
+}
+
+impl<'a> Holders<'a> {
+    /// The first file that has these bytes, of those outside if one of them does.
+    pub fn first_with(&self, bytes: &FileBytes) -> Option<&Holder<'a>> {
+        match self.outside.first_with(bytes) {
+            Some(found) => Some(found),
+            None => self.inside.first_with(bytes),
+        }
+    }
+
+    /// A file outside of the directory has these bytes.
+    pub fn has_outside(&self, bytes: &FileBytes) -> bool {
+        self.outside.first_with(bytes).is_some()
+    }
+
+    // The file whose bytes would be lost with memory if those of a file of the folder are deleted or written over. For one that gives
+    // way to what is written in its place (`is_moved`) there is none if a file in the directory has them.
+    pub(crate) fn copy_of(
+        &self,
+        departure: &Departure<'_>,
+        bytes: &FileBytes,
+        is_moved: bool,
+    ) -> Option<&Holder<'a>> {
+        if !departure.is_gone() {
+            return self.first_with(bytes);
+        }
+        if is_moved && self.inside.first_with(bytes).is_some() {
+            return None;
+        }
+        self.outside.first_with(bytes)
+    }
+}
+
+impl Mirror {
+    // The Shell's files that have bytes.
+    pub(crate) fn holders<'a>(&self, files: &'a Ram) -> Result<Holders<'a>, TransferFault> {
+        let mut holders = Holders {
+            inside: Index::new(self.alloc),
+            outside: Index::new(self.alloc),
+        };
+        for place in files.contents(&Place::root(self.alloc))? {
+            let Some(bytes) = files.look(&place).and_then(|entry| entry.bytes()) else {
+                continue;
+            };
+            if bytes.len() == 0 {
+                continue;
+            }
+            if self.volumes.of_place(&place).is_some() {
+                holders.inside.add(Holder { place, bytes })?;
+            } else {
+                holders.outside.add(Holder { place, bytes })?;
+            }
+        }
+        Ok(holders)
+    }
+}
