@@ -25,7 +25,7 @@ use Rattle.ados_files.specs.declared.options.TheConstants.{COPY_FROM, COPY_TO, C
 use Rattle.ados_files.specs.Copy.{middle_directories, ensure_directory, make_missing, copy_fault, manner_of, written_files, files_unless, noted_files, cloned_files, copied_files, copied_fault, copy_written, copy_unless, copy_entry, copy_one, one_entry, target_directory, copy_to_directory, is_onto, copy_found, copy_to_place, copy_into_target, copy_by_texts, copy_row}
 use Rattle.ados_files.specs.Jobs.{all_jobs, target_jobs, sources_of}
 use Rattle.ados_files.specs.MakeDir.{make_one}
-use Rattle.ados_files.specs.Names.{FoundPlaces}
+use Rattle.ados_objects.specs.Names.{FoundPlaces}
 use Rattle.ados_files.specs.MayChange.{is_under, is_under_path, copy_may_change}
 use Rattle.ados_files.proofs.Stays.{Stay, kept-each, kept-refused, kept-unless, stay-kept}
 

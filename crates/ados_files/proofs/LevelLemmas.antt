@@ -7,7 +7,7 @@ use Rattle.ados_ram.specs.Place.{Place}
 use Rattle.ados_ram.specs.Files.{Files}
 use Rattle.ados_files.specs.Below.{objects_in, unless_root, objects_down}
 use Rattle.ados_files.specs.Dir.{branch_text, file_text, level_text}
-use Rattle.ados_files.specs.Lines.{keeps, entry_lines}
+use Rattle.ados_objects.specs.Lines.{keeps, entry_lines}
 use Rattle.ados_files.specs.declared.dir_lines.Choice.{Choice}
 
 pub down_further : (levels : ℕ) (files : Files) (place : Place) → 1 ≤ levels →

@@ -4,7 +4,7 @@ use Rattle.std.specs.List.{flat_map}
 use Rattle.ados_text.specs.Text.{Text}
 use Rattle.ados_ram.specs.Place.{Place}
 use Rattle.ados_ram.specs.Files.{Files}
-use Rattle.ados_files.specs.Lines.{entry_lines}
+use Rattle.ados_objects.specs.Lines.{entry_lines}
 use Rattle.ados_files.specs.Shapes.{line_by_shape, directory_lines, group_lines}
 use Rattle.ados_files.specs.declared.shapes.Shape.{Shape}
 

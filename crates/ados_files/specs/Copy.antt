@@ -22,9 +22,9 @@ use Rattle.ados_find.specs.Views.{View}
 use Rattle.ados_find.specs.Effects.{Effect, codes_effect, if_found, if_given}
 use Rattle.ados_find.specs.Done.{Done, fresh_work, refused_or, unless_stopped, act_on_each, end_effect}
 use Rattle.ados_find.specs.Paths.{place_of}
-use Rattle.ados_files.specs.Names.{FoundPlaces}
+use Rattle.ados_objects.specs.Names.{FoundPlaces}
 use Rattle.ados_files.specs.MakeDir.{make_one}
-use Rattle.ados_files.specs.Lines.{say}
+use Rattle.ados_objects.specs.Lines.{say}
 use Rattle.ados_files.specs.Jobs.{sources_of, all_jobs, target_jobs}
 use Rattle.ados_files.specs.declared.copy_one.Manner.{Manner}
 use Rattle.ados_files.specs.declared.jobs.Job.{Job}

@@ -15,8 +15,8 @@ use Rattle.ados_find.specs.Effects.{Effect}
 use Rattle.ados_find.specs.Done.{Done, fresh_work, refused_or, act_on_each, end_effect}
 use Rattle.ados_files.specs.declared.delete.DeleteManner.{DeleteManner}
 use Rattle.ados_files.specs.declared.options.TheConstants.{DELETE_FILE, DELETE_ALL, DELETE_QUIET, DELETE_FORCE}
-use Rattle.ados_files.specs.Lines.{say}
-use Rattle.ados_files.specs.Acts.{at_names}
+use Rattle.ados_objects.specs.Lines.{say}
+use Rattle.ados_objects.specs.Acts.{at_names}
 
 abbrev pub deleted_line : Files → Place → Bytes
 deleted_line files place = full_path files place ++ codes "  Deleted\n"

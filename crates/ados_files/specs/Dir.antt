@@ -17,9 +17,9 @@ use Rattle.ados_find.specs.Shared.{SharedState}
 use Rattle.ados_find.specs.Views.{View}
 use Rattle.ados_find.specs.Effects.{Effect, codes_effect, if_found, output_effect, unless_refused}
 use Rattle.ados_find.specs.Paths.{bases_of}
-use Rattle.ados_files.specs.Bases.{all_children, entry_at}
+use Rattle.ados_objects.specs.Bases.{all_children, entry_at}
 use Rattle.ados_files.specs.Below.{object_count, objects_in}
-use Rattle.ados_files.specs.Lines.{keeps, entry_lines}
+use Rattle.ados_objects.specs.Lines.{keeps, entry_lines}
 use Rattle.ados_files.specs.Letters.{are_letters_of, has_letter}
 use Rattle.ados_files.specs.Texts.{text_or_empty}
 use Rattle.ados_files.specs.declared.options.TheConstants.{DIR_DIR, DIR_DIRS, DIR_FILES, DIR_ALL, DIR_OPT, DIR_INTER}

@@ -10,7 +10,7 @@ use Rattle.ados_find.specs.Views.{View}
 use Rattle.ados_find.specs.Effects.{Effect}
 use Rattle.ados_find.specs.Done.{Done, fresh_work, refused_or, act_on_each, end_effect}
 use Rattle.ados_files.specs.Texts.{text_or_empty}
-use Rattle.ados_files.specs.Acts.{at_names}
+use Rattle.ados_objects.specs.Acts.{at_names}
 use Rattle.ados_files.specs.Below.{objects_of}
 use Rattle.ados_files.specs.declared.options.TheConstants.{FILENOTE_FILE, FILENOTE_COMMENT, FILENOTE_ALL}
 

@@ -13,7 +13,7 @@ use Rattle.ados_ram.specs.FileOperations.{read_fault}
 use Rattle.ados_ram.specs.InUse.{InUse, is_output}
 use Rattle.ados_ram.specs.Written.{full_path}
 use Rattle.ados_ram.specs.declared.entries.Entry.{Entry}
-use Rattle.ados_files.specs.Lines.{say}
+use Rattle.ados_objects.specs.Lines.{say}
 use Rattle.ados_files.specs.Parts.{stands_in}
 use Rattle.ados_files.specs.SortOrder.{plain_lines}
 use Rattle.ados_files.specs.declared.hits.Hits.{Hits as HitsSoFar}

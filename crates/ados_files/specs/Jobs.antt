@@ -10,7 +10,7 @@ use Rattle.ados_ram.specs.Written.{written_place}
 use Rattle.ados_ram.specs.declared.entries.Entry.{Entry}
 use Rattle.ados_find.specs.declared.codes.Codes.{Codes}
 use Rattle.ados_find.specs.Shared.{SharedState}
-use Rattle.ados_files.specs.Names.{FoundPlaces, named_places}
+use Rattle.ados_objects.specs.Names.{FoundPlaces, named_places}
 use Rattle.ados_files.specs.declared.jobs.Job.{Job}
 
 -- the objects of several arguments, one after the other, or the first refusal

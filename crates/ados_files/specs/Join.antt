@@ -10,7 +10,7 @@ use Rattle.ados_find.specs.Shared.{SharedState, limits_of, with_files}
 use Rattle.ados_find.specs.Views.{View}
 use Rattle.ados_find.specs.Effects.{Effect, codes_effect, if_given}
 use Rattle.ados_find.specs.Done.{Done, fresh_work, refused_or, unless_stopped, act_on_each, end_effect}
-use Rattle.ados_files.specs.Acts.{at_path}
+use Rattle.ados_objects.specs.Acts.{at_path}
 use Rattle.ados_files.specs.TypeFiles.{type_one}
 use Rattle.ados_files.specs.declared.options.TheConstants.{JOIN_FILE, JOIN_TO}
 use Rattle.ados_files.specs.declared.type_files.Printing.TheVariants.{Plain}

@@ -1,7 +1,4 @@
-pub mod Bases
 pub mod Below
-pub mod Names
-pub mod Acts
 pub mod Letters
 pub mod Texts
 pub mod MakeDir
@@ -10,7 +7,6 @@ pub mod Dumps
 pub mod TypeFiles
 pub mod Filenote
 pub mod Protect
-pub mod Lines
 pub mod Options
 pub mod Formats
 pub mod Parts

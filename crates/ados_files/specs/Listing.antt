@@ -19,10 +19,10 @@ use Rattle.ados_find.specs.Views.{View}
 use Rattle.ados_find.specs.Effects.{Effect, codes_effect, if_found, unless_refused}
 use Rattle.ados_find.specs.Done.{Done, fresh_work, stop_with_codes, refused_or, act_on_each, end_effect}
 use Rattle.ados_find.specs.OutputFile.{output_to}
-use Rattle.ados_files.specs.Bases.{all_children, entry_at}
+use Rattle.ados_objects.specs.Bases.{all_children, entry_at}
 use Rattle.ados_files.specs.Below.{object_count}
 use Rattle.ados_files.specs.Formats.{format_of}
-use Rattle.ados_files.specs.Names.{FoundPlaces, pattern_of, named_bases}
+use Rattle.ados_objects.specs.Names.{FoundPlaces, pattern_of, named_bases}
 use Rattle.ados_files.specs.Options.{is_given}
 use Rattle.ados_files.specs.Shapes.{group_lines}
 use Rattle.ados_files.specs.Spellings.{spelled_path}

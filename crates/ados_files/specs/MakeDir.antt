@@ -11,7 +11,7 @@ use Rattle.ados_find.specs.Shared.{SharedState, limits_of, with_files}
 use Rattle.ados_find.specs.Views.{View}
 use Rattle.ados_find.specs.Effects.{Effect, codes_effect}
 use Rattle.ados_find.specs.Done.{Done, fresh_work, refused_or, act_on_each, end_effect}
-use Rattle.ados_files.specs.Acts.{at_path}
+use Rattle.ados_objects.specs.Acts.{at_path}
 use Rattle.ados_files.specs.declared.options.TheConstants.{MAKE_DIR_NAME}
 
 -- one directory is created

@@ -9,9 +9,9 @@ use Rattle.ados_find.specs.Done.{Done, fresh_work}
 use Rattle.ados_find.specs.Shared.{SharedState}
 use Rattle.ados_find.specs.Views.{View}
 use Rattle.ados_find.specs.Paths.{place_of}
-use Rattle.ados_files.specs.Acts.{at_names}
+use Rattle.ados_objects.specs.Acts.{at_names}
 use Rattle.ados_files.specs.Delete.{delete_place, delete_manner}
-use Rattle.ados_files.specs.Names.{FoundPlaces, named_places}
+use Rattle.ados_objects.specs.Names.{FoundPlaces, named_places}
 use Rattle.ados_files.specs.Rename.{rename_sources}
 use Rattle.ados_files.specs.declared.options.TheConstants.{COPY_TO, DELETE_FILE, DELETE_ALL, RENAME_FROM, RENAME_TO}
 use Rattle.ados_files.specs.declared.rename.Sources.{Sources}

@@ -18,7 +18,7 @@ use Rattle.ados_find.specs.Effects.{Effect, codes_effect}
 use Rattle.ados_find.specs.Done.{Done, fresh_work, refused_or, act_on_each, end_effect}
 use Rattle.ados_files.specs.Letters.{are_letters_of, has_letter}
 use Rattle.ados_files.specs.Texts.{text_or_empty}
-use Rattle.ados_files.specs.Acts.{at_names}
+use Rattle.ados_objects.specs.Acts.{at_names}
 use Rattle.ados_files.specs.Below.{objects_of}
 use Rattle.ados_files.specs.declared.options.TheConstants.{PROTECT_FILE, PROTECT_FLAGS, PROTECT_ADD, PROTECT_SUB, PROTECT_ALL}
 use Rattle.ados_files.specs.declared.protect.Way.{Way}

@@ -18,7 +18,7 @@ use Rattle.ados_find.specs.Views.{View}
 use Rattle.ados_find.specs.Effects.{Effect, codes_effect, if_found, if_given}
 use Rattle.ados_files.specs.Hits.{Hits, search_files}
 use Rattle.ados_files.specs.Jobs.{sources_of}
-use Rattle.ados_files.specs.Names.{FoundPlaces, pattern_of}
+use Rattle.ados_objects.specs.Names.{FoundPlaces, pattern_of}
 use Rattle.ados_files.specs.declared.hits.Searching.{Searching}
 use Rattle.ados_files.specs.declared.hits.Wanted.{Wanted}
 use Rattle.ados_files.specs.declared.hits.Wanted.TheVariants.{Inside, Matching}

@@ -10,7 +10,7 @@ use Rattle.ados_ram.specs.Entry.{is_directory}
 use Rattle.ados_ram.specs.Files.{Files}
 use Rattle.ados_ram.specs.Contents.{children}
 use Rattle.ados_ram.specs.declared.entries.Entry.{Entry}
-use Rattle.ados_files.specs.Lines.{keeps, entry_lines, list_line}
+use Rattle.ados_objects.specs.Lines.{keeps, entry_lines, list_line}
 use Rattle.ados_files.specs.Formats.{format_line}
 use Rattle.ados_files.specs.Parts.{stands_in}
 use Rattle.ados_files.specs.declared.formats.Part.{Part}

@@ -11,7 +11,7 @@ use Rattle.ados_find.specs.Shared.{SharedState}
 use Rattle.ados_find.specs.Views.{View}
 use Rattle.ados_find.specs.Effects.{Effect, codes_effect, if_found, if_given}
 use Rattle.ados_find.specs.Done.{Done, fresh_work, end_effect}
-use Rattle.ados_files.specs.Acts.{at_path}
+use Rattle.ados_objects.specs.Acts.{at_path}
 use Rattle.ados_files.specs.Join.{write_read}
 use Rattle.ados_files.specs.SortOrder.{plain_lines, sorted_lines}
 use Rattle.ados_files.specs.TypeFiles.{type_one}

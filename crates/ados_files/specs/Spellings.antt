@@ -4,8 +4,8 @@ use Rattle.ados_text.specs.Text.{Text}
 use Rattle.ados_ram.specs.Entry.{is_directory}
 use Rattle.ados_ram.specs.Files.{Files}
 use Rattle.ados_ram.specs.declared.entries.Entry.{Entry}
-use Rattle.ados_files.specs.Bases.{entry_at}
-use Rattle.ados_files.specs.Names.{FoundPlaces, directory_part, piece_of}
+use Rattle.ados_objects.specs.Bases.{entry_at}
+use Rattle.ados_objects.specs.Names.{FoundPlaces, directory_part, piece_of}
 
 -- the path of a directory, and a slash unless its last piece is empty, as in the empty path, or after a colon or a slash
 abbrev pub slash_after : Text → Text

@@ -16,7 +16,7 @@ use Rattle.ados_find.specs.Views.{View}
 use Rattle.ados_find.specs.Effects.{Effect, codes_effect, if_found}
 use Rattle.ados_find.specs.Done.{Done, fresh_work, refused_or, act_on_each, end_effect}
 use Rattle.ados_find.specs.OutputFile.{output_to}
-use Rattle.ados_files.specs.Acts.{at_names}
+use Rattle.ados_objects.specs.Acts.{at_names}
 use Rattle.ados_files.specs.Dumps.{hex_text, numbered_text}
 use Rattle.ados_files.specs.Letters.{are_letters_of, has_letter}
 use Rattle.ados_files.specs.Texts.{text_or_empty}

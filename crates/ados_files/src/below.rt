@@ -3,7 +3,7 @@ ghost use Rattle.std.specs.Prelude.{◌≡◌, ◌++◌, IfOk, OnOk};
 ghost use Rattle.std.specs.List.{flat_map};
 ghost use Rattle.ados_files.specs.Below.{object_count, unless_root, objects_down, objects_of};
 
-use crate::names::only;
+use ados_objects::only;
 use ados_ram::{Place, Ram};
 use ados_text::NoMemory;
 use std::alloc::Global;

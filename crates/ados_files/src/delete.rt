@@ -3,8 +3,8 @@ ghost use Rattle.std.specs.Prelude.{◌≡◌, IfOk};
 ghost use Rattle.ados_find.specs.Effects.{effect_of};
 ghost use Rattle.ados_files.specs.Delete.{delete_manner, delete_one, targets, delete_place, delete_row};
 
-use crate::acts::{done_with_named, go_on_saying};
-use crate::names::only;
+use ados_objects::{done_with_named, go_on_saying};
+use ados_objects::only;
 use crate::options::{DELETE_ALL, DELETE_FILE, DELETE_FORCE, DELETE_QUIET};
 use ados_find::{Act, CommandResult, Shared, ShellView, Work, current, each};
 use ados_ram::{Place, Ram};

@@ -2,10 +2,10 @@
 ghost use Rattle.std.specs.Prelude.{◌≡◌, ◌++◌, codes, IfOk, OnOk};
 ghost use Rattle.std.specs.List.{flat_map};
 ghost use Rattle.ados_files.specs.Below.{objects_in};
-ghost use Rattle.ados_files.specs.Lines.{keeps, entry_lines};
+ghost use Rattle.ados_objects.specs.Lines.{keeps, entry_lines};
 
 use crate::below::object_count;
-use crate::lines::{Line, keeps, push_lines, put_between};
+use ados_objects::{Line, keeps, push_lines, put_between};
 use ados_ram::{Entry, Place, Ram};
 use ados_text::NoMemory;
 use std::alloc::Global;

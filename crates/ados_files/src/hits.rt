@@ -5,7 +5,7 @@ ghost use Rattle.ados_ram.specs.Place.{key_of};
 ghost use Rattle.ados_ram.specs.Written.{full_path};
 ghost use Rattle.ados_files.specs.SortOrder.{plain_lines};
 
-use crate::lines::{put_between, say_path};
+use ados_objects::{put_between, say_path};
 use crate::parts::stands_in;
 use crate::sort_order::line_len;
 use ados_find::{Shared, ShellView};

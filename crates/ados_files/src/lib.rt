@@ -1,8 +1,6 @@
 #![tactic(auto)]
 //! The commands on files: MakeDir, Delete, Rename, Copy, Type, Join, List, Dir, Protect, Filenote, Search and Sort.
 
-mod acts;
-mod bases;
 mod below;
 mod copy;
 mod copy_one;
@@ -19,10 +17,8 @@ mod jobs;
 mod join;
 mod laws;
 mod letters;
-mod lines;
 mod listing;
 mod make_dir;
-mod names;
 mod options;
 mod parts;
 mod protect;

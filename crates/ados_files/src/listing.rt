@@ -4,18 +4,18 @@ ghost use Rattle.std.specs.Option.{option_copied};
 ghost use Rattle.ados_readargs.specs.Args.{option_text};
 ghost use Rattle.ados_files.specs.declared.options.TheConstants.{LIST_LFORMAT};
 ghost use Rattle.ados_files.specs.Shapes.{group_lines};
-ghost use Rattle.ados_files.specs.Bases.{entry_at};
+ghost use Rattle.ados_objects.specs.Bases.{entry_at};
 ghost use Rattle.ados_files.specs.Formats.{format_of};
 ghost use Rattle.ados_find.specs.Done.{fresh_work, end_effect};
 ghost use Rattle.ados_find.specs.Effects.{effect_of};
 ghost use Rattle.ados_find.specs.Paths.{Gives};
 ghost use Rattle.ados_files.specs.Listing.{entries_of, listed_places, list_text, list_directory, list_texts, pattern_given, depth_of, shape_of, list_printed, list_row};
 
-use crate::acts::done_with;
-use crate::bases::{all_children, entry_at};
+use ados_objects::done_with;
+use ados_objects::{all_children, entry_at};
 use crate::below::object_count;
 use crate::formats::Format;
-use crate::names::{NamedObjects, named_bases, pattern_of};
+use ados_objects::{NamedObjects, named_bases, pattern_of};
 use crate::options::{
     LIST_ALL, LIST_DIR, LIST_DIRS, LIST_FILES, LIST_LFORMAT, LIST_PAT, LIST_QUICK, LIST_SINCE,
     LIST_SUB, LIST_TO, LIST_UPTO, is_given,

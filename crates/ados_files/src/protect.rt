@@ -3,7 +3,7 @@ ghost use Rattle.std.specs.Prelude.{◌≡◌, IfOk};
 ghost use Rattle.std.specs.Option.{option_copied};
 ghost use Rattle.ados_find.specs.Effects.{effect_of};
 
-use crate::acts::{done_with_named, go_on};
+use ados_objects::{done_with_named, go_on};
 use crate::below::objects_of;
 use crate::letters::{are_letters_of, has_letter, text_or_empty};
 use crate::options::{PROTECT_ADD, PROTECT_ALL, PROTECT_FILE, PROTECT_FLAGS, PROTECT_SUB};

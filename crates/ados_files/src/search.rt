@@ -10,7 +10,7 @@ ghost use Rattle.ados_find.specs.Shared.{SharedState};
 
 use crate::hits::{Hits, Searching, Wanted, search_files};
 use crate::jobs::sources_of;
-use crate::names::{NamedObjects, only, pattern_of};
+use ados_objects::{NamedObjects, only, pattern_of};
 use crate::options::{
     SEARCH_ALL, SEARCH_FILE, SEARCH_FROM, SEARCH_NONUM, SEARCH_PATTERN, SEARCH_QUIET, SEARCH_TEXT,
 };

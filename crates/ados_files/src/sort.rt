@@ -4,11 +4,11 @@ ghost use Rattle.ados_find.specs.Done.{done_of, fresh_work};
 ghost use Rattle.ados_find.specs.Effects.{effect_of};
 ghost use Rattle.ados_find.specs.Paths.{Gives};
 ghost use Rattle.ados_files.specs.Sort.{bytes_before, order_after, sort_read, sort_row, sorted_text, text_of_lines};
-ghost use Rattle.ados_files.specs.Acts.{at_path};
+ghost use Rattle.ados_objects.specs.Acts.{at_path};
 ghost use Rattle.ados_files.specs.TypeFiles.{type_one};
 ghost use Rattle.ados_files.specs.declared.type_files.Printing.TheVariants.{Plain};
 
-use crate::acts::at_path;
+use ados_objects::at_path;
 use crate::join::written_to;
 use crate::options::{SORT_CASE, SORT_COLSTART, SORT_FROM, SORT_NUMERIC, SORT_TO};
 use crate::sort_order::{SortOrder, plain_lines, sort_lines};

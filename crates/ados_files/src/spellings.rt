@@ -2,8 +2,8 @@
 ghost use Rattle.std.specs.Prelude.{◌≡◌, IfOk};
 ghost use Rattle.ados_files.specs.Spellings.{path_inside, path_before, spelled_path};
 
-use crate::bases::entry_at;
-use crate::names::{NamedObjects, directory_part, piece_of};
+use ados_objects::entry_at;
+use ados_objects::{NamedObjects, directory_part, piece_of};
 use ados_ram::Ram;
 use ados_text::{NoMemory, Text};
 use std::alloc::Global;

@@ -2,7 +2,7 @@ use Rattle.std.proofs.Common.{◌≡◌, ◌++◌, OnOk, subst, arith}
 use Rattle.std.proofs.lemmas.Grind.{common_steps}
 use Rattle.ados_text.specs.Text.{Bytes}
 use Rattle.ados_files.specs.Dir.{file_text, level_text}
-use Rattle.ados_files.specs.Lines.{keeps, entry_lines}
+use Rattle.ados_objects.specs.Lines.{keeps, entry_lines}
 use Rattle.ados_files.proofs.LevelLemmas.{level_further}
 use Rattle.ados_files.proofs.dir_lines.+level.Goals as goal
 

@@ -5,7 +5,7 @@ use Rattle.ados_text.specs.Text.{Bytes}
 use Rattle.ados_ram.specs.Place.{Place}
 use Rattle.ados_ram.specs.Files.{Files}
 use Rattle.ados_files.specs.Dir.{branch_text, level_text}
-use Rattle.ados_files.specs.Lines.{keeps}
+use Rattle.ados_objects.specs.Lines.{keeps}
 use Rattle.ados_files.specs.declared.dir_lines.Choice.{Choice}
 use Rattle.ados_files.proofs.dir_lines.+level.Given as goal
 

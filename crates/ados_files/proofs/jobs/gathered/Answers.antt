@@ -2,7 +2,7 @@ use Rattle.std.proofs.Common.{◌≡◌, ℕ, List, ◌++◌, append_assoc, refl
 use Rattle.std.specs.Prelude.{Result, Ok, Err}
 use Rattle.std.proofs.lemmas.Grind.{common_steps}
 use Rattle.ados_find.specs.declared.codes.Codes.{Codes}
-use Rattle.ados_files.specs.Names.{FoundPlaces}
+use Rattle.ados_objects.specs.Names.{FoundPlaces}
 use Rattle.ados_files.specs.Jobs.{prepend_places}
 use Rattle.ados_files.proofs.jobs.gathered.Goals as goal
 

@@ -1,6 +1,6 @@
 use Rattle.std.proofs.Common.{arith, ◌∙◌, ◌++◌, ◌-◌, List, ℕ, ap, append_assoc}
 use Rattle.std.specs.List.{flat_map}
-use Rattle.ados_files.specs.Lines.{entry_lines}
+use Rattle.ados_objects.specs.Lines.{entry_lines}
 use Rattle.ados_files.specs.Shapes.{line_by_shape, directory_lines, group_lines}
 use Rattle.ados_files.proofs.ShapeLemmas.{one_deeper}
 use Rattle.ados_files.proofs.shapes.+group.Goals as goal

@@ -1,6 +1,6 @@
 use Rattle.std.proofs.Common.{◌≡◌, ◌++◌, drop}
-use Rattle.ados_files.specs.Bases.{new_places}
-use Rattle.ados_files.proofs.bases.push_new.Given as goal
+use Rattle.ados_objects.specs.Bases.{new_places}
+use Rattle.ados_objects.proofs.bases.push_new.Given as goal
 
 abbrev pub invariant-loop-place : goal.invariant-loop-place
 invariant-loop-place l =

@@ -1,7 +1,7 @@
 // Arguments that name objects.
 ghost use Rattle.std.specs.Prelude.{◌≡◌, ◌∷◌, [], false, Err, IfOk};
 ghost use Rattle.std.specs.Option.{option_copied};
-ghost use Rattle.ados_files.specs.Bases.{entry_at};
+ghost use Rattle.ados_objects.specs.Bases.{entry_at};
 ghost use Rattle.ados_find.specs.Effects.{if_found};
 ghost use Rattle.ados_find.specs.Paths.{bases_of, place_of, Gives};
 
@@ -22,14 +22,14 @@ pub struct NamedObjects {
 }
 
 impl Model for NamedObjects {
-    ghost use Rattle.ados_files.specs.Names.{FoundPlaces};
+    ghost use Rattle.ados_objects.specs.Names.{FoundPlaces};
 
     ghost Value = { FoundPlaces };
 
     ghost view = { λ n. record { literal = n.literal; places = n.places.items } };
 }
 
-ghost use Rattle.ados_files.specs.Names.{pattern_of, matches_form, matching_places, some_matches, directory_matches, matches_at, the_one, single_match, bases_at, places_by_form, directory_part, piece_of, named_places, named_bases};
+ghost use Rattle.ados_objects.specs.Names.{pattern_of, matches_form, matching_places, some_matches, directory_matches, matches_at, the_one, single_match, bases_at, places_by_form, directory_part, piece_of, named_places, named_bases};
 
 impl NamedObjects {
     /// Several objects.

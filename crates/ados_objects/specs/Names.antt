@@ -19,7 +19,7 @@ use Rattle.ados_find.specs.Effects.{if_found}
 use Rattle.ados_find.specs.Shared.{SharedState}
 use Rattle.ados_find.specs.Paths.{place_of, bases_of}
 use Rattle.ados_pattern.specs.Matching.{is_match}
-use Rattle.ados_files.specs.Bases.{all_children, entry_at}
+use Rattle.ados_objects.specs.Bases.{all_children, entry_at}
 
 -- what a command returns for a text that is not a pattern
 abbrev pub pattern_codes : PatternFault → Codes

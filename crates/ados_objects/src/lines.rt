@@ -5,7 +5,7 @@ ghost use Rattle.ados_text.specs.Columns.{right_aligned_text};
 ghost use Rattle.ados_ram.specs.Entry.{bits_text};
 ghost use Rattle.ados_ram.specs.Written.{full_path};
 ghost use Rattle.ados_ram.specs.declared.entries.Entry.{Entry};
-ghost use Rattle.ados_files.specs.Lines.{say, keeps, entry_lines, size_text, comment_line, list_line};
+ghost use Rattle.ados_objects.specs.Lines.{say, keeps, entry_lines, size_text, comment_line, list_line};
 
 use ados_ram::{Bits, Body, Entry, Place, Ram};
 use ados_text::{NoMemory, Text, push_left, push_right};

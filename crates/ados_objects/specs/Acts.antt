@@ -10,8 +10,8 @@ use Rattle.ados_find.specs.Shared.{with_files}
 use Rattle.ados_find.specs.Done.{Done, stop_with_codes, refused_or, act_on_each}
 use Rattle.ados_find.specs.Effects.{if_found}
 use Rattle.ados_find.specs.Paths.{place_of}
-use Rattle.ados_files.specs.Names.{FoundPlaces, named_places}
-use Rattle.ados_files.specs.Lines.{say}
+use Rattle.ados_objects.specs.Names.{FoundPlaces, named_places}
+use Rattle.ados_objects.specs.Lines.{say}
 
 -- the files are the new ones, or the work stops at a fault
 abbrev pub in_files : Option Result2 → Files → Done → Done

@@ -6,7 +6,7 @@ ghost use Rattle.ados_text.specs.Stop.{Answers};
 ghost use Rattle.ados_find.specs.Done.{Done, done_of, fresh_work, refused_or, act_on_each, end_effect};
 ghost use Rattle.ados_find.specs.Shared.{SharedState};
 ghost use Rattle.ados_find.specs.Effects.{effect_of};
-ghost use Rattle.ados_files.specs.Acts.{at_path, at_names, in_files, in_files_saying};
+ghost use Rattle.ados_objects.specs.Acts.{at_path, at_names, in_files, in_files_saying};
 
 use crate::lines::say_path;
 use crate::names::named;

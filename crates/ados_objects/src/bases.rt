@@ -2,7 +2,7 @@
 ghost use Rattle.std.specs.Prelude.{◌≡◌, ◌≤◌, ◌++◌, take, drop, length, IfOk, OnOk};
 ghost use Rattle.std.specs.Option.{option_copied};
 ghost use Rattle.ados_ram.specs.Files.{is_some_directory, is_some_file};
-ghost use Rattle.ados_files.specs.Bases.{all_children, entry_at, further_children, has_object, new_places};
+ghost use Rattle.ados_objects.specs.Bases.{all_children, entry_at, further_children, has_object, new_places};
 
 use ados_ram::{Entry, Place, Ram};
 use ados_text::{Name, NoMemory};

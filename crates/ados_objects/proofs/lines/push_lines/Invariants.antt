@@ -1,6 +1,6 @@
 use Rattle.std.proofs.Common.{◌≡◌, ◌++◌, drop}
-use Rattle.ados_files.specs.Lines.{entry_lines}
-use Rattle.ados_files.proofs.lines.push_lines.Given as goal
+use Rattle.ados_objects.specs.Lines.{entry_lines}
+use Rattle.ados_objects.proofs.lines.push_lines.Given as goal
 
 abbrev pub invariant-loop-place : goal.invariant-loop-place
 invariant-loop-place g l =

@@ -1,0 +1,4 @@
+pub mod Bases
+pub mod Names
+pub mod Lines
+pub mod Acts
