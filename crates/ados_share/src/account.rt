@@ -52,6 +52,8 @@ pub struct Account {
     pub is_private: bool,
     /// The files that were written, and that a power cut may empty.
     pub fresh: Vec<FreshFile>,
+    /// Those of them that could not be brought to the disk.
+    pub unsynced: Vec<FreshFile>,
 }
 
 /// An object of the folder that was moved out of the way of another one.
@@ -86,6 +88,7 @@ impl Account {
             kept: Vec::new(alloc),
             is_private: false,
             fresh: Vec::new(alloc),
+            unsynced: Vec::new(alloc),
         }
     }
 

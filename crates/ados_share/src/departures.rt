@@ -9,6 +9,7 @@ use crate::departure::{Departure, Departures, is_key_left_out};
 use crate::mirror::Mirror;
 use ados_ram::{Entry, Place, Ram};
 use ados_transfer::{Below, TransferFault, Volume, own_entry, shell_path};
+use std::mem;
 use std::rt::Files;
 use std::time::Clock;
 
@@ -31,6 +32,7 @@ impl Mirror {
         let updated = self.update(rt, files, &mut account);
         let finished = self.finish_backups(rt, files, &mut account);
         self.note_refused(&mut account);
+        self.unsynced = mem::replace(&mut account.unsynced, Vec::new(self.alloc));
         self.reports.report_further()?;
         self.report_temporaries(rt, &account)?;
         updated?;
@@ -44,6 +46,7 @@ impl Mirror {
         files: &Ram,
         account: &mut Account,
     ) -> Result<(), TransferFault> {
+        self.sync_again(rt, account)?;
         let away = self.away(rt, files, account)?;
         if away.len() == self.volumes.all().len() {
             return Ok(());

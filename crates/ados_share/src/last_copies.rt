@@ -1,4 +1,8 @@
 //! Bytes that this machine has in one file alone while the Shell has them outside of the directory: the file is not deleted.
+ghost use Rattle.std.specs.Prelude.{◌≡◌, true, IfSome};
+ghost use Rattle.std.specs.Option.{option_copied};
+ghost use Rattle.std.specs.BTreeMap.{get_by_text};
+ghost use Rattle.ados_share.specs.Contents.{if_file_of, is_file_of};
 
 use crate::departure::{Departure, Departures};
 use crate::mirror::Mirror;
@@ -169,7 +173,9 @@ impl Mirror {
     }
 
     // The file of the folder that had these bytes: the first one that the Shell no longer has in its place, or else the last one of all.
-    pub(crate) fn original_of(&self, files: &Ram, bytes: &FileBytes) -> Option<&Record> {
+    pub(crate) fn original_of(&self, files: &Ram, bytes: &FileBytes) -> Option<&Record>
+        ensures { IfSome result (λ found. is_file_of found.now.last bytes.now ≡ true) }
+    {
         let mut original = None;
         for key in self.contents.alike(bytes)? {
             if let Some(record) = self.file_of(key.as_str(), bytes) {
@@ -183,10 +189,14 @@ impl Mirror {
     }
 
     // The record of a key, if it is that of a file of these bytes.
-    fn file_of(&self, key: &str, bytes: &FileBytes) -> Option<&Record> {
-        self.records
-            .get(key)
-            .filter(|record| record.is_file_of(bytes))
+    fn file_of(&self, key: &str, bytes: &FileBytes) -> Option<&Record>
+        ensures { option_copied result ≡ if_file_of bytes.now (get_by_text self.now.records key.now) }
+    {
+        let record = self.records.get(key)?;
+        match &record.last {
+            Last::File(last) if *last == *bytes => Some(record),
+            Last::File(_) | Last::Directory | Last::StandIn(_) => None,
+        }
     }
 
     // Notes that an object is not deleted, since its bytes would then be only in memory.
