@@ -20,7 +20,7 @@ impl Mirror {
         here: &Here,
         account: &mut Account,
     ) -> io::Result<bool> {
-        let Some((beside, mode)) = move_aside(rt, self.volumes.root_of(path), path, here)? else {
+        let Some((beside, rights)) = move_aside(rt, self.volumes.root_of(path), path, here)? else {
             return Ok(false);
         };
         let Some((key, record)) = self.records.remove_entry(key) else {
@@ -32,7 +32,7 @@ impl Mirror {
             key,
             record,
             beside,
-            mode,
+            rights,
             moved,
         };
         match account.set_aside(aside) {
@@ -71,10 +71,10 @@ impl Mirror {
             key,
             record,
             beside,
-            mode,
+            rights,
             moved,
         } = aside;
-        match placed_back(rt, &record, beside.as_ref(), mode) {
+        match placed_back(rt, &record, beside.as_ref(), rights.mode) {
             Ok(Some(stamp)) => {
                 let mut record = record;
                 record.stamp = stamp;

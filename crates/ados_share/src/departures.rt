@@ -83,7 +83,7 @@ impl Mirror {
         departures: &Departures<'_>,
         account: &mut Account,
     ) -> Result<(), TransferFault> {
-        account.is_private = self.loses_private(rt, departures);
+        self.note_permissions(rt, departures, account)?;
         for is_new in [true, false] {
             for (key, departure) in &departures.by_key {
                 if departure.is_new == is_new && !departure.is_within_kind_change {

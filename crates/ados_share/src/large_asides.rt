@@ -23,7 +23,7 @@ impl Mirror {
         }
         let path = moved.path.as_str();
         let root = self.volumes.root_of(path);
-        let (beside, mode) = match move_aside(rt, root, path, &Here::Large(moved.stamp)) {
+        let (beside, rights) = match move_aside(rt, root, path, &Here::Large(moved.stamp)) {
             Ok(Some(done)) => done,
             Err(error) if error.kind() == ErrorKind::OutOfMemory => {
                 return Err(TransferFault::NoMemory);
@@ -42,7 +42,7 @@ impl Mirror {
             key,
             record,
             beside,
-            mode,
+            rights,
             moved: None,
         }))
     }

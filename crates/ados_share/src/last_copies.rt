@@ -9,7 +9,8 @@ use crate::mirror::Mirror;
 use crate::moves::{Destination, Elsewhere};
 use ados_ram::{FileBytes, Place, Ram};
 use ados_transfer::{
-    Here, Last, Record, Records, TransferFault, Volumes, is_descendant, is_one_name, shell_path,
+    Here, Last, Record, Records, Rights, TransferFault, Volumes, is_descendant, is_one_name,
+    shell_path,
 };
 use std::alloc::Global;
 use std::collections::BTreeMap;
@@ -29,8 +30,8 @@ struct Waiter {
     path: String,
     // Where the Shell has it.
     elsewhere: Elsewhere,
-    // The mode of a file.
-    mode: Option<u32>,
+    // The permissions of a file.
+    rights: Option<Rights>,
 }
 
 impl Waiting {
@@ -47,9 +48,9 @@ impl Waiting {
         self.by_key.is_empty()
     }
 
-    /// The mode of a file that waits.
-    pub fn mode(&self, key: &str) -> Option<u32> {
-        self.by_key.get(key).and_then(|waiter| waiter.mode)
+    /// The permissions of a file that waits.
+    pub fn rights(&self, key: &str) -> Option<Rights> {
+        self.by_key.get(key).and_then(|waiter| waiter.rights)
     }
 
     // Something in a folder waits.
@@ -210,7 +211,7 @@ impl Mirror {
             let waiter = Waiter {
                 path: departure.path.clone()?,
                 elsewhere: elsewhere.copy()?,
-                mode: here.mode(),
+                rights: here.rights(),
             };
             self.waiting
                 .by_key

@@ -42,6 +42,11 @@ impl Moves {
         }
     }
 
+    /// All that was moved, by the keys of the files.
+    pub fn all(&self) -> &BTreeMap<String, Destination> {
+        &self.by_key
+    }
+
     /// Where the file of this key went.
     pub fn destination(&self, key: &str) -> Option<&Destination>
         ensures { option_copied result ≡ get_by_text self.now.by_key key.now }

@@ -120,10 +120,7 @@ impl Account {
 }
 
 // Tries to bring files to the disk, one after the other, whether or not that fails for those before.
-fn sync_all<R: AllocGlobal + Files>(
-    rt: &R,
-    files: Vec<FreshFile>,
-) -> Result<Vec<Attempt>, NoMemory>
+fn sync_all<R: AllocGlobal + Files>(rt: &R, files: Vec<FreshFile>) -> Result<Vec<Attempt>, NoMemory>
     ensures each { IfOk result (λ attempts. files_of attempts.items ≡ files.items) }
 {
     let mut attempts = Vec::new(rt.alloc());
@@ -166,11 +163,11 @@ pub(crate) fn write_synced<R: AllocGlobal + Files>(
     rt: &R,
     folder: &str,
     bytes: &FileBytes,
-    mode: u32,
+    manner: Manner,
 ) -> io::Result<String>
     ensures { IfOk result (λ path. IsBelow folder.now (string_bytes path)) }
 {
-    let beside = write_beside(rt, folder, bytes, Manner::Mode(mode))?;
+    let beside = write_beside(rt, folder, bytes, manner)?;
     match sync(rt, beside.as_str()) {
         Ok(()) => Ok(beside),
         Err(error) => {
