@@ -150,10 +150,7 @@ pub fn write_whole<R: AllocGlobal + Files>(
 /// Gives a file a name that nothing has; `false` if something has it.
 pub fn place_new<R: AllocGlobal + Files>(rt: &R, beside: &str, target: &str) -> io::Result<bool> {
     match fs::hard_link(rt, beside, target) {
-        Ok(()) => {
-            fs::remove_file(rt, beside)?;
-            return Ok(true);
-        }
+        Ok(()) => return give_up(rt, beside, target),
         Err(error) if error.kind() == ErrorKind::AlreadyExists => return Ok(false),
         // Not every file system has second names.
         Err(_) => {}
@@ -166,6 +163,15 @@ pub fn place_new<R: AllocGlobal + Files>(rt: &R, beside: &str, target: &str) -> 
         }
         Err(error) => Err(error),
     }
+}
+
+// A file gives up the first of its two names; if that is refused, the second one, so that it is not there twice.
+fn give_up<R: Files>(rt: &R, old: &str, new: &str) -> io::Result<bool> {
+    if let Err(error) = fs::remove_file(rt, old) {
+        let _ = fs::remove_file(rt, new);
+        return Err(error);
+    }
+    Ok(true)
 }
 
 // Gives a file the name of one that was looked at; `false` if that has changed since.
