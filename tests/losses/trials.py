@@ -47,7 +47,8 @@ class Room:
         if plan.limits and plan.limits.is_full:
             os.makedirs(f"{room}/f")
             plan.limits.mount(f"{room}/f", {path: what for path, what in plan.before.items() if path.startswith("f/")})
-        beside = {f"act{number}": "\n".join([f"echo {number} >>../began", BEGIN, SEES.format(number), *lines]).encode() + b"\n" for number, lines in enumerate(plan.acts)}
+        beside = {f"act{number}": "\n".join([f"echo {number} >>../began", BEGIN, SEES.format(number), *lines]).encode() + b"\n"
+                  for number, lines in enumerate(plan.acts)}
         scripts = {f"script{number}": "".join(f"{line}\n" for line in self.lines(number)).encode() for number in range(len(plan.scripts))}
         hook = f'#!/bin/sh\ncd "{room}/f"\necho "$1" "$2" >../call\n{BEGIN}{plan.deed}\n'.encode() if plan.deed else b""
         if plan.limits:
@@ -64,7 +65,8 @@ class Room:
         plan = self.plan
         is_listed = plan.is_alone and not (plan.is_dry or plan.is_compared or plan.deed or "--core" in plan.options)
         is_listed = is_listed and ("--all" in plan.options or not any(".n" in line for line in plan.lines(number)))
-        return [one for line in plan.lines(number) for one in ([f"Echo list-{line.removeprefix(ACT)}", "List RAM:Work ALL", line] if is_listed and line.startswith(ACT) else [line])]
+        return [one for line in plan.lines(number)
+                for one in ([f"Echo list-{line.removeprefix(ACT)}", "List RAM:Work ALL", line] if is_listed and line.startswith(ACT) else [line])]
 
     def beside(self):
         return look(f"{self.room}/out")[0]
