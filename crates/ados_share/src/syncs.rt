@@ -120,10 +120,7 @@ impl Account {
 }
 
 // Tries to bring files to the disk, one after the other, whether or not that fails for those before.
-fn sync_all<R: AllocGlobal + Files>(
-    rt: &R,
-    files: Vec<FreshFile>,
-) -> Result<Vec<Attempt>, NoMemory>
+fn sync_all<R: AllocGlobal + Files>(rt: &R, files: Vec<FreshFile>) -> Result<Vec<Attempt>, NoMemory>
     ensures each { IfOk result (λ attempts. files_of attempts.items ≡ files.items) }
 {
     let mut attempts = Vec::new(rt.alloc());
