@@ -35,7 +35,12 @@ has_content Directory = false
 has_content (File bytes) = not (length bytes == 0)
 has_content (StandIn comment) = false
 
--- the Shell has in its place what an object was at the last comparison, or it has no record any longer
+-- the Shell has in its place what an object was at the last comparison
+abbrev pub is_kept_there : Files → Option Record → Bool
+is_kept_there files None = false
+is_kept_there files (Some object) = is_kept object.last (map.get files (key_of object.place))
+
+-- it is so, or the object has no record any longer
 abbrev pub is_settled : Files → Option Record → Bool
 is_settled files None = true
-is_settled files (Some object) = is_kept object.last (map.get files (key_of object.place))
+is_settled files (Some object) = is_kept_there files (Some object)

@@ -38,6 +38,17 @@ pub struct Departure<'a> {
     pub elsewhere: Option<Elsewhere>,
 }
 
+/// When a departure is written.
+#[derive(Clone, Copy, PartialEq, Eq)]
+pub enum Stage {
+    /// First, since it is new.
+    New,
+    /// Then, since it changed.
+    Changed,
+    /// At last, once there is room for what is of another kind now.
+    KindChange,
+}
+
 impl<'a> Departure<'a> {
     /// The change of an object that was there at the last comparison.
     pub fn of(record: &Record, entry: Option<&'a Entry>) -> Result<Departure<'a>, TransferFault> {
@@ -62,6 +73,17 @@ impl<'a> Departure<'a> {
             changes_kind: false,
             is_within_kind_change: false,
             elsewhere: None,
+        }
+    }
+
+    /// When it is written.
+    pub fn stage(&self) -> Stage {
+        if self.is_within_kind_change {
+            Stage::KindChange
+        } else if self.is_new {
+            Stage::New
+        } else {
+            Stage::Changed
         }
     }
 

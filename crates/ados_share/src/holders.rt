@@ -72,7 +72,8 @@ impl<'a> Index<'a> {
 
 // The first of these files that has these bytes.
 fn first_with<'h, 'a>(holders: &'h [Holder<'a>], bytes: &FileBytes) -> Option<&'h Holder<'a>>
-    ensures { option_copied result ≡ find (has_bytes bytes.now) holders.now }
+    ensures first { option_copied result ≡ find (has_bytes bytes.now) holders.now }
+    ensures has { IfSome result (λ holder. has_bytes bytes.now holder.now ≡ true) }
 {
     for holder in holders {
         if *holder.bytes == *bytes {
