@@ -23,7 +23,7 @@ ACT = "sh ../act"
 # A program that starts in the folder tells that it begins, and which files it sees there, with their sizes.
 SEES = r"""if [ ! -e script0 ]; then find . -type f -printf '%f %s\n' >../saw{0} 2>/dev/null; echo began-{0}; fi"""
 LISTED = re.compile(rb"^list-(\d+)\n(.*?)^began-\1$", re.M | re.S)
-FILE = re.compile(rb"^(\S+) +(\d+|empty) [-h]", re.M)
+FILE = re.compile(rb"^(\S+) +(\d+) [-h]", re.M)
 SHOW = b"""#!/bin/sh
 grep -raohE '[ts][0-9]+x' "$1" 2>/dev/null
 true
