@@ -208,8 +208,11 @@ class Room:
         return None
 
     def left(self):
-        """A temporary file is left but by a kill, and not told; its folder may have another name by then."""
-        left = [path for path in self.stands if TEMPORARY in path and os.path.basename(path).encode() not in self.told]
+        """A temporary file is left but by a kill, and not told; its folder may have another name by then. None is told if its folder is moved in that
+        very moment."""
+        moved = re.findall(r"mv -nT \S+ (\S+)", self.plan.deed or "")
+        left = [path for path in self.stands if TEMPORARY in path and os.path.basename(path).encode() not in self.told
+                and not any(path.startswith(f"{folder}/") for folder in moved)]
         if self.plan.error and self.plan.is_for_long:
             # it cannot be looked at either
             return None
