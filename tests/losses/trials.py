@@ -23,7 +23,7 @@ ACT = "sh ../act"
 # A program that starts in the folder tells that it begins, and which files it sees there, with their sizes.
 SEES = r"""if [ ! -e script0 ]; then find . -type f -printf '%f %s\n' >../saw{0} 2>/dev/null; echo began-{0}; fi"""
 LISTED = re.compile(rb"^list-(\d+)\n(.*?)^began-\1$", re.M | re.S)
-FILE = re.compile(rb"^(\S+) +(\d+|empty) [-h]", re.M)
+FILE = re.compile(rb"^(\S+) +(\d+) [-h]", re.M)
 SHOW = b"""#!/bin/sh
 grep -raohE '[ts][0-9]+x' "$1" 2>/dev/null
 true
@@ -208,8 +208,11 @@ class Room:
         return None
 
     def left(self):
-        """A temporary file is left but by a kill, and not told; its folder may have another name by then."""
-        left = [path for path in self.stands if TEMPORARY in path and os.path.basename(path).encode() not in self.told]
+        """A temporary file is left but by a kill, and not told; its folder may have another name by then. None is told if its folder is moved in that
+        very moment."""
+        moved = re.findall(r"mv -nT \S+ (\S+)", self.plan.deed or "")
+        left = [path for path in self.stands if TEMPORARY in path and os.path.basename(path).encode() not in self.told
+                and not any(path.startswith(f"{folder}/") for folder in moved)]
         if self.plan.error and self.plan.is_for_long:
             # it cannot be looked at either
             return None
