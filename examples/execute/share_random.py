@@ -82,8 +82,7 @@ class Model:
 
     def write_out(self, meanwhile=False):
         """What is new is written first, then what changed, unless it writes over what was moved to one that could not be written; then
-        what is gone is deleted, the deepest first, unless something could not be written. Meanwhile, at a question, what is not deleted
-        waits."""
+        what is gone is deleted, the deepest first, unless something could not be written: then it waits."""
         self.note_copied()
         paths = sorted(set(self.shell) | set(self.last))
         new, owes, unwritten = set(self.shell) - set(self.last), False, []
@@ -99,13 +98,12 @@ class Model:
             if shell == GONE and machine == FOLDER and any(self.is_held(one) for one in below(self.machine, path)):
                 raise Unsure
             if shell == GONE and machine == last and owes:
-                # it comes in again: its bytes may be in what is not written
-                if not meanwhile:
-                    self.put(self.last, path, GONE)
+                # it waits: its bytes may be in what is not written
+                pass
             elif shell == GONE and machine == FOLDER and below(self.machine, path):
                 self.put(self.last, path, GONE)
             elif machine == last and machine != FOLDER and machine not in shell and any(machine in text for text in unwritten):
-                # it comes in again too
+                # it comes in again
                 if not meanwhile:
                     self.put(self.last, path, GONE)
                 unwritten.append(shell)

@@ -45,7 +45,8 @@ impl Mirror {
     ) -> Result<bool, TransferFault> {
         let count = asides.len();
         let mut left = asides;
-        for _ in 0..count {
+        // One may free the name of another one; what the system refused is tried once more.
+        for _ in 0..=count {
             let mut blocked = Vec::new(self.alloc);
             for aside in left {
                 if let Some(aside) = self.rename_aside(rt, files, aside)? {
@@ -114,6 +115,7 @@ impl Mirror {
             Renaming::Done(stamp) => self.keep(key, Record { stamp, ..record }),
             Renaming::Left | Renaming::Refused => {
                 self.stand_ins.is_lost = true;
+                account.refuse(path.as_str())?;
                 self.report_aside(beside, path.as_str(), account)
             }
         }

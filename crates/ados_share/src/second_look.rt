@@ -3,9 +3,9 @@
 use crate::account::{Account, Aside};
 use crate::departure::{Departure, Departures, remove};
 use crate::mirror::Mirror;
-use ados_transfer::{Below, Decision, Here, Last, Stamp, TransferFault, holds};
-use std::fs;
+use ados_transfer::{Below, Decision, Here, Last, Stamp, TransferFault, still_holds};
 use std::rt::Files;
+use std::{fs, io};
 
 impl Mirror {
     // If a file that was moved aside has changed since, what took its place is deleted again. So it is not written, and all that was
@@ -16,7 +16,14 @@ impl Mirror {
         departures: &Departures<'_>,
         account: &mut Account,
     ) -> Result<(), TransferFault> {
-        if account.has_unwritten() || !account.aside.iter().any(|aside| has_changed(rt, aside)) {
+        let mut changed = Vec::new(self.alloc);
+        for aside in &account.aside {
+            let looked = has_changed(rt, aside);
+            if !account.has_unwritten() && !matches!(looked, Ok(false)) {
+                changed.push((aside.key.clone()?, aside.record.path.clone()?, looked))?;
+            }
+        }
+        if changed.is_empty() {
             return Ok(());
         }
         for (key, departure) in departures.by_key.iter().rev() {
@@ -24,13 +31,17 @@ impl Mirror {
                 self.take_back(rt, key.as_str(), departure, account)?;
             }
         }
-        for aside in &account.aside {
-            if has_changed(rt, aside) {
-                self.reports.fail(
-                    aside.key.as_str(),
-                    "both changed, kept this machine's",
-                    aside.record.path.as_str(),
-                )?;
+        for (key, path, looked) in changed {
+            let (key, path) = (key.as_str(), path.as_str());
+            match looked {
+                Ok(_) => {
+                    self.reports
+                        .fail(key, "both changed, kept this machine's", path)?
+                }
+                Err(error) => {
+                    account.refuse(path)?;
+                    self.not_done(&error, "cannot write", key, path)?;
+                }
             }
         }
         Ok(())
@@ -58,17 +69,17 @@ impl Mirror {
     }
 }
 
-// A file that was moved aside is not what it was.
-fn has_changed<R: AllocGlobal + Files>(rt: &R, aside: &Aside) -> bool {
+// A file that was moved aside is not what it was; or why the system does not say.
+fn has_changed<R: AllocGlobal + Files>(rt: &R, aside: &Aside) -> io::Result<bool> {
     let Some(beside) = &aside.beside else {
-        return false;
+        return Ok(false);
     };
     match &aside.record.last {
-        Last::File(bytes) => !holds(rt, beside.as_str(), bytes),
-        Last::StandIn(_) => !fs::symlink_metadata(rt, beside.as_str()).is_ok_and(|found| aside
-            .record
-            .stamp
-            .is_same_file(&Stamp::of(&found))),
-        Last::Directory => false,
+        Last::File(bytes) => Ok(!still_holds(rt, beside.as_str(), bytes)?),
+        Last::StandIn(_) => {
+            let found = fs::symlink_metadata(rt, beside.as_str())?;
+            Ok(!aside.record.stamp.is_same_file(&Stamp::of(&found)))
+        }
+        Last::Directory => Ok(false),
     }
 }

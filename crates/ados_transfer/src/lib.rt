@@ -45,7 +45,7 @@ pub use lines::{BRING, Lines};
 pub use options::MirrorOptions;
 pub use paths::{ascii, folder_of, last_piece, step_into};
 pub use places::{path_below, shell_path, spelled};
-pub use placing::{Draft, holds, is_immovable, is_one_name, place_whole};
+pub use placing::{Draft, holds, is_immovable, is_one_name, place_whole, still_holds};
 pub use plan::Plan;
 pub use planned::{Content, Planned, are_as_planned};
 pub use reasons::with_reason;

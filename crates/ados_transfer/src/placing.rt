@@ -4,7 +4,7 @@
 //! in its place: what was written to it meanwhile is found there, and it gets its place back.
 
 use crate::bringing::bytes_of;
-use crate::here::Here;
+use crate::here::{Here, is_nothing};
 use crate::paths::{folder_of, last_piece};
 use crate::writing::{Manner, link_beside, open_beside, place_new, write_beside};
 use ados_ram::{Entry, FileBytes};
@@ -93,17 +93,28 @@ fn place_over<R: AllocGlobal + Files>(
         return Err(Error::from(ErrorKind::PermissionDenied));
     }
     let Some(kept) = link_beside(rt, folder, target)? else {
-        if !holds(rt, target, bytes) {
+        if !still_holds(rt, target, bytes)? {
             return Ok(false);
         }
         fs::rename(rt, beside, target)?;
         return Ok(true);
     };
-    if !holds(rt, kept.as_str(), bytes) || !is_one_file(rt, kept.as_str(), target) {
+    let unchanged = is_unchanged(rt, kept.as_str(), target, bytes);
+    if !matches!(unchanged, Ok(true)) {
         let _ = fs::remove_file(rt, kept.as_str());
-        return Ok(false);
+        return unchanged;
     }
     exchange(rt, kept.as_str(), (beside, target), bytes)
+}
+
+// A file still has the first of its names as well as the second one, and these bytes.
+fn is_unchanged<R: AllocGlobal + Files>(
+    rt: &R,
+    kept: &str,
+    target: &str,
+    bytes: &FileBytes,
+) -> io::Result<bool> {
+    Ok(still_holds(rt, kept, bytes)? && is_one_file(rt, kept, target)?)
 }
 
 // A sticky folder keeps another owner's file in its place: it cannot be replaced, and a second name of it could not be removed. The file
@@ -137,7 +148,8 @@ fn is_sticky(folder: &Metadata) -> bool {
     folder.permissions().mode() & STICKY != 0
 }
 
-// Gives the first file the name of the second, whose other name is `kept`; if that was changed before, it gets its name back.
+// Gives the first file the name of the second, whose other name is `kept`; if that was changed before, or the system does not say, it gets
+// its name back.
 fn exchange<R: AllocGlobal + Files>(
     rt: &R,
     kept: &str,
@@ -149,44 +161,60 @@ fn exchange<R: AllocGlobal + Files>(
         let _ = fs::remove_file(rt, kept);
         return Err(error);
     }
-    if holds(rt, kept, bytes) {
+    let unchanged = still_holds(rt, kept, bytes);
+    if matches!(unchanged, Ok(true)) {
         let _ = fs::remove_file(rt, kept);
-        return Ok(true);
+        return unchanged;
     }
     fs::rename(rt, kept, target)?;
-    Ok(false)
+    unchanged
 }
 
 /// A file holds these bytes.
 pub fn holds<R: AllocGlobal + Files>(rt: &R, path: &str, bytes: &FileBytes) -> bool {
-    if !fs::symlink_metadata(rt, path).is_ok_and(|found| found.is_file()) {
-        return false;
+    matches!(still_holds(rt, path, bytes), Ok(true))
+}
+
+/// The same, or why the system does not say; `false` if nothing is there.
+pub fn still_holds<R: AllocGlobal + Files>(
+    rt: &R,
+    path: &str,
+    bytes: &FileBytes,
+) -> io::Result<bool> {
+    match try_holds(rt, path, bytes) {
+        Err(error) if is_nothing(error.kind()) => Ok(false),
+        looked => looked,
     }
-    match bytes_of(rt, path, bytes.len()) {
-        Ok(found) => bytes.is(&found),
-        Err(_) => false,
+}
+
+// The same, with the error if nothing is there.
+fn try_holds<R: AllocGlobal + Files>(rt: &R, path: &str, bytes: &FileBytes) -> io::Result<bool> {
+    if !fs::symlink_metadata(rt, path)?.is_file() {
+        return Ok(false);
     }
+    let found = bytes_of(rt, path, bytes.len())?;
+    Ok(bytes.is(&found))
 }
 
 /// Two paths are those of one name of a file, as in a folder that is mounted twice: it is deleted with either. A second name of
 /// the file (a hard link) is not the same one.
 pub fn is_one_name<R: Files>(rt: &R, path: &str, other: &str) -> bool {
-    if !is_one_file(rt, path, other) {
+    if !matches!(is_one_file(rt, path, other), Ok(true)) {
         return false;
     }
     if fs::symlink_metadata(rt, path).is_ok_and(|found| found.nlink() == 1) {
         return true;
     }
-    last_piece(path) == last_piece(other) && is_one_file(rt, folder_of(path), folder_of(other))
+    last_piece(path) == last_piece(other)
+        && matches!(is_one_file(rt, folder_of(path), folder_of(other)), Ok(true))
 }
 
-// Two paths are those of one file or folder.
-fn is_one_file<R: Files>(rt: &R, path: &str, other: &str) -> bool {
-    match (
-        fs::symlink_metadata(rt, path),
-        fs::symlink_metadata(rt, other),
-    ) {
-        (Ok(one), Ok(two)) => one.ino() == two.ino() && one.dev() == two.dev(),
-        _ => false,
+// Two paths are those of one file or folder; the error is why one of them can't be looked at.
+fn is_one_file<R: Files>(rt: &R, path: &str, other: &str) -> io::Result<bool> {
+    let one = fs::symlink_metadata(rt, path)?;
+    match fs::symlink_metadata(rt, other) {
+        Ok(two) => Ok(one.ino() == two.ino() && one.dev() == two.dev()),
+        Err(error) if is_nothing(error.kind()) => Ok(false),
+        Err(error) => Err(error),
     }
 }
