@@ -1,12 +1,17 @@
 pub mod Aliases
 pub mod Arguments
+pub mod CommandWords
 pub mod Commands
 pub mod Directives
 pub mod Errors
 pub mod Jumps
 pub mod LeftOut
+pub mod Phrases
 pub mod Printing
 pub mod Problems
 pub mod Readings
+pub mod ReleaseTwo
 pub mod Returns
 pub mod Signs
+pub mod Table
+pub mod Ticks

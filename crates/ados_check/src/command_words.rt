@@ -13,6 +13,7 @@ use ados_vars::Aliases;
 use std::alloc::Global;
 
 /// The words of a text that stands for a line.
+#[derive(Clone, Copy)]
 pub struct CommandWords<'a> {
     /// Where memory comes from.
     pub alloc: Global,

@@ -7,11 +7,11 @@ ghost use Rattle.ados_check.specs.Directives.{IsSample};
 ghost use Rattle.ados_check.specs.Errors.{AreSo, IsCommand, IsHere, IsReadAs, IsSound};
 ghost use Rattle.ados_check.specs.Signs.{SaysTheSame};
 
-use crate::arguments::next_argument;
+use crate::arguments::argument_words;
+use crate::command_words::name_in;
 use crate::commands::{Meaning, argument_fault, template_in, template_text};
 use crate::findings::{Finding, Problem};
 use crate::jumps::jump_problem;
-use crate::left_out::name_in;
 use crate::lines::push_sound;
 use crate::made_aliases::MadeAliases;
 use crate::readings::read_line;
@@ -104,7 +104,8 @@ impl<'a> Look<'a> {
 
     // The command of a line is Run, or one that is not known before the script runs.
     fn may_run(&self, line: &[u8]) -> Result<bool, NoMemory> {
-        let Some(word) = next_argument(line, 0) else {
+        let words = argument_words(self.alloc, line)?;
+        let Some(word) = words.first() else {
             return Ok(false);
         };
         let name = name_in(between(line, word.from, word.to));

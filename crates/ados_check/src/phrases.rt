@@ -43,6 +43,7 @@ const PLAIN: Phrase = Phrase {
 };
 
 /// The words of a command in a text.
+#[derive(Clone, Copy)]
 pub struct Phrases<'a> {
     /// Where memory comes from.
     pub alloc: Global,

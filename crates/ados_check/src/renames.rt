@@ -1,8 +1,8 @@
 //! Which words are other commands in a script than the Shell's own.
 
-use crate::arguments::next_argument;
+use crate::arguments::argument_words;
+use crate::command_words::{alias_text, name_in};
 use crate::commands::Meaning;
-use crate::left_out::{alias_text, name_in};
 use crate::made_aliases::MadeAliases;
 use ados_items::{between, first_word, trimmed};
 use ados_line::without_comment;
@@ -45,7 +45,8 @@ fn calls(alloc: Global, dialect: Dialect, line: &[u8]) -> Result<bool, NoMemory>
     if line.contains(&b'`') {
         return Ok(true);
     }
-    let Some(word) = next_argument(line, 0) else {
+    let words = argument_words(alloc, line)?;
+    let Some(word) = words.first() else {
         return Ok(false);
     };
     if line.starts_with(b".") {
