@@ -6,9 +6,14 @@ use Rattle.std.proofs.lemmas.Bool.{eqb-true}
 use Rattle.std.proofs.lemmas.Bool.Decides.{nat_tests}
 use Rattle.std.proofs.lemmas.List.{take_all}
 use Rattle.std.proofs.lemmas.List.Folds.{list_any-append}
+use Rattle.ados_text.specs.Text.{Text}
+use Rattle.ados_resident.specs.declared.dialects.Dialect.{Dialect}
+use Rattle.ados_vars.specs.Vars.{Pairs}
 use Rattle.ados_script.specs.Lines.{is_some_and, line_of}
-use Rattle.ados_check.specs.LeftOut.{ToldTheSame, ToldWith, has_any, is_left_out, is_told}
+use Rattle.ados_check.specs.LeftOut.{TellsLeftOut, ToldTheSame, ToldWith, gives_at, gives_left_out, has_any, is_left_out, is_told}
 use Rattle.ados_check.specs.Signs.{is_at, told_sign}
+use Rattle.ados_check.specs.Table.{AreReleaseTwo}
+use Rattle.ados_check.specs.declared.release_two.Command.{Command}
 use Rattle.ados_check.specs.declared.findings.Finding.{Finding}
 use Rattle.ados_check.specs.declared.findings.Problem.{Problem}
 use Rattle.ados_check.specs.declared.findings.Problem.TheVariants as problem
@@ -54,9 +59,13 @@ pub told_again : (line : ℕ) (b : Bool) (first old new : List Finding) → Told
 told_again line b first old new one two number =
     two number ∙ ap (λ t. t || (line == number && true)) (one number) ∙ both-told (is_told number first) (line == number) b
 
-pub any_some : {A B : Type 0} (f : A → B) (xs : List A) → nat_lt 0 (length xs) ≡ has_any (map f xs)
-any_some f [] = refl
-any_some f (x ∷ xs) = grind (arith, nat_tests)
+pub any_shown : {A B : Type 0} (f : A → B) (xs : List A) → has_any (map f xs) ≡ has_any xs
+any_shown f [] = refl
+any_shown f (x ∷ xs) = refl
+
+pub any_pushed : {A : Type 0} (xs : List A) (x : A) → has_any (xs ++ x ∷ []) ≡ true
+any_pushed [] x = refl
+any_pushed (y ∷ ys) x = refl
 
 -- the lines up to one
 same-get : {A : Type 0} (lines : List A) (place : ℕ) → slice_get (take (suc place) lines) place ≡ slice_get lines place
@@ -78,13 +87,14 @@ other-get (x ∷ xs) zero (suc k) other = refl
 other-get (x ∷ xs) (suc place) zero other = refl
 other-get (x ∷ xs) (suc place) (suc k) other = other-get xs place k (λ e. other (ap suc e))
 
-Tells : {A : Type 0} → (A → Bool) → List A → List Finding → ℕ → Type 0
+abbrev pub Tells : {A : Type 0} → (A → Bool) → List A → List Finding → ℕ → Type 0
 Tells test lines found number = is_told number found ≡ is_some_and test (line_of lines number)
 
 pub told_more : {A : Type 0} (test : A → Bool) (lines : List A) (place : ℕ) (text : A) (old new : List Finding) → slice_get lines place ≡ Some text
     → ((number : ℕ) → Tells test (take place lines) old number) → ToldWith (place + 1) (test text) old new → (number : ℕ) → Tells test (take (place + 1) lines) new number
 told_more test lines place text old new is before told zero =
-    told zero ∙ ap (λ b. b || ((place + 1) == 0 && test text)) (before zero) ∙ ap (λ b. b && test text) (grind (arith, nat_tests))
+    let never : ((place + 1) == 0) ≡ false = grind (arith, nat_tests) in
+    told zero ∙ ap (λ b. b || (((place + 1) == 0) && test text)) (before zero) ∙ ap (λ b. b && test text) never
 told_more test lines place text old new is before told (suc k) = by ((place + 1) == suc k) refl
   where
     next : place + 1 ≡ suc place
@@ -108,3 +118,15 @@ told_more test lines place text old new is before told (suc k) = by ((place + 1)
 pub told_all : {A : Type 0} (test : A → Bool) (lines : List A) (count : ℕ) (found : List Finding) → count ≡ length lines
     → ((number : ℕ) → Tells test (take count lines) found number) → (number : ℕ) → Tells test lines found number
 told_all test lines count found e told number = told number ∙ ap (λ ls. is_some_and test (line_of ls number)) (ap (λ n. take n lines) e ∙ take_all (length lines) lines (omega arith))
+
+-- at the end, of all lines
+pub told_at_last : (commands : List Command) (one dialect : Dialect) (others aliases : Pairs) (lines : List Text) (count : ℕ) (old new : List Finding)
+    → AreReleaseTwo commands → one ≡ dialect → others ≡ aliases → count ≡ length lines
+    → ((number : ℕ) → is_told number old ≡ gives_at commands one others (take count lines) number) → ToldTheSame old new → TellsLeftOut dialect aliases lines new
+told_at_last commands one dialect others aliases lines count old new are p q e told same = (
+  commands,
+  are,
+  λ number.
+      same number ∙ told_all (gives_left_out commands one others) lines count old e told number
+      ∙ ap (λ d. gives_at commands d others lines number) p ∙ ap (λ a. gives_at commands dialect a lines number) q,
+)

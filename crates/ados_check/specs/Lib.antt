@@ -11,6 +11,7 @@ pub mod Printing
 pub mod Problems
 pub mod Readings
 pub mod ReleaseTwo
+pub mod Renames
 pub mod Returns
 pub mod Signs
 pub mod Table

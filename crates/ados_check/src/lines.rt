@@ -19,7 +19,7 @@ use std::alloc::{AllocError, Global};
 ///
 /// `aliases` are those of its shell, `lines` are those that are to be taken, with the script's arguments in them, and `bytes` are
 /// those of the file that they come from, in which bytes above 127 are still there; there may be none, if they are not known.
-#[tactic(auto, using(crate::proofs::ErrorLemmas::stay_so, crate::proofs::LeftOutLemmas::told_all))]
+#[tactic(auto, using(crate::proofs::ErrorLemmas::stay_so))]
 pub fn check(
     alloc: Global,
     dialect: Dialect,
@@ -168,7 +168,7 @@ pub fn push_sound(
 }
 
 // Adds the options of a line that the Shell leaves out.
-#[tactic(auto, using(crate::proofs::ErrorLemmas::stay_again))]
+#[tactic(auto, using(crate::proofs::ErrorLemmas::stay_again, crate::proofs::LeftOutLemmas::any_shown, crate::proofs::LeftOutLemmas::told_itself))]
 fn push_options(
     reader: Reader,
     line: usize,
@@ -176,7 +176,7 @@ fn push_options(
     found: &mut Vec<Finding>,
 ) -> Result<(), NoMemory>
     ensures same { OnOk result (SaysTheSame found.old.items found.new.items) }
-    ensures told { OnOk result (ToldWith line (gives_left_out reader.commands.now reader.dialect reader.aliases.now text.now) found.old.items found.new.items) }
+    ensures told { OnOk result (ToldWith line (gives_left_out reader.entry.commands.now reader.entry.dialect reader.entry.aliases.now text.now) found.old.items found.new.items) }
     ensures so { OnOk result (StaySo found.old.items found.new.items) }
 {
     for left_out in reader.options_left_out(text.as_bytes())? {

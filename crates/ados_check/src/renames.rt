@@ -1,9 +1,15 @@
 //! Which words are other commands in a script than the Shell's own.
+ghost use Rattle.std.specs.Prelude.{◌≡◌, ◌||◌, is_some, map, IfOk};
+ghost use Rattle.ados_text.specs.Text.{to_ascii};
+ghost use Rattle.ados_vars.specs.Vars.{value_in};
+ghost use Rattle.ados_check.specs.Aliases.{has_made};
+ghost use Rattle.ados_check.specs.Renames.{calls, is_resident, may_call, renames_printers};
 
 use crate::arguments::argument_words;
 use crate::command_words::{alias_text, name_in};
 use crate::commands::Meaning;
 use crate::made_aliases::MadeAliases;
+use crate::signs::is_dotted;
 use ados_items::{between, first_word, trimmed};
 use ados_line::without_comment;
 use ados_machine::Builtin;
@@ -18,20 +24,26 @@ pub fn renames_printers(
     alloc: Global,
     aliases: &Aliases,
     lines: &[Text],
-) -> Result<bool, NoMemory> {
+) -> Result<bool, NoMemory>
+    ensures { IfOk result (λ renames. renames ≡ renames_printers aliases.now lines.now) }
+{
     let made = MadeAliases::of(alloc, &[], lines)?;
-    Ok(
-        is_renamed(alloc, aliases, &made, b"Echo")?
-            || is_renamed(alloc, aliases, &made, b"Ask")?
-            || lines.iter().any(|line| same_name(
-                first_word(trimmed(line.as_bytes())),
-                b"Resident",
-            )),
-    )
+    let is_echo = is_renamed(alloc, aliases, &made, b"Echo")?;
+    let is_ask = is_renamed(alloc, aliases, &made, b"Ask")?;
+    Ok(is_echo || is_ask || lines.iter().any(|line| is_resident(line)))
+}
+
+// The command of a line is Resident.
+fn is_resident(line: &Text) -> bool
+    ensures { result ≡ is_resident line.now }
+{
+    same_name(first_word(trimmed(line.as_bytes())), b"Resident")
 }
 
 /// A line of a script may have another script run: what that one makes an alias of, or takes off the resident list, is not known.
-pub fn may_call(alloc: Global, dialect: Dialect, lines: &[Text]) -> Result<bool, NoMemory> {
+pub fn may_call(alloc: Global, dialect: Dialect, lines: &[Text]) -> Result<bool, NoMemory>
+    ensures { IfOk result (λ may. may ≡ may_call dialect lines.now) }
+{
     for line in lines {
         if calls(alloc, dialect, without_comment(line.as_bytes()))? {
             return Ok(true);
@@ -41,7 +53,9 @@ pub fn may_call(alloc: Global, dialect: Dialect, lines: &[Text]) -> Result<bool,
 }
 
 // The command of a line may have another script run; one between back-ticks may too. A directive has none.
-fn calls(alloc: Global, dialect: Dialect, line: &[u8]) -> Result<bool, NoMemory> {
+fn calls(alloc: Global, dialect: Dialect, line: &[u8]) -> Result<bool, NoMemory>
+    ensures { IfOk result (λ may. may ≡ calls dialect line.now) }
+{
     if line.contains(&b'`') {
         return Ok(true);
     }
@@ -49,7 +63,7 @@ fn calls(alloc: Global, dialect: Dialect, line: &[u8]) -> Result<bool, NoMemory>
     let Some(word) = words.first() else {
         return Ok(false);
     };
-    if line.starts_with(b".") {
+    if is_dotted(line) {
         return Ok(false);
     }
     let name = Text::from_bytes(alloc, name_in(between(line, word.from, word.to)))?;
@@ -66,6 +80,8 @@ fn is_renamed(
     aliases: &Aliases,
     made: &MadeAliases,
     word: &[u8],
-) -> Result<bool, NoMemory> {
+) -> Result<bool, NoMemory>
+    ensures { IfOk result (λ is. is ≡ (is_some (value_in aliases.now (map to_ascii word.now)) || has_made made.now (map to_ascii word.now))) }
+{
     Ok(alias_text(alloc, aliases, word)?.is_some() || made.has(alloc, word)?)
 }

@@ -1,6 +1,5 @@
-use Rattle.std.proofs.Common.{nat_lt}
 use Rattle.ados_check.specs.Errors.{StaySo}
-use Rattle.ados_check.specs.LeftOut.{ToldWith}
+use Rattle.ados_check.specs.LeftOut.{ToldWith, has_any}
 use Rattle.ados_check.specs.Signs.{SaysTheSame}
 use Rattle.ados_check.proofs.lines.push_options.Given as goal
 
@@ -8,4 +7,4 @@ abbrev pub invariant-loop-left_out : goal.invariant-loop-left_out
 invariant-loop-left_out l =
     SaysTheSame l.initial.found.items l.found.items
     × StaySo l.initial.found.items l.found.items
-    × ToldWith l.line (nat_lt 0 l.left_out-index) l.initial.found.items l.found.items
+    × ToldWith l.line (has_any l.yielded) l.initial.found.items l.found.items
