@@ -10,7 +10,7 @@ use Rattle.ados_text.specs.Text.{Text}
 use Rattle.ados_resident.specs.declared.dialects.Dialect.{Dialect}
 use Rattle.ados_vars.specs.Vars.{Pairs}
 use Rattle.ados_script.specs.Lines.{is_some_and, line_of}
-use Rattle.ados_check.specs.LeftOut.{TellsLeftOut, ToldTheSame, ToldWith, gives_at, gives_left_out, has_any, is_left_out, is_told}
+use Rattle.ados_check.specs.LeftOut.{StayTold, TellsEach, TellsLeftOut, ToldTheSame, ToldWith, gives_at, gives_left_out, has_any, is_left_out, is_told}
 use Rattle.ados_check.specs.Signs.{is_at, told_sign}
 use Rattle.ados_check.specs.Table.{AreReleaseTwo}
 use Rattle.ados_check.specs.declared.release_two.Command.{Command}
@@ -129,4 +129,22 @@ told_at_last commands one dialect others aliases lines count old new are p q e t
   λ number.
       same number ∙ told_all (gives_left_out commands one others) lines count old e told number
       ∙ ap (λ d. gives_at commands d others lines number) p ∙ ap (λ a. gives_at commands dialect a lines number) q,
+)
+
+-- what was told stays
+pub told_stays : (line : ℕ) (b : Bool) (old new : List Finding) → ToldWith line b old new → StayTold old new
+told_stays line b old new told number is = told number ∙ ap (λ t. t || (line == number && b)) is
+
+pub stays_itself : (found : List Finding) → StayTold found found
+stays_itself found number is = is
+
+pub stays_again : (first old new : List Finding) → StayTold first old → StayTold old new → StayTold first new
+stays_again first old new one two number is = two number (one number is)
+
+pub each_told : (dialect : Dialect) (others lines : List Text) (old found new : List Finding) → others ≡ lines → TellsLeftOut dialect [] others old → StayTold old found
+    → ToldTheSame found new → TellsEach dialect lines new
+each_told dialect others lines old found new e tells stay same = (
+  tells.0,
+  tells.1,
+  λ number gives. same number ∙ stay number (tells.2 number ∙ ap (λ ls. gives_at tells.0 dialect [] ls number) e ∙ gives),
 )

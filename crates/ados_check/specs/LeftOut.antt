@@ -90,6 +90,15 @@ TellsLeftOut dialect aliases lines found =
 abbrev pub ToldWith : ℕ → Bool → List Finding → List Finding → Type 0
 ToldWith line gives old new = (number : ℕ) → is_told number new ≡ (is_told number old || (line == number && gives))
 
+-- it is told of each line that does
+abbrev pub TellsEach : Dialect → List Text → List Finding → Type 0
+TellsEach dialect lines found =
+    (commands : List Command) × AreReleaseTwo commands × ((number : ℕ) → gives_at commands dialect [] lines number ≡ true → is_told number found ≡ true)
+
+-- of what was told nothing is lost
+abbrev pub StayTold : List Finding → List Finding → Type 0
+StayTold old new = (number : ℕ) → is_told number old ≡ true → is_told number new ≡ true
+
 -- it is told of no line
 abbrev pub TellsNone : List Finding → Type 0
 TellsNone found = (number : ℕ) → is_told number found ≡ false

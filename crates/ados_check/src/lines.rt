@@ -3,7 +3,7 @@ ghost use Rattle.std.specs.Prelude.{◌≡◌, ◌++◌, [], ◌∷◌, ℕ, Non
 ghost use Rattle.std.specs.List.{slice_split};
 ghost use Rattle.ados_text.specs.Lines.{is_newline};
 ghost use Rattle.ados_check.specs.Errors.{AreAlwaysSo, AreSoWith, AreSoWithFound, IsAlwaysSound, StaySo};
-ghost use Rattle.ados_check.specs.LeftOut.{TellsLeftOut, TellsNone, ToldTheSame, ToldWith, gives_left_out, is_left_out};
+ghost use Rattle.ados_check.specs.LeftOut.{StayTold, TellsLeftOut, TellsNone, ToldTheSame, ToldWith, gives_left_out, is_left_out};
 ghost use Rattle.ados_check.specs.Signs.{SaysTheSame, signs_at, signs_told, told_sign};
 
 use crate::findings::{Finding, Problem};
@@ -148,7 +148,7 @@ pub fn push_note(found: &mut Vec<Finding>, line: usize, note: Problem) -> Result
 }
 
 /// Adds the problem of a line, if it has one.
-#[tactic(auto, using(crate::proofs::ErrorLemmas::found_so))]
+#[tactic(auto, using(crate::proofs::ErrorLemmas::found_so, crate::proofs::LeftOutLemmas::told_stays, crate::proofs::LeftOutLemmas::stays_itself))]
 pub fn push_sound(
     found: &mut Vec<Finding>,
     number: usize,
@@ -156,6 +156,7 @@ pub fn push_sound(
 ) -> Result<(), NoMemory>
     requires { IfSome problem (λ what. told_sign what ≡ None) }
     ensures same { OnOk result (SaysTheSame found.old.items found.new.items) }
+    ensures told { OnOk result (StayTold found.old.items found.new.items) }
     ensures so { OnOk result (AreSoWithFound number problem found.old.items found.new.items) }
 {
     match problem {

@@ -5,6 +5,7 @@ ghost use Rattle.ados_script.specs.Lines.{line_of};
 ghost use Rattle.ados_line.specs.declared.lines.Expanded.TheVariants.{Ready};
 ghost use Rattle.ados_check.specs.Directives.{IsSample};
 ghost use Rattle.ados_check.specs.Errors.{AreSo, IsCommand, IsHere, IsReadAs, IsSound};
+ghost use Rattle.ados_check.specs.LeftOut.{StayTold};
 ghost use Rattle.ados_check.specs.Signs.{SaysTheSame};
 
 use crate::arguments::argument_words;
@@ -70,6 +71,7 @@ impl<'a> Look<'a> {
     pub fn push_problems(&self, found: &mut Vec<Finding>) -> Result<(), NoMemory>
         requires { IsSample self.now.written.now self.now.script }
         ensures same { OnOk result (SaysTheSame found.old.items found.new.items) }
+        ensures told { OnOk result (StayTold found.old.items found.new.items) }
         ensures so { OnOk result (AreSo self.now.dialect self.now.written.now found.old.items → AreSo self.now.dialect self.now.written.now found.new.items) }
     {
         let mut depth: usize = 0;
