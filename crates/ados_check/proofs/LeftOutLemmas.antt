@@ -141,10 +141,13 @@ stays_itself found number is = is
 pub stays_again : (first old new : List Finding) → StayTold first old → StayTold old new → StayTold first new
 stays_again first old new one two number is = two number (one number is)
 
-pub each_told : (dialect : Dialect) (others lines : List Text) (old found new : List Finding) → others ≡ lines → TellsLeftOut dialect [] others old → StayTold old found
-    → ToldTheSame found new → TellsEach dialect lines new
-each_told dialect others lines old found new e tells stay same = (
+pub each_told : (dialect : Dialect) (aliases : Pairs) (others lines : List Text) (old found new : List Finding) → aliases ≡ [] → others ≡ lines
+    → TellsLeftOut dialect aliases others old → StayTold old found → ToldTheSame found new → TellsEach dialect lines new
+each_told dialect aliases others lines old found new none e tells stay same = (
   tells.0,
   tells.1,
-  λ number gives. same number ∙ stay number (tells.2 number ∙ ap (λ ls. gives_at tells.0 dialect [] ls number) e ∙ gives),
+  λ number gives.
+      same number
+      ∙ stay number
+      (tells.2 number ∙ ap (λ ps. gives_at tells.0 dialect ps others number) none ∙ ap (λ ls. gives_at tells.0 dialect [] ls number) e ∙ gives),
 )

@@ -16,5 +16,5 @@ returns-clause-so c =
 
 pub returns-clause-left_out : goal.returns-clause-left_out
 returns-clause-left_out c =
-    each_told c.args.dialect c.as_slice-lines.result.now (lines_of c.args.bytes.now) _ _ _ (c.as_slice-lines.ensures ∙ c.in_ok-written.ensures) c.in_ok-found.ensures.left_out
+    each_told c.args.dialect _ c.as_slice-lines.result.now (lines_of c.args.bytes.now) _ _ _ c.new.ensures (c.as_slice-lines.ensures ∙ c.in_ok-written.ensures) c.in_ok-found.ensures.left_out
     (λ number is. c.in_ok-push_problems.ensures.told number (c.in_ok-push_idle_directives.ensures.told number is)) c.in_ok-sort.ensures.told
