@@ -80,7 +80,11 @@ fn strike_line(
         let from = from.saturating_add(one.from);
         for given in &one.options {
             if given.option.is_idle {
-                blank(script, from.saturating_add(given.from), from.saturating_add(given.to));
+                blank(
+                    script,
+                    from.saturating_add(given.from),
+                    from.saturating_add(given.to),
+                );
             }
         }
     }
@@ -133,12 +137,7 @@ impl<'a> Reader<'a> {
     }
 
     // Adds the command of a text without back-ticks, which begins at a place of the line, if it is given such options.
-    fn push_part(
-        &self,
-        from: usize,
-        text: &[u8],
-        found: &mut Vec<LeftOut>,
-    ) -> Result<(), NoMemory>
+    fn push_part(&self, from: usize, text: &[u8], found: &mut Vec<LeftOut>) -> Result<(), NoMemory>
         ensures { OnOk result (map shown found.new.items ≡ map shown found.old.items ++ part_of from (given_in self.now.commands.now self.now.dialect self.now.aliases.now text.now)) }
     {
         if let Some(one) = self.command_given(from, text)? {

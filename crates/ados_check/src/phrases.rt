@@ -151,8 +151,18 @@ impl<'a> Phrases<'a> {
         let text = between(self.line, word.name_to, value.to);
         match option.takes {
             Takes::Nothing if word.is_whole() => option_phrase(option, word.from, word.to, 0),
-            Takes::Word if text.len() > 1 => option_phrase(option, word.from, value.to, value.words),
-            Takes::Number if is_number(text) => option_phrase(option, word.from, value.to, value.words),
+            Takes::Word if text.len() > 1 => option_phrase(
+                option,
+                word.from,
+                value.to,
+                value.words,
+            ),
+            Takes::Number if is_number(text) => option_phrase(
+                option,
+                word.from,
+                value.to,
+                value.words,
+            ),
             _ => PLAIN,
         }
     }

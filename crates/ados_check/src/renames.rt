@@ -20,11 +20,7 @@ use std::alloc::Global;
 
 /// Echo or Ask may be another command in a script: an alias of its shell or its own, or a file in the place of one that it takes off the
 /// resident list.
-pub fn renames_printers(
-    alloc: Global,
-    aliases: &Aliases,
-    lines: &[Text],
-) -> Result<bool, NoMemory>
+pub fn renames_printers(alloc: Global, aliases: &Aliases, lines: &[Text]) -> Result<bool, NoMemory>
     ensures { IfOk result (λ renames. renames ≡ renames_printers aliases.now lines.now) }
 {
     let made = MadeAliases::of(alloc, &[], lines)?;
