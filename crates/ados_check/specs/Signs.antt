@@ -19,10 +19,6 @@ is_remark [] = false
 abbrev pub is_return : ℕ → Bool
 is_return byte = byte == 13
 
--- what is written in the place of a byte: `_` in that of one past ASCII
-abbrev pub marked : ℕ → ℕ
-marked byte = if is_past_ascii byte then 95 else byte
-
 -- the carriage return at the end of a line, which is `text` without its comment, unless the comment takes it
 abbrev pub end_return : Bytes → Bytes → Option ℕ
 end_return line text = if is_return (slice_index line (length line - 1)) && length text == length line then Some 13 else None

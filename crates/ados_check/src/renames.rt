@@ -20,13 +20,18 @@ use std::alloc::Global;
 
 /// Echo or Ask may be another command in a script: an alias of its shell or its own, or a file in the place of one that it takes off the
 /// resident list.
+#[tactic(auto, using(crate::proofs::AliasLemmas::renamed))]
 pub fn renames_printers(alloc: Global, aliases: &Aliases, lines: &[Text]) -> Result<bool, NoMemory>
     ensures { IfOk result (λ renames. renames ≡ renames_printers aliases.now lines.now) }
 {
     let made = MadeAliases::of(alloc, &[], lines)?;
-    let is_echo = is_renamed(alloc, aliases, &made, b"Echo")?;
-    let is_ask = is_renamed(alloc, aliases, &made, b"Ask")?;
-    Ok(is_echo || is_ask || lines.iter().any(|line| is_resident(line)))
+    if is_renamed(alloc, aliases, &made, b"Echo")? {
+        return Ok(true);
+    }
+    if is_renamed(alloc, aliases, &made, b"Ask")? {
+        return Ok(true);
+    }
+    Ok(lines.iter().any(|line| is_resident(line)))
 }
 
 // The command of a line is Resident.
