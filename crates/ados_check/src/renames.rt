@@ -1,5 +1,6 @@
 //! Which words are other commands in a script than the Shell's own.
 ghost use Rattle.std.specs.Prelude.{◌≡◌, ◌||◌, is_some, map, IfOk};
+ghost use Rattle.std.specs.List.{list_any};
 ghost use Rattle.ados_text.specs.Text.{to_ascii};
 ghost use Rattle.ados_vars.specs.Vars.{value_in};
 ghost use Rattle.ados_check.specs.Aliases.{has_made};
@@ -31,7 +32,14 @@ pub fn renames_printers(alloc: Global, aliases: &Aliases, lines: &[Text]) -> Res
     if is_renamed(alloc, aliases, &made, b"Ask")? {
         return Ok(true);
     }
-    Ok(lines.iter().any(|line| is_resident(line)))
+    Ok(has_resident(lines))
+}
+
+// The command of one of these lines is Resident.
+fn has_resident(lines: &[Text]) -> bool
+    ensures { result ≡ list_any is_resident lines.now }
+{
+    lines.iter().any(|line| is_resident(line))
 }
 
 // The command of a line is Resident.
