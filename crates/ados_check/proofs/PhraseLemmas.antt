@@ -1,5 +1,5 @@
 -- The options among the words of a command: those so far, and those to come.
-use Rattle.std.proofs.Common.{ℕ, ◌≡◌, ◌∙◌, List, [], ◌∷◌, ◌++◌, Option, Some, None, append_assoc, ap, sym}
+use Rattle.std.proofs.Common.{ℕ, ◌≡◌, ◌∙◌, List, ◌∷◌, ◌++◌, append_assoc, ap, sym}
 use Rattle.ados_check.specs.Phrases.{given_among, one_or_none, phrase_after}
 use Rattle.ados_check.specs.declared.arguments.Word.{Word}
 use Rattle.ados_check.specs.declared.phrases.Given.{Given}

@@ -11,7 +11,7 @@ loop-place-preserved c =
     let lines = c.args.lines.now in
     let reader = c.new-reader.result in
     let here : slice_get lines c.loop-place.place ≡ Some c.index-lines-place.result =
-        slice_get_read lines (length lines) c.loop-place.place c.index-lines-place.result refl c.loop-place-test.true c.index-lines-place.is in (
+    slice_get_read lines (length lines) c.loop-place.place c.index-lines-place.result refl c.loop-place-test.true c.index-lines-place.is in (
       λ number. c.in_ok-push_options.ensures.same number ∙ c.loop-place.invariant.0 number,
       stay_so _ _ c.loop-place.invariant.1 c.in_ok-push_options.ensures.so,
       told_more (gives_left_out reader.commands.now reader.dialect reader.aliases.now) c.args.lines.now c.loop-place.place _ _ _
