@@ -4,7 +4,8 @@ use Rattle.std.specs.Str.{bytes_eq}
 use Rattle.std.proofs.lemmas.Slice.Eq.{bytes_eq-Decides}
 use Rattle.ados_text.specs.Text.{Text, folded_text, is_same}
 use Rattle.ados_vars.specs.Vars.{Pairs, set_pair, value_in}
-use Rattle.ados_check.specs.Aliases.{HasAll, HasLines, HasNone, may_be_alias}
+use Rattle.ados_check.specs.Aliases.{HasAll, HasLines, HasNone, has_made, may_be_alias}
+use Rattle.ados_check.specs.Renames.{is_renamed}
 use Rattle.ados_check.specs.declared.made_aliases.MadeAliases.{MadeAliases}
 
 -- the same name is the same as each other word
@@ -62,3 +63,8 @@ none_known = or-none
 pub both_added : (none first all : MadeAliases) (typed lines : List Text) → HasNone none → HasLines none first typed → HasLines first all lines → HasAll all typed lines
 both_added none first all typed lines empty one two word =
     two word ∙ ap (λ known. known || may_be_alias lines word) (one word ∙ ap (λ known. known || may_be_alias typed word) (empty word))
+
+-- a word is an alias of the shell or one that lines make
+pub renamed : (made : MadeAliases) (aliases : Pairs) (lines : List Text) (word : Text) (is : Bool) → HasAll made [] lines
+    → is ≡ (is_some (value_in aliases word) || has_made made word) → is ≡ is_renamed aliases lines word
+renamed made aliases lines word is all known = known ∙ ap (λ b. is_some (value_in aliases word) || b) (all word)

@@ -14,7 +14,7 @@ use Rattle.ados_subst.specs.Faults.{Gives}
 use Rattle.ados_subst.specs.Lines.{substituted_line}
 use Rattle.ados_subst.specs.References.{reference_value}
 use Rattle.ados_subst.specs.Scripts.{directive_text, is_dotted, lines_after_directive, lines_from_line, script_of, substituted_lines, with_line}
-use Rattle.ados_check.specs.Directives.{HasFault, IsNeverCalled, IsSample}
+use Rattle.ados_check.specs.Directives.{HasFault, IsAlwaysBad, IsNeverCalled, IsSample}
 use Rattle.ados_check.proofs.AlikeLemmas.{AreAlike, Follows, StayBad, Stays, directive-follows, is_of_arguments, is_of_template}
 
 -- a fault below a line is one of the line and what is below it
@@ -108,3 +108,19 @@ pub is_sample : (lines : List Text) (args : Bytes) (process : Text) (result : Re
     → IsSample lines found
 is_sample lines args process result found (inl none) is = cc
 is_sample lines args process result found (inr gives) is = (args, process, sym gives ∙ is)
+
+-- if one directive is always bad, no other fault is found
+pub bad_found : (lines : List Text) (args : Bytes) (process : Text) (result : Result (List Text) SubstFault) (other line : ℕ) → Gives result (script_of lines args process)
+    → result ≡ Err (fault.BadDirective other) → IsAlwaysBad lines line → other ≡ line
+bad_found lines args process result other line (inl none) is bad = cc
+bad_found lines args process result other line (inr gives) is bad = let always = bad args process in cc
+
+pub never_lines : (lines found : List Text) (args : Bytes) (process : Text) (result : Result (List Text) SubstFault) (line : ℕ) → Gives result (script_of lines args process)
+    → result ≡ Ok found → IsAlwaysBad lines line → ⊥
+never_lines lines found args process result line (inl none) is bad = cc
+never_lines lines found args process result line (inr gives) is bad = let always = bad args process in cc
+
+pub never_args : (lines : List Text) (args : Bytes) (process : Text) (result : Result (List Text) SubstFault) (why : SubstFault) (of_args : ArgFault) (line : ℕ)
+    → Gives result (script_of lines args process) → result ≡ Err why → why ≡ fault.Args of_args → IsAlwaysBad lines line → ⊥
+never_args lines args process result why of_args line (inl none) is args-is bad = cc
+never_args lines args process result why of_args line (inr gives) is args-is bad = let always = bad args process in cc

@@ -3,8 +3,11 @@ mod AlikeLemmas
 mod ArgumentLemmas
 mod DirectiveLemmas
 mod ErrorLemmas
+mod LeftOutLemmas
 mod LookLemmas
+mod PhraseLemmas
 mod ReadingLemmas
 mod ReturnLemmas
 mod SignLemmas
 mod StrikeLemmas
+mod TemplateLemmas

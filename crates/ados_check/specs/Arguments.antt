@@ -48,6 +48,37 @@ abbrev pub sign_width : Text → ℕ
 sign_width [] = 0
 sign_width (c ∷ cs) = if c == 62 then (if begins_with_greater cs then 2 else 1) else (if c == 60 && not (list_any (λ d. d == 62) cs) then 1 else 0)
 
+-- where the name of a redirection ends
+abbrev pub name_end : Item → Option ℕ
+name_end (item.Word from to) = Some to
+name_end (item.Quoted from to) = Some (to + 1)
+name_end (item.Equal at) = None
+name_end (item.End at) = None
+name_end (item.Unmatched from) = None
+
+-- the words after the name of a redirection, if `next` gives those from a place on
+abbrev pub words_past : (ℕ → List Word) → Option ℕ → List Word
+words_past next None = []
+words_past next (Some to) = next to
+
+-- those from a word on that begins with so wide a redirection sign
+abbrev pub words_with : (ℕ → List Word) → Text → Word → ℕ → List Word
+words_with next line word zero = word ∷ next word.to
+words_with next line word (suc n) = words_past next (name_end (item_at false line (word.from + suc n)))
+
+abbrev pub words_found : (ℕ → List Word) → Text → Option Word → List Word
+words_found next line None = []
+words_found next line (Some word) = words_with next line word (sign_width (bytes_between line word.from word.to))
+
+-- the words of a line from a place on that are not redirections, of at most `count` that are or are not
+abbrev pub words_from : ℕ → Text → ℕ → List Word
+words_from zero line place = []
+words_from (suc count) line place = words_found (λ to. words_from count line to) line (word_at line place)
+
+-- The words of a line that are not redirections, in order. A line has no more words than bytes.
+abbrev pub argument_words : Text → List Word
+argument_words line = words_from (length line) line 0
+
 -- it begins a redirection
 abbrev pub redirects : Text → Word → Bool
 redirects line word = nat_lt 0 (sign_width (bytes_between line word.from word.to))

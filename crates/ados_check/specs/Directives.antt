@@ -1,10 +1,11 @@
 -- Scripts that are never called, since a directive of theirs has a fault.
-use Rattle.std.specs.Prelude.{◌≡◌, ◌⊎◌, ℕ, List, Result, Ok, Err}
+use Rattle.std.specs.Prelude.{◌≡◌, ◌⊎◌, ℕ, List, Option, Some, None, Result, Ok, Err}
 use Rattle.ados_text.specs.Text.{Bytes, Text}
 use Rattle.ados_readargs.specs.declared.errors.ArgFault.{ArgFault}
 use Rattle.ados_subst.specs.declared.faults.SubstFault.{SubstFault}
 use Rattle.ados_subst.specs.declared.faults.SubstFault.TheVariants.{Args, BadDirective}
 use Rattle.ados_subst.specs.Scripts.{script_of}
+use Rattle.ados_check.specs.declared.findings.Finding.{Finding}
 use Rattle.ados_check.specs.declared.directives.Sample.{Sample}
 use Rattle.ados_check.specs.declared.directives.Sample.TheVariants.{Lines, Bad, Unknown}
 
@@ -32,3 +33,17 @@ abbrev pub IfLines : Sample → (List Text → Type 0) → Type 0
 IfLines (Lines lines) P = P lines
 IfLines (Bad line) P = Unit {0}
 IfLines Unknown P = Unit {0}
+
+-- whatever its arguments and its shell's number are, the directive in this line of a script is what is bad
+abbrev pub IsAlwaysBad : List Text → ℕ → Type 0
+IsAlwaysBad lines line = (args : Bytes) (process : Text) → script_of lines args process ≡ Err (BadDirective line)
+
+-- the directive in this line is said to be bad
+abbrev pub IsBadAt : ℕ → Sample → Type 0
+IsBadAt line (Lines lines) = ⊥
+IsBadAt line (Bad other) = other ≡ line
+IsBadAt line Unknown = ⊥
+
+abbrev pub IsFoundAt : ℕ → Option Finding → Type 0
+IsFoundAt line None = ⊥
+IsFoundAt line (Some one) = one.line ≡ line

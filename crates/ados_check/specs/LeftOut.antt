@@ -1,19 +1,111 @@
--- Options of Release 2 that the Shell leaves out: which of them a word names.
-use Rattle.std.specs.Prelude.{ℕ, ◌≡◌, ◌<◌, ◌==◌, ◌||◌, true, List, [], ◌∷◌, Option, Some, None, length, slice_index, if◌then◌else◌}
-use Rattle.ados_text.specs.Text.{Bytes, is_same}
-use Rattle.ados_check.specs.declared.release_two.Naming.{Naming}
-use Rattle.ados_check.specs.declared.release_two.Naming.TheVariants.{Kept, LeftOut}
+-- The commands of a line that are given an option of Release 2 which the Shell leaves out; what is told of them, and struck.
+use Rattle.std.specs.Prelude.{ℕ, ◌≡◌, ◌<◌, ◌==◌, ◌&&◌, ◌||◌, Bool, true, false, List, [], ◌∷◌, ◌++◌, Option, Some, None, flat_map, length, slice_index}
+use Rattle.std.specs.List.{list_any}
+use Rattle.ados_text.specs.Text.{Bytes, Text}
+use Rattle.ados_items.specs.Items.{bytes_between}
+use Rattle.ados_line.specs.Comment.{without_comment}
+use Rattle.ados_resident.specs.declared.dialects.Dialect.{Dialect}
+use Rattle.ados_script.specs.Lines.{is_some_and, line_of}
+use Rattle.ados_vars.specs.Vars.{Pairs}
+use Rattle.ados_check.specs.Arguments.{argument_words}
+use Rattle.ados_check.specs.CommandWords.{command_name, from_command, lead_of}
+use Rattle.ados_check.specs.Phrases.{given_options}
+use Rattle.ados_check.specs.ReleaseTwo.{named_command}
+use Rattle.ados_check.specs.Signs.{is_at}
+use Rattle.ados_check.specs.Table.{AreReleaseTwo}
+use Rattle.ados_check.specs.Ticks.{around, texts_in_ticks}
+use Rattle.ados_check.specs.declared.arguments.Word.{Word}
+use Rattle.ados_check.specs.declared.findings.Finding.{Finding}
+use Rattle.ados_check.specs.declared.findings.Problem.{Problem}
+use Rattle.ados_check.specs.declared.findings.Problem.TheVariants as problem
+use Rattle.ados_check.specs.declared.left_out.LeftOut.{LeftOut}
+use Rattle.ados_check.specs.declared.phrases.Given.{Given}
+use Rattle.ados_check.specs.declared.release_two.Command.{Command}
+use Rattle.ados_check.specs.declared.ticks.Ticked.{Ticked}
 
--- the first of these names that is this word, case ignored; `text_of` gives a name's text
-abbrev pub first_named : {N : Type 0} → (N → Bytes) → Bytes → List N → Option N
-first_named text_of word [] = None
-first_named text_of word (name ∷ names) = if is_same (text_of name) word then Some name else first_named text_of word names
+-- those of a command, if it has options of Release 2, among the words after it
+abbrev pub given_by : Dialect → Bytes → List Word → Option Command → List Given
+given_by dialect text words None = []
+given_by dialect text words (Some command) = given_options dialect command text words
 
--- what holds of the name of an option that is left out
-abbrev pub IfLeftOut : (Bytes → Type 0) → Option Naming → Type 0
-IfLeftOut P (Some (LeftOut omission)) = P omission.name.now
-IfLeftOut P (Some Kept) = Unit {0}
-IfLeftOut P None = Unit {0}
+-- those of the command that is the first of some words
+abbrev pub given_from : List Command → Dialect → Pairs → Bytes → List Word → List Given
+given_from commands dialect aliases text [] = []
+given_from commands dialect aliases text (word ∷ words) = given_by dialect text words (named_command commands (command_name aliases text word))
+
+-- the options that the command of a text without back-ticks is given, and that are left out
+abbrev pub given_in : List Command → Dialect → Pairs → Bytes → List Given
+given_in commands dialect aliases text = given_from commands dialect aliases text (from_command (lead_of aliases text) 0 (argument_words text))
+
+abbrev pub given_of : Option LeftOut → List Given
+given_of None = []
+given_of (Some one) = one.options.items
+
+abbrev pub shown : LeftOut → ℕ × List Given
+shown one = (one.from, one.options.items)
+
+-- those of a text that begins at a place, if there are any
+abbrev pub part_of : ℕ → List Given → List (ℕ × List Given)
+part_of from [] = []
+part_of from (one ∷ more) = (from, one ∷ more) ∷ []
+
+abbrev pub ticked_part : List Command → Dialect → Pairs → Bytes → Ticked → List (ℕ × List Given)
+ticked_part commands dialect aliases line text = part_of text.from (given_in commands dialect aliases (bytes_between line text.from text.to))
+
+-- those of a line without its comment: of the texts between back-ticks, and of the line around them
+abbrev pub left_out_around : List Command → Dialect → Pairs → Bytes → List (ℕ × List Given)
+left_out_around commands dialect aliases line =
+    flat_map (ticked_part commands dialect aliases line) (texts_in_ticks line) ++ part_of 0 (given_in commands dialect aliases (around line))
+
+-- the options that are left out and that the commands of a line are given, each with the place at which the command's text begins
+abbrev pub left_out_in : List Command → Dialect → Pairs → Bytes → List (ℕ × List Given)
+left_out_in commands dialect aliases line = left_out_around commands dialect aliases (without_comment line)
+
+abbrev pub has_any : {A : Type 0} → List A → Bool
+has_any [] = false
+has_any (x ∷ xs) = true
+
+-- a line gives an option that is left out to a command
+abbrev pub gives_left_out : List Command → Dialect → Pairs → Text → Bool
+gives_left_out commands dialect aliases line = has_any (left_out_in commands dialect aliases line)
+
+-- the line of a number does
+abbrev pub gives_at : List Command → Dialect → Pairs → List Text → ℕ → Bool
+gives_at commands dialect aliases lines number = is_some_and (gives_left_out commands dialect aliases) (line_of lines number)
+
+abbrev pub is_left_out : Problem → Bool
+is_left_out (problem.LeftOut options) = true
+is_left_out other = false
+
+-- of the line of a number it is told that it gives such an option
+abbrev pub is_told : ℕ → List Finding → Bool
+is_told number found = list_any (λ one. is_at number one && is_left_out one.problem) found
+
+-- it is told of exactly the lines that do
+abbrev pub TellsLeftOut : Dialect → Pairs → List Text → List Finding → Type 0
+TellsLeftOut dialect aliases lines found =
+    (commands : List Command) × AreReleaseTwo commands × ((number : ℕ) → is_told number found ≡ gives_at commands dialect aliases lines number)
+
+-- of the line of a number it is told too
+abbrev pub ToldWith : ℕ → Bool → List Finding → List Finding → Type 0
+ToldWith line gives old new = (number : ℕ) → is_told number new ≡ (is_told number old || (line == number && gives))
+
+-- it is told of each line that does
+abbrev pub TellsEach : Dialect → List Text → List Finding → Type 0
+TellsEach dialect lines found =
+    (commands : List Command) × AreReleaseTwo commands × ((number : ℕ) → gives_at commands dialect [] lines number ≡ true → is_told number found ≡ true)
+
+-- of what was told nothing is lost
+abbrev pub StayTold : List Finding → List Finding → Type 0
+StayTold old new = (number : ℕ) → is_told number old ≡ true → is_told number new ≡ true
+
+-- it is told of no line
+abbrev pub TellsNone : List Finding → Type 0
+TellsNone found = (number : ℕ) → is_told number found ≡ false
+
+-- it is told of the same lines
+abbrev pub ToldTheSame : List Finding → List Finding → Type 0
+ToldTheSame old new = (number : ℕ) → is_told number new ≡ is_told number old
 
 -- as long as before, and each byte is unchanged or a blank
 abbrev pub IsBlanked : Bytes → Bytes → Type 0

@@ -1,13 +1,9 @@
 -- Lines that only print their words, in which a sign is harmless.
-use Rattle.std.specs.Prelude.{ℕ, ◌≡◌, ◌==◌, ◌&&◌, ◌||◌, Bool, true, not, List, length, nat_lt, codes}
-use Rattle.std.specs.List.{All, list_any}
+use Rattle.std.specs.Prelude.{◌==◌, ◌&&◌, ◌||◌, Bool, not, length, nat_lt, codes}
+use Rattle.std.specs.List.{list_any}
 use Rattle.ados_text.specs.Text.{Bytes, Text, is_same}
 use Rattle.ados_items.specs.Parts.{first_word, rest_of, trimmed_text}
-use Rattle.ados_line.specs.Comment.{without_comment}
 use Rattle.ados_check.specs.Arguments.{has_redirection}
-use Rattle.ados_check.specs.Problems.{is_harmless}
-use Rattle.ados_check.specs.Signs.{line_at}
-use Rattle.ados_check.specs.declared.findings.Finding.{Finding}
 
 abbrev pub is_printer : Text → Bool
 is_printer name = is_same name (codes "Echo") || is_same name (codes "Ask")
@@ -18,14 +14,3 @@ prints_words text = is_printer (first_word text) && nat_lt 1 (length (rest_of te
 
 abbrev pub only_prints : Bytes → Bool
 only_prints line = prints_words (trimmed_text line)
-
--- what is harmless in a file of these bytes is in a line that only prints its words
-abbrev pub IsPrinted : Bytes → Finding → Type 0
-IsPrinted bytes one = is_harmless one.problem ≡ true → only_prints (without_comment (line_at bytes one.line)) ≡ true
-
-abbrev pub ArePrinted : Bytes → List Finding → Type 0
-ArePrinted bytes found = All (IsPrinted bytes) found
-
--- nothing harmless is added
-abbrev pub StayPrinted : List Finding → List Finding → Type 0
-StayPrinted old new = (bytes : Bytes) → ArePrinted bytes old → ArePrinted bytes new

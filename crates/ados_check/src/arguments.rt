@@ -1,10 +1,11 @@
 //! The words of a line as a command's arguments are read: redirections are skipped.
 
-ghost use Rattle.std.specs.Prelude.{◌≡◌, true};
+ghost use Rattle.std.specs.Prelude.{◌≡◌, ◌==◌, ◌≤◌, length, false, true, IfOk, IfSome};
 ghost use Rattle.ados_items.specs.Items.{bytes_between, item_at};
-ghost use Rattle.ados_check.specs.Arguments.{has_redirection, next_end_of_run, run_end, sign_width, word_at};
+ghost use Rattle.ados_check.specs.Arguments.{argument_words, has_redirection, name_end, next_end_of_run, run_end, sign_width, word_at};
 
 use ados_items::{Item, between, next_item, next_word};
+use std::alloc::{AllocError, Global};
 
 /// A word: a text in quotes, or a touching run of words and equal signs.
 #[derive(Clone, Copy)]
@@ -19,22 +20,35 @@ pub struct Word {
 
 impl Word {
     /// The word is one piece without `=`, as the name of a switch is.
-    pub fn is_whole(&self) -> bool {
+    pub fn is_whole(&self) -> bool
+        ensures { result ≡ (self.now.name_to == self.now.to) }
+    {
         self.name_to == self.to
     }
 }
 
-/// The next word from a place on that is not a redirection; `None` at the end, at a comment, and if a quote is open.
-pub fn next_argument(line: &[u8], place: usize) -> Option<Word> {
-    let mut place = place;
-    for _ in 0..line.len() {
-        let word = word_at(line, place)?;
+/// The words of a line that are not redirections, up to its end, to a comment or to a quote that is open.
+pub fn argument_words(alloc: Global, line: &[u8]) -> Result<Vec<Word>, AllocError>
+    ensures { IfOk result (λ words. words.items ≡ argument_words line.now) }
+{
+    let mut words = Vec::new(alloc);
+    let mut place = 0;
+    for step in 0..line.len() {
+        let Some(word) = word_at(line, place) else {
+            return Ok(words);
+        };
         match sign_width(line, word) {
-            0 => return Some(word),
-            width => place = name_end(line, word.from.saturating_add(width))?,
+            0 => {
+                words.push(word)?;
+                place = word.to;
+            }
+            width => match name_end(line, word.from + width) {
+                Some(to) => place = to,
+                None => return Ok(words),
+            },
         }
     }
-    None
+    Ok(words)
 }
 
 /// A redirection is in the line.
@@ -58,7 +72,8 @@ pub fn has_redirection(line: &[u8]) -> bool
 
 // The word at a place.
 fn word_at(line: &[u8], place: usize) -> Option<Word>
-    ensures { result ≡ word_at line.now place }
+    ensures value { result ≡ word_at line.now place }
+    ensures within { IfSome result (λ word. word.from ≤ length line.now) }
 {
     match next_item(line, place) {
         Item::Word { from, to } => Some(Word {
@@ -108,7 +123,8 @@ fn next_end_of_run(line: &[u8], end: usize) -> Option<usize>
 // How many bytes the redirection sign has with which a word begins; 0 if it begins with none. A word `<name>`
 // is a value of the script's arguments.
 fn sign_width(line: &[u8], word: Word) -> usize
-    ensures { result ≡ sign_width (bytes_between line.now word.from word.to) }
+    ensures value { result ≡ sign_width (bytes_between line.now word.from word.to) }
+    ensures short { result ≤ 2 }
 {
     match between(line, word.from, word.to) {
         [b'>', b'>', ..] => 2,
@@ -119,7 +135,9 @@ fn sign_width(line: &[u8], word: Word) -> usize
 }
 
 // Where the name of a redirection ends.
-fn name_end(line: &[u8], place: usize) -> Option<usize> {
+fn name_end(line: &[u8], place: usize) -> Option<usize>
+    ensures { result ≡ name_end (item_at false line.now place) }
+{
     match next_word(line, place) {
         Item::Word { to, .. } => Some(to),
         Item::Quoted { to, .. } => Some(to + 1),

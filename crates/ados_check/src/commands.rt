@@ -80,7 +80,7 @@ fn after<'a>(word: &'a [u8], start: &[u8]) -> Option<&'a [u8]>
 }
 
 /// The template of a command in a dialect.
-#[tactic(auto, using(ados_shell::proofs::CommandLemmas::ascii, ados_shell::proofs::CommandLemmas::are_templates))]
+#[tactic(auto, using(crate::proofs::TemplateLemmas::ascii, crate::proofs::TemplateLemmas::are_templates))]
 pub fn template_in(alloc: Global, dialect: Dialect, command: Builtin) -> Result<Template, NoMemory>
     ensures { IfOk result (λ template. template ≡ template_of dialect command) }
 {

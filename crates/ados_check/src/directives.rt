@@ -1,8 +1,9 @@
 //! A script with directives: its lines with arguments that fill its template, by which a line that depends on them is told.
 
-ghost use Rattle.std.specs.Prelude.{IfOk, IfSome};
+ghost use Rattle.std.specs.Prelude.{◌≡◌, ℕ, true, IfOk, IfSome};
 ghost use Rattle.ados_text.specs.Lines.{lines_of};
-ghost use Rattle.ados_check.specs.Directives.{IfBad, IfLines, IsNeverCalled, IsSample};
+ghost use Rattle.ados_check.specs.Directives.{IfBad, IfLines, IsAlwaysBad, IsBadAt, IsFoundAt, IsNeverCalled, IsSample};
+ghost use Rattle.ados_check.specs.Signs.{is_dotted};
 
 use crate::findings::{Finding, Problem};
 use crate::signs::is_dotted;
@@ -26,7 +27,9 @@ pub enum Sample {
 /// The bad directive of a script of these bytes, if it has one. Such a script is never called: Execute answers the fault of that line,
 /// or one of its arguments.
 pub fn bad_directive(alloc: Global, bytes: &[u8]) -> Result<Option<Finding>, NoMemory>
-    ensures { IfOk result (λ found. IfSome found (λ one. IsNeverCalled (lines_of bytes.now) one.line)) }
+    ensures never { IfOk result (λ found. IfSome found (λ one. IsNeverCalled (lines_of bytes.now) one.line)) }
+    // One that is bad whatever the arguments are is found.
+    ensures found { IfOk result (λ found. (line : ℕ) → is_dotted bytes.now ≡ true → IsAlwaysBad (lines_of bytes.now) line → IsFoundAt line found) }
 {
     if !is_dotted(bytes) {
         return Ok(None);
@@ -42,11 +45,12 @@ pub fn bad_directive(alloc: Global, bytes: &[u8]) -> Result<Option<Finding>, NoM
 }
 
 /// The lines of a script, as it is written and by its bytes, with some arguments.
-#[tactic(auto, using(crate::proofs::DirectiveLemmas::bad_line, crate::proofs::DirectiveLemmas::is_sample))]
+#[tactic(auto, using(crate::proofs::DirectiveLemmas::bad_line, crate::proofs::DirectiveLemmas::is_sample, crate::proofs::DirectiveLemmas::bad_found, crate::proofs::DirectiveLemmas::never_lines, crate::proofs::DirectiveLemmas::never_args))]
 pub fn sample_of(alloc: Global, written: &[Text], bytes: &[u8]) -> Result<Sample, NoMemory>
     // The script of a bad directive is never called: Execute answers the fault of that line, or one of the arguments.
     ensures bad { IfOk result (λ sample. IfBad sample (IsNeverCalled (lines_of bytes.now))) }
     ensures lines { IfOk result (λ sample. IfLines sample (IsSample (lines_of bytes.now))) }
+    ensures found { IfOk result (λ sample. (line : ℕ) → IsAlwaysBad (lines_of bytes.now) line → IsBadAt line sample) }
 {
     let key = key_line(written);
     let args = match key {

@@ -4,6 +4,8 @@ ghost use Rattle.std.specs.Prelude.{◌≡◌, ℕ, IfOk, OnOk};
 ghost use Rattle.std.specs.List.{All};
 ghost use Rattle.ados_check.specs.Directives.{IfBad, IfLines, IsNeverCalled, IsSample};
 ghost use Rattle.ados_check.specs.Errors.{AreSo, IsSo, StaySo};
+ghost use Rattle.ados_text.specs.Lines.{lines_of};
+ghost use Rattle.ados_check.specs.LeftOut.{StayTold, TellsEach};
 ghost use Rattle.ados_check.specs.Signs.{SaysTheSame, signs_at, signs_told};
 
 use crate::directives::{Sample, is_directive, sample_of};
@@ -29,6 +31,8 @@ pub fn inspect(
 ) -> Result<Vec<Finding>, NoMemory>
     // In each line of the file the first byte above 127 where it matters is found, and no other is said to be there.
     ensures signs { IfOk result (λ found. (number : ℕ) → signs_told number found.items ≡ signs_at bytes.now number) }
+    // Of each line that gives an option left out to a command it is told.
+    ensures left_out { IfOk result (λ found. TellsEach dialect (lines_of bytes.now) found.items) }
     // What each error says of its line is so.
     ensures so { IfOk result (λ found. All (IsSo dialect bytes.now) found.items) }
 {
@@ -43,7 +47,7 @@ pub fn inspect(
 }
 
 // Adds the bad directive of a script, or what is wrong with its lines, as they are written and with some arguments.
-#[tactic(auto, using(crate::proofs::ErrorLemmas::bad_so, crate::proofs::ErrorLemmas::same_so))]
+#[tactic(auto, using(crate::proofs::ErrorLemmas::bad_so, crate::proofs::ErrorLemmas::same_so, crate::proofs::LeftOutLemmas::stays_itself, crate::proofs::LeftOutLemmas::told_stays))]
 fn push_problems(
     dialect: Dialect,
     typed: &[Text],
@@ -54,6 +58,7 @@ fn push_problems(
     requires bad { IfBad sample (IsNeverCalled written.now) }
     requires lines { IfLines sample (IsSample written.now) }
     ensures same { OnOk result (SaysTheSame found.old.items found.new.items) }
+    ensures told { OnOk result (StayTold found.old.items found.new.items) }
     ensures so { OnOk result (AreSo dialect written.now found.old.items → AreSo dialect written.now found.new.items) }
 {
     match sample {
@@ -71,13 +76,14 @@ fn push_problems(
 }
 
 // Adds each directive of a script that has none, since its first line does not begin with a dot.
-#[tactic(auto, using(crate::proofs::ErrorLemmas::stay_again))]
+#[tactic(auto, using(crate::proofs::ErrorLemmas::stay_again, crate::proofs::LeftOutLemmas::stays_itself))]
 fn push_idle_directives(
     written: &[Text],
     is_dotted: bool,
     found: &mut Vec<Finding>,
 ) -> Result<(), NoMemory>
     ensures same { OnOk result (SaysTheSame found.old.items found.new.items) }
+    ensures told { OnOk result (StayTold found.old.items found.new.items) }
     ensures so { OnOk result (StaySo found.old.items found.new.items) }
 {
     for (place, line) in written.iter().enumerate() {
@@ -87,6 +93,7 @@ fn push_idle_directives(
 }
 
 // Adds a line that is a directive of such a script.
+#[tactic(auto, using(crate::proofs::LeftOutLemmas::stays_itself, crate::proofs::LeftOutLemmas::told_stays))]
 fn push_idle_directive(
     line: &[u8],
     is_dotted: bool,
@@ -94,6 +101,7 @@ fn push_idle_directive(
     found: &mut Vec<Finding>,
 ) -> Result<(), NoMemory>
     ensures same { OnOk result (SaysTheSame found.old.items found.new.items) }
+    ensures told { OnOk result (StayTold found.old.items found.new.items) }
     ensures so { OnOk result (StaySo found.old.items found.new.items) }
 {
     if is_dotted || !is_directive(line) {

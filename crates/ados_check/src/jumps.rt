@@ -6,7 +6,11 @@ ghost use Rattle.ados_find.specs.Shared.{SharedState};
 ghost use Rattle.ados_find.specs.Views.{View};
 ghost use Rattle.ados_flow.specs.Actions.{Quits};
 ghost use Rattle.ados_flow.specs.Rows.{row_of};
-ghost use Rattle.ados_check.specs.Jumps.{leads_nowhere, lost_jump};
+ghost use Rattle.ados_machine.specs.Commands.{template_of};
+ghost use Rattle.ados_readargs.specs.Fill.{fill_of};
+ghost use Rattle.ados_resident.specs.declared.commands.Builtin.TheVariants.{Flow};
+ghost use Rattle.ados_resident.specs.declared.commands.FlowCommand.TheVariants.{Skip};
+ghost use Rattle.ados_check.specs.Jumps.{label_filled, label_named, leads_nowhere, lost_jump};
 ghost use Rattle.ados_check.specs.Signs.{told_sign};
 
 use crate::commands::template_in;
@@ -56,17 +60,24 @@ pub fn jump_problem(
 
 /// The label that a line of Skip names in a dialect, with its variables as they are written; empty if it names none.
 #[tactic(auto, using(crate::proofs::ReadingLemmas::text_kept))]
-pub fn label_in(alloc: Global, dialect: Dialect, line: &Text) -> Result<Text, NoMemory> {
-    let args = match cut_bytes(alloc, without_comment(line.as_bytes())) {
-        Ok(Expanded::Ready(line)) => line.args,
-        Err(LineFault::NoMemory) => return Err(NoMemory),
-        Ok(_) | Err(_) => return Ok(Text::new(alloc)),
-    };
+pub fn label_in(alloc: Global, dialect: Dialect, line: &Text) -> Result<Text, NoMemory>
+    ensures { IfOk result (λ label. label ≡ label_named dialect line.now) }
+{
+    match cut_bytes(alloc, without_comment(line.as_bytes())) {
+        Ok(Expanded::Ready(line)) => label_of(alloc, dialect, &line.args),
+        Err(LineFault::NoMemory) => Err(NoMemory),
+        Ok(_) | Err(_) => Ok(Text::new(alloc)),
+    }
+}
+
+// The label that the text of Skip's arguments names; empty if it names none.
+fn label_of(alloc: Global, dialect: Dialect, args: &Text) -> Result<Text, NoMemory>
+    ensures { IfOk result (λ label. label ≡ label_filled dialect (fill_of (template_of dialect (Flow Skip)) args.now)) }
+{
     let skip = Builtin::Flow(FlowCommand::Skip);
-    let label = match template_in(alloc, dialect, skip)?.fill(alloc, args.as_bytes()) {
-        Ok(args) => label_sought(alloc, dialect, &args)?,
-        Err(ArgFault::NoMemory) => return Err(NoMemory),
-        Err(_) => None,
-    };
-    Ok(label.unwrap_or(Text::new(alloc)))
+    match template_in(alloc, dialect, skip)?.fill(alloc, args.as_bytes()) {
+        Ok(args) => Ok(label_sought(alloc, dialect, &args)?.unwrap_or(Text::new(alloc))),
+        Err(ArgFault::NoMemory) => Err(NoMemory),
+        Err(_) => Ok(Text::new(alloc)),
+    }
 }

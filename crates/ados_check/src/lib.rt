@@ -2,6 +2,7 @@
 //! What is wrong with the lines of a script, before any of them is taken.
 
 mod arguments;
+mod command_words;
 mod commands;
 mod directives;
 mod findings;
@@ -11,12 +12,14 @@ mod left_out;
 mod lines;
 mod look;
 mod made_aliases;
+mod phrases;
 mod readings;
 mod release_two;
 mod renames;
 mod returns;
 mod signs;
 mod targets;
+mod ticks;
 
 pub use commands::name_in_c;
 pub use directives::bad_directive;

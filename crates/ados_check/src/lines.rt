@@ -3,10 +3,11 @@ ghost use Rattle.std.specs.Prelude.{◌≡◌, ◌++◌, [], ◌∷◌, ℕ, Non
 ghost use Rattle.std.specs.List.{slice_split};
 ghost use Rattle.ados_text.specs.Lines.{is_newline};
 ghost use Rattle.ados_check.specs.Errors.{AreAlwaysSo, AreSoWith, AreSoWithFound, IsAlwaysSound, StaySo};
+ghost use Rattle.ados_check.specs.LeftOut.{StayTold, TellsLeftOut, TellsNone, ToldTheSame, ToldWith, gives_left_out, is_left_out};
 ghost use Rattle.ados_check.specs.Signs.{SaysTheSame, signs_at, signs_told, told_sign};
 
 use crate::findings::{Finding, Problem};
-use crate::left_out::options_left_out;
+use crate::left_out::Reader;
 use crate::renames::{may_call, renames_printers};
 use crate::signs::{RETURN, are_plain, is_dotted, sign_in, sign_problem};
 use ados_resident::Dialect;
@@ -28,12 +29,15 @@ pub fn check(
 ) -> Result<Vec<Finding>, NoMemory>
     // In each line of the file the first byte above 127 where it matters is found, and no other is said to be there.
     ensures signs { IfOk result (λ found. (number : ℕ) → signs_told number found.items ≡ signs_at bytes.now number) }
-    // And options are found that are left out: no error of another kind.
+    // Of each line that gives an option left out to a command it is told, and of no other.
+    ensures left_out { IfOk result (λ found. TellsLeftOut dialect aliases.now lines.now found.items) }
+    // No error of another kind is told.
     ensures so { IfOk result (λ found. AreAlwaysSo found.items) }
 {
     let mut found = signs_found(alloc, dialect, aliases, lines, bytes)?;
-    for (place, line) in lines.iter().enumerate() {
-        push_options(dialect, aliases, place.saturating_add(1), line, &mut found)?;
+    let reader = Reader::new(alloc, dialect, aliases);
+    for place in 0..lines.len() {
+        push_options(reader, place + 1, &lines[place], &mut found)?;
     }
     sort(&mut found)?;
     Ok(found)
@@ -42,6 +46,7 @@ pub fn check(
 /// Puts findings in the order of their lines; those of a line keep theirs.
 pub fn sort(found: &mut Vec<Finding>) -> Result<(), NoMemory>
     ensures same { OnOk result (SaysTheSame found.old.items found.new.items) }
+    ensures told { OnOk result (ToldTheSame found.old.items found.new.items) }
     ensures so { OnOk result (StaySo found.old.items found.new.items) }
 {
     found.sort_by(|a, b| a.line.cmp(&b.line))?;
@@ -58,6 +63,7 @@ fn signs_found(
     bytes: &[u8],
 ) -> Result<Vec<Finding>, NoMemory>
     ensures signs { IfOk result (λ found. (number : ℕ) → signs_told number found.items ≡ signs_at bytes.now number) }
+    ensures told { IfOk result (λ found. TellsNone found.items) }
     ensures so { IfOk result (λ found. AreAlwaysSo found.items) }
 {
     if are_plain(bytes) {
@@ -119,10 +125,11 @@ fn push_problem(found: &mut Vec<Finding>, line: usize, problem: Problem) -> Resu
 }
 
 /// Adds a problem of a line that is not of a byte above 127.
-#[tactic(auto, using(crate::proofs::ErrorLemmas::one_so, crate::proofs::SignLemmas::told_other))]
+#[tactic(auto, using(crate::proofs::ErrorLemmas::one_so, crate::proofs::SignLemmas::told_other, crate::proofs::LeftOutLemmas::told_one))]
 pub fn push_other(found: &mut Vec<Finding>, line: usize, problem: Problem) -> Result<(), NoMemory>
     requires { told_sign problem ≡ None }
     ensures same { OnOk result (SaysTheSame found.old.items found.new.items) }
+    ensures told { OnOk result (ToldWith line (is_left_out problem) found.old.items found.new.items) }
     ensures so { OnOk result (AreSoWith line problem found.old.items found.new.items) }
 {
     push_problem(found, line, problem)
@@ -133,6 +140,7 @@ pub fn push_other(found: &mut Vec<Finding>, line: usize, problem: Problem) -> Re
 pub fn push_note(found: &mut Vec<Finding>, line: usize, note: Problem) -> Result<(), NoMemory>
     requires { IsAlwaysSound line note }
     ensures same { OnOk result (SaysTheSame found.old.items found.new.items) }
+    ensures told { OnOk result (ToldWith line (is_left_out note) found.old.items found.new.items) }
     ensures so { OnOk result (StaySo found.old.items found.new.items) }
 {
     push_other(found, line, note)?;
@@ -140,7 +148,7 @@ pub fn push_note(found: &mut Vec<Finding>, line: usize, note: Problem) -> Result
 }
 
 /// Adds the problem of a line, if it has one.
-#[tactic(auto, using(crate::proofs::ErrorLemmas::found_so))]
+#[tactic(auto, using(crate::proofs::ErrorLemmas::found_so, crate::proofs::LeftOutLemmas::told_stays, crate::proofs::LeftOutLemmas::stays_itself))]
 pub fn push_sound(
     found: &mut Vec<Finding>,
     number: usize,
@@ -148,6 +156,7 @@ pub fn push_sound(
 ) -> Result<(), NoMemory>
     requires { IfSome problem (λ what. told_sign what ≡ None) }
     ensures same { OnOk result (SaysTheSame found.old.items found.new.items) }
+    ensures told { OnOk result (StayTold found.old.items found.new.items) }
     ensures so { OnOk result (AreSoWithFound number problem found.old.items found.new.items) }
 {
     match problem {
@@ -160,19 +169,18 @@ pub fn push_sound(
 }
 
 // Adds the options of a line that the Shell leaves out.
-#[tactic(auto, using(crate::proofs::ErrorLemmas::stay_again))]
+#[tactic(auto, using(crate::proofs::ErrorLemmas::stay_again, crate::proofs::LeftOutLemmas::any_shown, crate::proofs::LeftOutLemmas::told_itself))]
 fn push_options(
-    dialect: Dialect,
-    aliases: &Aliases,
+    reader: Reader,
     line: usize,
     text: &Text,
     found: &mut Vec<Finding>,
 ) -> Result<(), NoMemory>
     ensures same { OnOk result (SaysTheSame found.old.items found.new.items) }
+    ensures told { OnOk result (ToldWith line (gives_left_out reader.entry.commands.now reader.entry.dialect reader.entry.aliases.now text.now) found.old.items found.new.items) }
     ensures so { OnOk result (StaySo found.old.items found.new.items) }
 {
-    let alloc = *found.allocator();
-    for left_out in options_left_out(alloc, dialect, aliases, 0, text.as_bytes())? {
+    for left_out in reader.options_left_out(text.as_bytes())? {
         push_note(found, line, Problem::LeftOut(left_out))?;
     }
     Ok(())

@@ -5,13 +5,14 @@ ghost use Rattle.ados_script.specs.Lines.{line_of};
 ghost use Rattle.ados_line.specs.declared.lines.Expanded.TheVariants.{Ready};
 ghost use Rattle.ados_check.specs.Directives.{IsSample};
 ghost use Rattle.ados_check.specs.Errors.{AreSo, IsCommand, IsHere, IsReadAs, IsSound};
+ghost use Rattle.ados_check.specs.LeftOut.{StayTold};
 ghost use Rattle.ados_check.specs.Signs.{SaysTheSame};
 
-use crate::arguments::next_argument;
+use crate::arguments::argument_words;
+use crate::command_words::name_in;
 use crate::commands::{Meaning, argument_fault, template_in, template_text};
 use crate::findings::{Finding, Problem};
 use crate::jumps::jump_problem;
-use crate::left_out::name_in;
 use crate::lines::push_sound;
 use crate::made_aliases::MadeAliases;
 use crate::readings::read_line;
@@ -70,6 +71,7 @@ impl<'a> Look<'a> {
     pub fn push_problems(&self, found: &mut Vec<Finding>) -> Result<(), NoMemory>
         requires { IsSample self.now.written.now self.now.script }
         ensures same { OnOk result (SaysTheSame found.old.items found.new.items) }
+        ensures told { OnOk result (StayTold found.old.items found.new.items) }
         ensures so { OnOk result (AreSo self.now.dialect self.now.written.now found.old.items → AreSo self.now.dialect self.now.written.now found.new.items) }
     {
         let mut depth: usize = 0;
@@ -104,7 +106,8 @@ impl<'a> Look<'a> {
 
     // The command of a line is Run, or one that is not known before the script runs.
     fn may_run(&self, line: &[u8]) -> Result<bool, NoMemory> {
-        let Some(word) = next_argument(line, 0) else {
+        let words = argument_words(self.alloc, line)?;
+        let Some(word) = words.first() else {
             return Ok(false);
         };
         let name = name_in(between(line, word.from, word.to));

@@ -2,11 +2,13 @@
 //! its template has none.
 ghost use Rattle.std.specs.Prelude.{◌≡◌, false, IfOk};
 ghost use Rattle.std.specs.List.{list_any};
+ghost use Rattle.std.specs.Option.{option_copied};
 ghost use Rattle.ados_text.specs.Text.{is_same};
 ghost use Rattle.ados_readargs.specs.Options.{has_name};
 ghost use Rattle.ados_readargs.specs.Template.{options_of};
 ghost use Rattle.ados_machine.specs.Commands.{template_of};
-ghost use Rattle.ados_check.specs.LeftOut.{first_named, IfLeftOut};
+ghost use Rattle.ados_check.specs.ReleaseTwo.{first_named, IfLeftOut, named, named_command, naming_of, omission_of};
+ghost use Rattle.ados_check.specs.Table.{AreReleaseTwo};
 
 use crate::commands::template_in;
 use ados_machine::Builtin;
@@ -161,9 +163,18 @@ static COMMANDS: [Command; 15] = [
     },
 ];
 
-/// The command of this name; case is ignored.
-pub fn command_of(name: &[u8]) -> Option<&'static Command> {
-    COMMANDS.iter().find(|command| command.name.as_bytes().eq_ignore_ascii_case(name))
+/// The commands that have more options in Release 2.
+pub fn commands() -> &'static [Command]
+    ensures { AreReleaseTwo result.now }
+{
+    &COMMANDS
+}
+
+/// The one of this name among some commands; case is ignored.
+pub fn command_in(commands: &'static [Command], name: &[u8]) -> Option<&'static Command>
+    ensures { option_copied result ≡ named_command commands.now name.now }
+{
+    commands.iter().find(|command| command.is_named(name))
 }
 
 /// An option that a word names.
@@ -198,6 +209,13 @@ pub struct Omission {
 }
 
 impl Command {
+    // It has this name; case is ignored.
+    fn is_named(&self, name: &[u8]) -> bool
+        ensures { result ≡ is_same self.now.name.now name.now }
+    {
+        self.name.as_bytes().eq_ignore_ascii_case(name)
+    }
+
     /// The option that a word names in a dialect; `None` if it names none of Release 2, or a switch that the Shell has.
     pub fn naming(
         &self,
@@ -205,37 +223,40 @@ impl Command {
         dialect: Dialect,
         word: &[u8],
     ) -> Result<Option<Naming>, NoMemory>
+        ensures value { IfOk result (λ naming. naming ≡ naming_of dialect self.now word.now) }
         // What is left out is no option of the command in this dialect.
-        ensures { IfOk result (IfLeftOut (λ name. list_any (has_name name) (options_of (template_of dialect self.now.builtin)) ≡ false)) }
+        ensures omitted { IfOk result (IfLeftOut (λ name. list_any (has_name name) (options_of (template_of dialect self.now.builtin)) ≡ false)) }
     {
-        let Some((name, takes)) = self.option(word) else {
+        let Some(option) = self.option(word) else {
             return Ok(None);
         };
         let template = template_in(alloc, dialect, self.builtin)?;
-        if !has_option(&template, name.as_bytes()) {
-            return Ok(Some(Naming::LeftOut(self.omission(name, takes))));
+        if !has_option(&template, option.name.as_bytes()) {
+            return Ok(Some(Naming::LeftOut(option)));
         }
-        Ok(match takes {
+        Ok(match option.takes {
             Takes::Nothing => None,
             Takes::Word | Takes::Number => Some(Naming::Kept),
         })
     }
 
-    // The option of Release 2 that a word names, and what it takes.
-    fn option(&self, word: &[u8]) -> Option<(&'static str, Takes)> {
+    // The option of Release 2 that a word names.
+    fn option(&self, word: &[u8]) -> Option<Omission>
+        ensures { result ≡ named self.now word.now }
+    {
         if let Some(name) = first_named(self.switches, word) {
-            return Some((name, Takes::Nothing));
+            return Some(self.omission(name, Takes::Nothing));
         }
         if let Some(name) = first_named(self.values, word) {
-            return Some((name, Takes::Word));
+            return Some(self.omission(name, Takes::Word));
         }
         let name = first_named(self.numbers, word)?;
-        Some((name, Takes::Number))
+        Some(self.omission(name, Takes::Number))
     }
 
     // The option with this name.
     fn omission(&self, name: &'static str, takes: Takes) -> Omission
-        ensures { result.name.now ≡ name.now }
+        ensures { result ≡ omission_of self.now takes name.entry }
     {
         Omission {
             name,

@@ -1,9 +1,16 @@
 //! Which words are other commands in a script than the Shell's own.
+ghost use Rattle.std.specs.Prelude.{◌≡◌, ◌||◌, is_some, map, IfOk};
+ghost use Rattle.std.specs.List.{list_any};
+ghost use Rattle.ados_text.specs.Text.{to_ascii};
+ghost use Rattle.ados_vars.specs.Vars.{value_in};
+ghost use Rattle.ados_check.specs.Aliases.{has_made};
+ghost use Rattle.ados_check.specs.Renames.{calls, is_resident, may_call, renames_printers};
 
-use crate::arguments::next_argument;
+use crate::arguments::argument_words;
+use crate::command_words::{alias_text, name_in};
 use crate::commands::Meaning;
-use crate::left_out::{alias_text, name_in};
 use crate::made_aliases::MadeAliases;
+use crate::signs::is_dotted;
 use ados_items::{between, first_word, trimmed};
 use ados_line::without_comment;
 use ados_machine::Builtin;
@@ -14,24 +21,38 @@ use std::alloc::Global;
 
 /// Echo or Ask may be another command in a script: an alias of its shell or its own, or a file in the place of one that it takes off the
 /// resident list.
-pub fn renames_printers(
-    alloc: Global,
-    aliases: &Aliases,
-    lines: &[Text],
-) -> Result<bool, NoMemory> {
+#[tactic(auto, using(crate::proofs::AliasLemmas::renamed))]
+pub fn renames_printers(alloc: Global, aliases: &Aliases, lines: &[Text]) -> Result<bool, NoMemory>
+    ensures { IfOk result (λ renames. renames ≡ renames_printers aliases.now lines.now) }
+{
     let made = MadeAliases::of(alloc, &[], lines)?;
-    Ok(
-        is_renamed(alloc, aliases, &made, b"Echo")?
-            || is_renamed(alloc, aliases, &made, b"Ask")?
-            || lines.iter().any(|line| same_name(
-                first_word(trimmed(line.as_bytes())),
-                b"Resident",
-            )),
-    )
+    if is_renamed(alloc, aliases, &made, b"Echo")? {
+        return Ok(true);
+    }
+    if is_renamed(alloc, aliases, &made, b"Ask")? {
+        return Ok(true);
+    }
+    Ok(has_resident(lines))
+}
+
+// The command of one of these lines is Resident.
+fn has_resident(lines: &[Text]) -> bool
+    ensures { result ≡ list_any is_resident lines.now }
+{
+    lines.iter().any(|line| is_resident(line))
+}
+
+// The command of a line is Resident.
+fn is_resident(line: &Text) -> bool
+    ensures { result ≡ is_resident line.now }
+{
+    same_name(first_word(trimmed(line.as_bytes())), b"Resident")
 }
 
 /// A line of a script may have another script run: what that one makes an alias of, or takes off the resident list, is not known.
-pub fn may_call(alloc: Global, dialect: Dialect, lines: &[Text]) -> Result<bool, NoMemory> {
+pub fn may_call(alloc: Global, dialect: Dialect, lines: &[Text]) -> Result<bool, NoMemory>
+    ensures { IfOk result (λ may. may ≡ may_call dialect lines.now) }
+{
     for line in lines {
         if calls(alloc, dialect, without_comment(line.as_bytes()))? {
             return Ok(true);
@@ -41,14 +62,17 @@ pub fn may_call(alloc: Global, dialect: Dialect, lines: &[Text]) -> Result<bool,
 }
 
 // The command of a line may have another script run; one between back-ticks may too. A directive has none.
-fn calls(alloc: Global, dialect: Dialect, line: &[u8]) -> Result<bool, NoMemory> {
+fn calls(alloc: Global, dialect: Dialect, line: &[u8]) -> Result<bool, NoMemory>
+    ensures { IfOk result (λ may. may ≡ calls dialect line.now) }
+{
     if line.contains(&b'`') {
         return Ok(true);
     }
-    let Some(word) = next_argument(line, 0) else {
+    let words = argument_words(alloc, line)?;
+    let Some(word) = words.first() else {
         return Ok(false);
     };
-    if line.starts_with(b".") {
+    if is_dotted(line) {
         return Ok(false);
     }
     let name = Text::from_bytes(alloc, name_in(between(line, word.from, word.to)))?;
@@ -65,6 +89,8 @@ fn is_renamed(
     aliases: &Aliases,
     made: &MadeAliases,
     word: &[u8],
-) -> Result<bool, NoMemory> {
+) -> Result<bool, NoMemory>
+    ensures { IfOk result (λ is. is ≡ (is_some (value_in aliases.now (map to_ascii word.now)) || has_made made.now (map to_ascii word.now))) }
+{
     Ok(alias_text(alloc, aliases, word)?.is_some() || made.has(alloc, word)?)
 }

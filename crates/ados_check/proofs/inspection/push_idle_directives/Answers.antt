@@ -6,4 +6,5 @@ pub loop-place-preserved : goal.loop-place-preserved
 loop-place-preserved c = (
   λ number. c.in_ok-push_idle_directive.ensures.same number ∙ c.loop-place.invariant.0 number,
   stay_again _ _ _ c.loop-place.invariant.1 c.in_ok-push_idle_directive.ensures.so,
+  λ number is. c.in_ok-push_idle_directive.ensures.told number (c.loop-place.invariant.2 number is),
 )

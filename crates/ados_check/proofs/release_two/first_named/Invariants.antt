@@ -1,5 +1,5 @@
 use Rattle.std.proofs.Common.{◌≡◌, drop}
-use Rattle.ados_check.specs.LeftOut.{first_named}
+use Rattle.ados_check.specs.ReleaseTwo.{first_named}
 use Rattle.ados_check.proofs.release_two.first_named.Given as goal
 
 abbrev pub invariant-loop-name : goal.invariant-loop-name

@@ -9,4 +9,5 @@ loop-place-preserved c =
           c.in_ok-push_sound-2.ensures.so look.dialect look.written.now
           (c.in_ok-push_sound.ensures.so look.dialect look.written.now (c.loop-place.invariant.1 are) c.block_problem-of_block.ensures)
           c.in_ok-of_line.ensures,
+      λ number is. c.in_ok-push_sound-2.ensures.told number (c.in_ok-push_sound.ensures.told number (c.loop-place.invariant.2 number is)),
     )

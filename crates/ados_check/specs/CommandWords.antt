@@ -1,0 +1,55 @@
+-- The word of a line that is its command, and the name of the command that it stands for.
+use Rattle.std.specs.Prelude.{ℕ, zero, suc, ◌-◌, ◌==◌, List, [], ◌∷◌, Option, Some, None, codes, length, map, slice_index, take, if◌then◌else◌}
+use Rattle.ados_text.specs.Text.{Bytes, Text, is_same, to_ascii}
+use Rattle.ados_items.specs.Items.{bytes_between}
+use Rattle.ados_items.specs.Parts.{first_word, trimmed_text}
+use Rattle.ados_vars.specs.Vars.{Pairs, value_in}
+use Rattle.ados_check.specs.Commands.{name_in_c}
+use Rattle.ados_check.specs.declared.arguments.Word.{Word}
+
+-- a word without the quote before it
+abbrev pub without_first : Bytes → Bytes
+without_first [] = []
+without_first (c ∷ cs) = if c == 34 then cs else c ∷ cs
+
+-- without the one after it
+abbrev pub without_last : Bytes → Bytes
+without_last word = if slice_index word (length word - 1) == 34 then take (length word - 1) word else word
+
+abbrev pub unquoted : Bytes → Bytes
+unquoted word = without_last (without_first word)
+
+-- the name of a command, as a word has it: there may be quotes, and a path to C: before it
+abbrev pub name_in : Bytes → Bytes
+name_in word = name_in_c (unquoted word)
+
+-- that of the first word of an alias's text, or otherwise of the word itself
+abbrev pub name_by : Bytes → Option Text → Bytes
+name_by word None = name_in word
+name_by word (Some text) = name_in (first_word (trimmed_text text))
+
+-- the name of the command for which a word of a line stands
+abbrev pub command_name : Pairs → Bytes → Word → Bytes
+command_name aliases line word = let written = bytes_between line word.from word.to in name_by written (value_in aliases (map to_ascii written))
+
+-- how many words after one are passed over with it: none after Run, one after Alias; any other name is that of the command
+abbrev pub lead_by : Bytes → Option ℕ
+lead_by name = if is_same name (codes "Run") then Some 0 else (if is_same name (codes "Alias") then Some 1 else None)
+
+abbrev pub lead_of : Pairs → Bytes → Word → Option ℕ
+lead_of aliases line word = lead_by (command_name aliases line word)
+
+-- the same where so many words are passed over
+abbrev pub lead_after : (Word → Option ℕ) → ℕ → Word → Option ℕ
+lead_after lead zero word = lead word
+lead_after lead (suc further) word = Some further
+
+-- the words from one on, if it is the command; otherwise `next` gives them
+abbrev pub from_word : (ℕ → List Word) → List Word → Option ℕ → List Word
+from_word next words None = words
+from_word next words (Some further) = next further
+
+-- words from that of the command on
+abbrev pub from_command : (Word → Option ℕ) → ℕ → List Word → List Word
+from_command lead further [] = []
+from_command lead further (word ∷ words) = from_word (λ next. from_command lead next words) (word ∷ words) (lead_after lead further word)
