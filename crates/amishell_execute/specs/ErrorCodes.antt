@@ -1,7 +1,15 @@
 -- The code that a program has at least where it fails.
-use Rattle.std.specs.Prelude.{ℕ, if◌then◌else◌, ◌&&◌, nat_lt}
+use Rattle.std.specs.Prelude.{ℕ, List, find, if◌then◌else◌, ◌&&◌, nat_lt, reverse}
+use Rattle.std.specs.Option.{option_map_or}
+use Rattle.std.specs.Str.{bytes_eq}
+use Rattle.ados_text.specs.Text.{Text}
 use Rattle.ados_machine.specs.declared.answers.Answer.{Answer}
 use Rattle.ados_machine.specs.declared.answers.Answer.TheVariants.{Exit}
+use Rattle.amishell_execute.specs.declared.error_codes.ErrorCode.{ErrorCode}
+
+-- the code that a program has at least where it fails: what was given last for it, or 0
+abbrev pub least_code : List ErrorCode → Text → ℕ
+least_code codes program = option_map_or (λ code. code.least) 0 (find (λ code. bytes_eq code.program program) (reverse codes))
 
 -- an exit status but 0 is at least this one; every other answer stays
 abbrev pub raised : ℕ → Answer → Answer

@@ -1,6 +1,6 @@
 //! `--error`: the code that a command of the host has at least where it fails.
 ghost use Rattle.std.specs.Prelude.{◌≡◌};
-ghost use Rattle.amishell_execute.specs.ErrorCodes.{raised};
+ghost use Rattle.amishell_execute.specs.ErrorCodes.{least_code, raised};
 
 use crate::faults::Fault;
 use ados_machine::Answer;
@@ -59,7 +59,9 @@ fn bad_words(alloc: Global, words: &str, reason: &str) -> Fault {
 }
 
 /// The code that a program has at least where it fails; 0 if none is given.
-pub fn least_code(codes: &[ErrorCode], program: &Text) -> u8 {
+pub fn least_code(codes: &[ErrorCode], program: &Text) -> u8
+    ensures { result ≡ least_code codes.now program.now }
+{
     let found = codes
         .iter()
         .rev()

@@ -1,5 +1,6 @@
 //! Why the program ends with a line on standard error.
 ghost use Rattle.std.specs.Prelude.{◌≡◌};
+ghost use Rattle.amishell_execute.specs.Status.{number_of, status_of_fault};
 ghost use Rattle.amishell_execute.specs.declared.faults.Fault.TheVariants.{Drive, Memory};
 
 use crate::status::Status;
@@ -82,13 +83,15 @@ pub enum Fault {
 
 impl Fault {
     /// The exit status after it.
-    pub fn status(&self) -> Status {
+    pub fn status(&self) -> Status
+        ensures { number_of result ≡ status_of_fault self.now }
+    {
         match self {
             Fault::BadLine(_) | Fault::HostWords(_) | Fault::ManyHosts | Fault::OwnName => {
                 Status::BadLine
             }
             Fault::ScriptUnread(_) | Fault::NotInPath(_) => Status::Unreadable,
-            Fault::Turns(_) | Fault::Seconds(_) => Status::Limit,
+            Fault::Drive(DriveFault::Turns) | Fault::Turns(_) | Fault::Seconds(_) => Status::Limit,
             _ => Status::Failed,
         }
     }
@@ -121,6 +124,8 @@ impl From<NoMemory> for Fault {
 }
 
 impl<T: Drop> From<AllocFailed<T>> for Fault {
+    ghost from_gives = { λ _e why. why ≡ Memory };
+
     fn from(_e: AllocFailed<T>) -> Fault {
         Fault::Memory
     }
