@@ -8,7 +8,7 @@ use crate::faults::{Fault, report};
 use crate::origins::Origins;
 use crate::status::Status;
 use ados_flow::Frame;
-use ados_launch::{DriveFault, End};
+use ados_launch::End;
 use ados_text::NoMemory;
 use ados_trace::{ScriptNames, script_name};
 use ados_world::World;
@@ -27,18 +27,34 @@ pub fn status_after<R: AllocGlobal + Eprint>(
     ensures status { IfOk result (λ status. number_of status ≡ status_of_run options.now.least ended) }
     ensures fault { IfErr result (λ fault. fault ≢ Memory → status_of_fault fault ≡ status_of_run options.now.least ended) }
 {
-    let fault = match ended {
-        Ok(end) => return Ok(Status::of_code(end.code, options.least)),
-        Err(Fault::Drive(DriveFault::Turns)) => Fault::Turns(options.turns),
-        Err(fault) => fault,
+    match ended {
+        Ok(end) => Ok(Status::of_code(end.code, options.least)),
+        Err(fault) => match fault.status() {
+            Status::Limit => {
+                tell_limit(rt, options, world, origins, fault)?;
+                Ok(Status::Limit)
+            }
+            _ => Err(fault),
+        },
+    }
+}
+
+// Tells that a limit was reached, and where the scripts stand.
+fn tell_limit<R: AllocGlobal + Eprint>(
+    rt: &R,
+    options: &Options<'_>,
+    world: &World,
+    origins: &Origins<'_>,
+    limit: Fault,
+) -> Result<(), NoMemory> {
+    let limit = match limit {
+        Fault::Drive(_) => Fault::Turns(options.turns),
+        limit => limit,
     };
-    if !matches!(fault.status(), Status::Limit) {
-        return Err(fault);
+    if options.quiet || !tell_stands(rt, world, origins, &limit)? {
+        report(rt, &limit);
     }
-    if options.quiet || !tell_stands(rt, world, origins, &fault)? {
-        report(rt, &fault);
-    }
-    Ok(Status::Limit)
+    Ok(())
 }
 
 // Tells for each script that runs, the newest of a shell first, in which line it stands, and why it goes no further; gives whether
