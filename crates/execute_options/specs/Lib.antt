@@ -1,2 +1,4 @@
 pub mod Given
+pub mod Names
+pub mod Numbers
 pub mod OptionLines

@@ -1,7 +1,10 @@
 //! The program's command line, in `clap`'s words.
+ghost use Rattle.std.specs.Prelude.{◌≡◌};
+ghost use Rattle.std.specs.List.{list_any};
+ghost use Rattle.std.specs.Str.{bytes_eq};
+ghost use Rattle.execute_options.specs.Names.{is_option, name_of, options};
 
 use ados_session::VERSION;
-use clap::error::ErrorKind;
 use clap::{Arg, ArgAction, ArgMatches, Command, Error};
 use std::alloc::{AllocError, Global};
 use std::convert::AsStr;
@@ -114,6 +117,58 @@ const NO_CONFIG: &str = "Reads no file of options";
 
 const SCRIPT: &str = "The script, a file of this machine, and its arguments";
 
+// An option.
+#[derive(Clone, Copy)]
+struct Row {
+    // Its name, without `--`.
+    name: &'static str,
+    value: Value,
+    help: &'static str,
+}
+
+// The value of an option.
+#[derive(Clone, Copy)]
+enum Value {
+    // It has none.
+    None,
+    // One, which the help calls so.
+    One(&'static str),
+    // One of these, which the help calls so.
+    OneOf(&'static str, &'static [&'static str]),
+    // One each time that it is given, which the help calls so.
+    Many(&'static str),
+}
+
+// The options, in the order of the help.
+const OPTIONS: [Row; 26] = [
+    Row { name: "core", value: Value::None, help: CORE },
+    Row { name: "hosts", value: Value::One("FILE"), help: HOSTS },
+    Row { name: "host", value: Value::Many("NAME[=PROGRAM]"), help: HOST },
+    Row { name: "common", value: Value::None, help: COMMON },
+    Row { name: "bring", value: Value::Many("PATH[=NAME]"), help: BRING },
+    Row { name: "take", value: Value::Many("NAME[=PATH]"), help: TAKE },
+    Row { name: "type", value: Value::Many("LINE"), help: TYPE },
+    Row { name: "share", value: Value::Many("FOLDER[=PATH]"), help: SHARE },
+    Row { name: "all", value: Value::None, help: ALL },
+    Row { name: "part", value: Value::None, help: PART },
+    Row { name: "dry", value: Value::None, help: DRY },
+    Row { name: "quote", value: Value::None, help: QUOTE },
+    Row { name: "strike", value: Value::None, help: STRIKE },
+    Row { name: "check", value: Value::None, help: CHECK },
+    Row { name: "ascii-marks", value: Value::None, help: ASCII_MARKS },
+    Row { name: "lenient", value: Value::None, help: LENIENT },
+    Row { name: "strict", value: Value::None, help: STRICT },
+    Row { name: "answer", value: Value::OneOf("no", ANSWERS), help: ANSWER },
+    Row { name: "turns", value: Value::One("N"), help: TURNS },
+    Row { name: "seconds", value: Value::One("N"), help: SECONDS },
+    Row { name: "error", value: Value::Many("NAME=CODE"), help: ERROR },
+    Row { name: "ok-below", value: Value::One("N"), help: OK_BELOW },
+    Row { name: "quiet", value: Value::None, help: QUIET },
+    Row { name: "trace", value: Value::None, help: TRACE },
+    Row { name: "config", value: Value::One("FILE"), help: CONFIG },
+    Row { name: "no-config", value: Value::None, help: NO_CONFIG },
+];
+
 /// The matches of the words after the program's name, or `clap`'s error.
 pub fn matches_of_words<'a, S: AsStr>(
     alloc: Global,
@@ -137,70 +192,61 @@ pub fn matches_of_options<'a, S: AsStr>(
     command(alloc)?.try_get_matches_from(options)
 }
 
-/// Whether a word is one of the options, with or without a value.
-pub fn is_option(alloc: Global, word: &str) -> bool {
-    word.starts_with("--")
-        && match matches_of_options(alloc, &[word]) {
-            Ok(_) => true,
-            Err(error) => !matches!(error.kind(), ErrorKind::UnknownArgument),
-        }
+/// Whether a word is one of the options, with or without a value. `clap` itself has the last two.
+pub fn is_option(word: &str) -> bool
+    ensures { result ≡ is_option word.now }
+{
+    let name = name_of(word);
+    match name.as_bytes() {
+        [b'-', b'-', name @ ..] if has_row(name) => true,
+        _ => matches!(name, "--help" | "--version"),
+    }
+}
+
+/// The name of an option, as it is typed: what stands before `=`.
+pub fn name_of(word: &str) -> &str
+    ensures { result.now ≡ name_of word.now }
+{
+    match word.split_once('=') {
+        Some((name, _)) => name,
+        None => word,
+    }
+}
+
+// An option of this name is in the table.
+fn has_row(name: &[u8]) -> bool
+    ensures { result ≡ list_any (λ option. bytes_eq option name.now) options }
+{
+    OPTIONS.iter().any(|option| option.name.as_bytes() == name)
 }
 
 // `amishell-execute` with its options.
 fn command<'a>(alloc: Global) -> Result<Command<'a>, AllocError> {
-    Command::new(alloc, "amishell-execute")
+    let mut command = Command::new(alloc, "amishell-execute")
         .about(ABOUT)
         .version(VERSION)
         .after_help(MORE)
         .no_binary_name(true)
         .bin_name("amishell-execute")?
-        .override_usage(USAGE)
-        .arg(flag(alloc, "core", CORE))?
-        .arg(text_option(alloc, "hosts", "FILE", HOSTS))?
-        .arg(list_option(alloc, "host", "NAME[=PROGRAM]", HOST))?
-        .arg(flag(alloc, "common", COMMON))?
-        .arg(list_option(alloc, "bring", "PATH[=NAME]", BRING))?
-        .arg(list_option(alloc, "take", "NAME[=PATH]", TAKE))?
-        .arg(list_option(alloc, "type", "LINE", TYPE))?
-        .arg(list_option(alloc, "share", "FOLDER[=PATH]", SHARE))?
-        .arg(flag(alloc, "all", ALL))?
-        .arg(flag(alloc, "part", PART))?
-        .arg(flag(alloc, "dry", DRY))?
-        .arg(flag(alloc, "quote", QUOTE))?
-        .arg(flag(alloc, "strike", STRIKE))?
-        .arg(flag(alloc, "check", CHECK))?
-        .arg(flag(alloc, "ascii-marks", ASCII_MARKS))?
-        .arg(flag(alloc, "lenient", LENIENT))?
-        .arg(flag(alloc, "strict", STRICT))?
-        .arg(text_option(alloc, "answer", "no", ANSWER).value_parser(ANSWERS))?
-        .arg(text_option(alloc, "turns", "N", TURNS))?
-        .arg(text_option(alloc, "seconds", "N", SECONDS))?
-        .arg(list_option(alloc, "error", "NAME=CODE", ERROR))?
-        .arg(text_option(alloc, "ok-below", "N", OK_BELOW))?
-        .arg(flag(alloc, "quiet", QUIET))?
-        .arg(flag(alloc, "trace", TRACE))?
-        .arg(text_option(alloc, "config", "FILE", CONFIG))?
-        .arg(flag(alloc, "no-config", NO_CONFIG))
+        .override_usage(USAGE);
+    for option in &OPTIONS {
+        command = command.arg(option.arg(alloc))?;
+    }
+    Ok(command)
 }
 
-// An option with a value.
-fn text_option<'a>(alloc: Global, name: &'a str, value: &'a str, help: &'a str) -> Arg<'a> {
-    Arg::new(alloc, name)
-        .long(name)
-        .value_name(value)
-        .help(help)
-        .action(ArgAction::Set)
-}
-
-// An option with a value, which may be given again.
-fn list_option<'a>(alloc: Global, name: &'a str, value: &'a str, help: &'a str) -> Arg<'a> {
-    text_option(alloc, name, value, help).action(ArgAction::Append)
-}
-
-// An option without a value.
-fn flag<'a>(alloc: Global, name: &'a str, help: &'a str) -> Arg<'a> {
-    Arg::new(alloc, name)
-        .long(name)
-        .help(help)
-        .action(ArgAction::SetTrue)
+impl Row {
+    // The option of this row.
+    fn arg<'a>(&self, alloc: Global) -> Arg<'a> {
+        let arg = Arg::new(alloc, self.name).long(self.name).help(self.help);
+        match self.value {
+            Value::None => arg.action(ArgAction::SetTrue),
+            Value::One(name) => arg.value_name(name).action(ArgAction::Set),
+            Value::OneOf(name, values) => arg
+                .value_name(name)
+                .value_parser(values)
+                .action(ArgAction::Set),
+            Value::Many(name) => arg.value_name(name).action(ArgAction::Append),
+        }
+    }
 }

@@ -1,9 +1,10 @@
 //! The file of options: which one is read, and what is wrong with its lines.
-ghost use Rattle.std.specs.Prelude.{◌≡◌, IfOk, option_map, string_bytes};
+ghost use Rattle.std.specs.Prelude.{◌≡◌, IfOk, is_ok, option_map, string_bytes};
 ghost use Rattle.ados_transfer.specs.Paths.{path_in};
+ghost use Rattle.execute_options.specs.Names.{is_typed_alone, may_stand_in_file};
 ghost use Rattle.execute_options.specs.OptionLines.{absolute, default_path};
 
-use crate::command::matches_of_options;
+use crate::command::{matches_of_options, name_of};
 use crate::faults::OptionsFault;
 use crate::mistakes::{bad_line, refusal};
 use crate::numbers::Numbers;
@@ -25,9 +26,6 @@ const CONFIG_BYTES: usize = 65_536;
 
 // The file of the person who runs the program, in the folder of such files.
 const DEFAULT: &str = "amishell/options";
-
-// The options that only the command line may have.
-const TYPED_ALONE: [&str; 5] = ["--check", "--config", "--help", "--no-config", "--version"];
 
 /// The options of a file.
 #[derive(Drop)]
@@ -139,18 +137,24 @@ fn matches_of(alloc: Global, options: &[OptionLine]) -> Result<ArgMatches<'_>, R
 }
 
 // Checks that a word is an option, and none that only the command line may have.
-fn check_name(alloc: Global, word: &str) -> Result<(), Refused> {
-    let name = match word.split_once('=') {
-        Some((name, _)) => name,
-        None => word,
-    };
-    if !name.starts_with("--") || name.len() == 2 {
+fn check_name(alloc: Global, word: &str) -> Result<(), Refused>
+    ensures { is_ok result ≡ may_stand_in_file word.now }
+{
+    let name = name_of(word);
+    if !name.as_bytes().starts_with(b"--") || name.len() == 2 {
         return Err(bad_line(format!(in alloc; "{word}: not an option")));
     }
-    if TYPED_ALONE.iter().any(|typed| *typed == name) {
+    if is_typed_alone(name) {
         return Err(bad_line(format!(in alloc; "{name} can only be typed")));
     }
     Ok(())
+}
+
+// Only the command line may have the option.
+fn is_typed_alone(name: &str) -> bool
+    ensures { result ≡ is_typed_alone name.now }
+{
+    matches!(name, "--check" | "--config" | "--help" | "--no-config" | "--version")
 }
 
 // The path of the file of the person who runs the program, by the values of XDG_CONFIG_HOME and HOME. One that is not absolute counts

@@ -62,7 +62,7 @@ fn refuse_late_options<'a>(
     typed: ArgMatches<'a>,
 ) -> Result<ArgMatches<'a>, Refused> {
     let words = typed.get_strs("script").unwrap_or(&[]);
-    match words.iter().skip(1).find(|word| is_option(alloc, word)) {
+    match words.iter().skip(1).find(|word| is_option(word)) {
         None => Ok(typed),
         Some(word) => Err(bad_line(format!(in alloc;
             "{word} comes before SCRIPT (-- before SCRIPT gives it to the script)"
