@@ -1,6 +1,6 @@
 -- Words of a list that are kept, or found, as they are shown.
-use Rattle.std.proofs.Common.{◌≡◌, ◌∙◌, Bool, true, false, cond, List, [], ◌∷◌, map, Bor, Result, Ok, Err, refl, ap}
-use Rattle.std.specs.Prelude.{◌||◌, IfOk, Vec, filter, vec_items}
+use Rattle.std.proofs.Common.{◌≡◌, ◌∙◌, Bool, true, false, cond, List, [], ◌∷◌, map, Bor, Option, Some, None, Result, Ok, Err, refl, sym, ap}
+use Rattle.std.specs.Prelude.{◌||◌, IfOk, Vec, filter, find, option_map, vec_items}
 use Rattle.std.specs.List.{list_any}
 use Rattle.ados_text.specs.Text.{Bytes}
 
@@ -24,3 +24,19 @@ pub words_kept : {Z E : Type 0} (result : Result (Vec (Bor Bytes) Z) E) (p : Byt
     → IfOk result (λ kept. map (λ x. x.now) (vec_items kept) ≡ filter p (map (λ x. x.now) xs))
 words_kept (Ok kept) p xs e = ap (map (λ x. x.now)) e ∙ map-filter p (λ x. x.now) xs
 words_kept (Err why) p xs e = tt
+
+found-first : {A B : Type 0} (b : Bool) (f : A → B) (x : A) (found : Option A) (other : Option B) → other ≡ option_map f found → cond b (Some (f x)) other ≡ option_map f (cond b (Some x) found)
+found-first true f x found other e = refl
+found-first false f x found other e = e
+
+find-map : {A B : Type 0} (p : B → Bool) (f : A → B) (xs : List A) → find p (map f xs) ≡ option_map f (find (λ x. p (f x)) xs)
+find-map p f [] = refl
+find-map p f (x ∷ xs) = found-first (p (f x)) f x (find (λ x. p (f x)) xs) (find p (map f xs)) (find-map p f xs)
+
+same-option : {A : Type 0} (o : Option A) → o ≡ option_map (λ x. x) o
+same-option None = refl
+same-option (Some x) = refl
+
+pub find_shown : (p : Bytes → Bool) (xs : List (Bor Bytes)) (result : Option (Bor Bytes)) → option_map (λ x. x) result ≡ find (λ x. p x.now) xs
+    → option_map (λ x. x.now) result ≡ find p (map (λ x. x.now) xs)
+find_shown p xs result e = ap (option_map (λ x. x.now)) (same-option result ∙ e) ∙ sym (find-map p (λ x. x.now) xs)

@@ -1,3 +1,4 @@
+pub mod Config
 pub mod Given
 pub mod Names
 pub mod Numbers

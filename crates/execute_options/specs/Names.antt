@@ -1,5 +1,5 @@
 -- The names of options.
-use Rattle.std.specs.Prelude.{List, [], ◌∷◌, Bool, codes, drop, length, not, ◌==◌, ◌&&◌, ◌||◌}
+use Rattle.std.specs.Prelude.{List, [], ◌∷◌, Bool, Option, codes, drop, find, length, not, ◌==◌, ◌&&◌, ◌||◌}
 use Rattle.std.specs.List.{before_first, list_any, starts_with}
 use Rattle.std.specs.Str.{bytes_eq}
 use Rattle.ados_text.specs.Text.{Bytes}
@@ -24,6 +24,10 @@ abbrev pub is_option : Bytes → Bool
 is_option word =
     (starts_with ◌==◌ (name_of word) (codes "--") && list_any (λ option. bytes_eq option (drop 2 (name_of word))) options)
     || bytes_eq (name_of word) (codes "--help") || bytes_eq (name_of word) (codes "--version")
+
+-- the first option among the arguments of a script, which is the first of some words
+abbrev pub late_option : List Bytes → Option Bytes
+late_option words = find is_option (drop 1 words)
 
 -- an option that only the command line may have
 abbrev pub is_typed_alone : Bytes → Bool

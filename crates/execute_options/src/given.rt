@@ -81,8 +81,8 @@ impl<'a> Given<'a> {
     }
 }
 
-// Whether an option without a value is among those that `clap` found.
-fn has_flag(found: &ArgMatches<'_>, name: &str) -> bool
+/// Whether an option without a value is among those that `clap` found.
+pub fn has_flag(found: &ArgMatches<'_>, name: &str) -> bool
     ensures given { IsFlagOf (found_of found.now) name.now → result ≡ true }
     ensures left_out { IsLeftOutOf (found_of found.now) name.now → result ≡ false }
 {
