@@ -179,9 +179,7 @@ fn run_script<
 }
 
 // Runs the script. If there are names for the scripts here, each command is told before what it prints.
-fn play_watched<
-    R: AllocGlobal + Files + Input + Print + Eprint + Processes + Clone + Drop + Clock,
->(
+fn play_watched<R: AllocGlobal + Files + Input + Print + Eprint + Processes + Clone + Drop + Clock>(
     rt: &R,
     world: &mut World,
     script: Script<'_>,

@@ -38,7 +38,11 @@ impl Outcome {
             report_lacking(rt, code)?;
             return Ok(Status::Failed);
         }
-        Ok(if self.is_taken { status } else { Status::Failed })
+        if self.is_taken {
+            Ok(status)
+        } else {
+            Ok(Status::Failed)
+        }
     }
 }
 

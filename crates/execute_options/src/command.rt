@@ -1,5 +1,5 @@
 //! The program's command line, in `clap`'s words.
-ghost use Rattle.std.specs.Prelude.{◌≡◌};
+ghost use Rattle.std.specs.Prelude.{◌≡◌, drop};
 ghost use Rattle.std.specs.List.{list_any};
 ghost use Rattle.std.specs.Str.{bytes_eq};
 ghost use Rattle.execute_options.specs.Names.{is_option, name_of, options};
@@ -141,32 +141,136 @@ enum Value {
 
 // The options, in the order of the help.
 const OPTIONS: [Row; 26] = [
-    Row { name: "core", value: Value::None, help: CORE },
-    Row { name: "hosts", value: Value::One("FILE"), help: HOSTS },
-    Row { name: "host", value: Value::Many("NAME[=PROGRAM]"), help: HOST },
-    Row { name: "common", value: Value::None, help: COMMON },
-    Row { name: "bring", value: Value::Many("PATH[=NAME]"), help: BRING },
-    Row { name: "take", value: Value::Many("NAME[=PATH]"), help: TAKE },
-    Row { name: "type", value: Value::Many("LINE"), help: TYPE },
-    Row { name: "share", value: Value::Many("FOLDER[=PATH]"), help: SHARE },
-    Row { name: "all", value: Value::None, help: ALL },
-    Row { name: "part", value: Value::None, help: PART },
-    Row { name: "dry", value: Value::None, help: DRY },
-    Row { name: "quote", value: Value::None, help: QUOTE },
-    Row { name: "strike", value: Value::None, help: STRIKE },
-    Row { name: "check", value: Value::None, help: CHECK },
-    Row { name: "ascii-marks", value: Value::None, help: ASCII_MARKS },
-    Row { name: "lenient", value: Value::None, help: LENIENT },
-    Row { name: "strict", value: Value::None, help: STRICT },
-    Row { name: "answer", value: Value::OneOf("no", ANSWERS), help: ANSWER },
-    Row { name: "turns", value: Value::One("N"), help: TURNS },
-    Row { name: "seconds", value: Value::One("N"), help: SECONDS },
-    Row { name: "error", value: Value::Many("NAME=CODE"), help: ERROR },
-    Row { name: "ok-below", value: Value::One("N"), help: OK_BELOW },
-    Row { name: "quiet", value: Value::None, help: QUIET },
-    Row { name: "trace", value: Value::None, help: TRACE },
-    Row { name: "config", value: Value::One("FILE"), help: CONFIG },
-    Row { name: "no-config", value: Value::None, help: NO_CONFIG },
+    Row {
+        name: "core",
+        value: Value::None,
+        help: CORE,
+    },
+    Row {
+        name: "hosts",
+        value: Value::One("FILE"),
+        help: HOSTS,
+    },
+    Row {
+        name: "host",
+        value: Value::Many("NAME[=PROGRAM]"),
+        help: HOST,
+    },
+    Row {
+        name: "common",
+        value: Value::None,
+        help: COMMON,
+    },
+    Row {
+        name: "bring",
+        value: Value::Many("PATH[=NAME]"),
+        help: BRING,
+    },
+    Row {
+        name: "take",
+        value: Value::Many("NAME[=PATH]"),
+        help: TAKE,
+    },
+    Row {
+        name: "type",
+        value: Value::Many("LINE"),
+        help: TYPE,
+    },
+    Row {
+        name: "share",
+        value: Value::Many("FOLDER[=PATH]"),
+        help: SHARE,
+    },
+    Row {
+        name: "all",
+        value: Value::None,
+        help: ALL,
+    },
+    Row {
+        name: "part",
+        value: Value::None,
+        help: PART,
+    },
+    Row {
+        name: "dry",
+        value: Value::None,
+        help: DRY,
+    },
+    Row {
+        name: "quote",
+        value: Value::None,
+        help: QUOTE,
+    },
+    Row {
+        name: "strike",
+        value: Value::None,
+        help: STRIKE,
+    },
+    Row {
+        name: "check",
+        value: Value::None,
+        help: CHECK,
+    },
+    Row {
+        name: "ascii-marks",
+        value: Value::None,
+        help: ASCII_MARKS,
+    },
+    Row {
+        name: "lenient",
+        value: Value::None,
+        help: LENIENT,
+    },
+    Row {
+        name: "strict",
+        value: Value::None,
+        help: STRICT,
+    },
+    Row {
+        name: "answer",
+        value: Value::OneOf("no", ANSWERS),
+        help: ANSWER,
+    },
+    Row {
+        name: "turns",
+        value: Value::One("N"),
+        help: TURNS,
+    },
+    Row {
+        name: "seconds",
+        value: Value::One("N"),
+        help: SECONDS,
+    },
+    Row {
+        name: "error",
+        value: Value::Many("NAME=CODE"),
+        help: ERROR,
+    },
+    Row {
+        name: "ok-below",
+        value: Value::One("N"),
+        help: OK_BELOW,
+    },
+    Row {
+        name: "quiet",
+        value: Value::None,
+        help: QUIET,
+    },
+    Row {
+        name: "trace",
+        value: Value::None,
+        help: TRACE,
+    },
+    Row {
+        name: "config",
+        value: Value::One("FILE"),
+        help: CONFIG,
+    },
+    Row {
+        name: "no-config",
+        value: Value::None,
+        help: NO_CONFIG,
+    },
 ];
 
 /// The matches of the words after the program's name, or `clap`'s error.
@@ -197,10 +301,8 @@ pub fn is_option(word: &str) -> bool
     ensures { result ≡ is_option word.now }
 {
     let name = name_of(word);
-    match name.as_bytes() {
-        [b'-', b'-', name @ ..] if has_row(name) => true,
-        _ => matches!(name, "--help" | "--version"),
-    }
+    name.as_bytes().starts_with(b"--") && has_row(behind_dashes(name))
+        || matches!(name, "--help" | "--version")
 }
 
 /// The name of an option, as it is typed: what stands before `=`.
@@ -213,11 +315,25 @@ pub fn name_of(word: &str) -> &str
     }
 }
 
+// What follows the first two bytes of a name.
+fn behind_dashes(name: &str) -> &[u8]
+    ensures { result.now ≡ drop 2 name.now }
+{
+    name.as_bytes().get(2..).unwrap_or(&[])
+}
+
 // An option of this name is in the table.
 fn has_row(name: &[u8]) -> bool
     ensures { result ≡ list_any (λ option. bytes_eq option name.now) options }
 {
-    OPTIONS.iter().any(|option| option.name.as_bytes() == name)
+    is_name_of(&OPTIONS, name)
+}
+
+// One of these rows has this name.
+fn is_name_of(rows: &[Row], name: &[u8]) -> bool
+    ensures { result ≡ list_any (λ row. bytes_eq row.name.now name.now) rows.now }
+{
+    rows.iter().any(|row| row.name.as_bytes() == name)
 }
 
 // `amishell-execute` with its options.

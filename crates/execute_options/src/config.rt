@@ -181,7 +181,10 @@ fn check_name(alloc: Global, word: &str) -> Result<(), Refused>
 fn is_typed_alone(name: &str) -> bool
     ensures { result ≡ is_typed_alone name.now }
 {
-    matches!(name, "--check" | "--config" | "--help" | "--no-config" | "--version")
+    matches!(
+        name,
+        "--check" | "--config" | "--help" | "--no-config" | "--version"
+    )
 }
 
 // The path of the file of the person who runs the program, by the values of XDG_CONFIG_HOME and HOME. One that is not absolute counts

@@ -107,9 +107,7 @@ fn hosts_beside<'a>(
 fn is_host_among(others: &[&str], words: &str) -> bool
     ensures { result ≡ is_host_among (map (λ words. words.now) others.now) words.now }
 {
-    others
-        .iter()
-        .any(|other| same_name(host_name(words).as_bytes(), host_name(other).as_bytes()))
+    others.iter().any(|other| same_name(host_name(words).as_bytes(), host_name(other).as_bytes()))
 }
 
 // The command's name in words of `--host`.

@@ -50,10 +50,7 @@ pub fn given_words<R: Env + AllocGlobal>(rt: &R) -> Result<Vec<String>, OptionsF
 ///
 /// `Help` if it answers them with its help or the version; `BadLine` if it finds another fault in them, or if an option comes after
 /// SCRIPT and no word is `--`.
-pub fn typed_matches<'a, S: AsStr>(
-    alloc: Global,
-    words: &'a [S],
-) -> Result<ArgMatches<'a>, Refused>
+pub fn typed_matches<'a, S: AsStr>(alloc: Global, words: &'a [S]) -> Result<ArgMatches<'a>, Refused>
     ensures { IfOk result (λ typed. list_any (λ word. bytes_eq (S.text word) (codes "--")) words.now ≡ false → late_option (values_of (found_of typed) (codes "script")) ≡ None) }
 {
     match matches_of_words(alloc, words) {
@@ -71,12 +68,9 @@ fn has_dashes<S: AsStr>(words: &[S]) -> bool
 }
 
 // An option after SCRIPT would be an argument of the script: `wipe --dry` would delete.
-fn refuse_late_options<'a>(
-    alloc: Global,
-    typed: ArgMatches<'a>,
-) -> Result<ArgMatches<'a>, Refused>
-    ensures late { is_ok result ≡ is_none (late_option (values_of (found_of typed) (codes "script"))) }
-    ensures typed { IfOk result (λ found. found_of found ≡ found_of typed) }
+fn refuse_late_options<'a>(alloc: Global, typed: ArgMatches<'a>) -> Result<ArgMatches<'a>, Refused>
+    ensures late { is_ok result ≡ is_none (late_option (values_of (found_of typed.entry) (codes "script"))) }
+    ensures typed { IfOk result (λ found. found_of found ≡ found_of typed.entry) }
 {
     let late = match typed.get_strs("script") {
         Some([_, args @ ..]) => first_option(args),
