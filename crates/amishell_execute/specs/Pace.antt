@@ -1,5 +1,5 @@
 -- When a shared folder is brought up to date while the script goes on.
-use Rattle.std.specs.Prelude.{ℕ, Bool, true, false, ◌&&◌, ◌==◌, ◌+◌, ◌-◌, ◌*◌, ◌%◌, nat_le, nat_lt, Option, Some, None}
+use Rattle.std.specs.Prelude.{Bool, false, ◌&&◌, ◌==◌, ◌-◌, ◌%◌, nat_le, nat_lt}
 use Rattle.std.specs.Time.{instant_nanos}
 use Rattle.std.specs.declared.time.Instant.{Instant}
 use Rattle.amishell_execute.specs.declared.due.Due.{Due}

@@ -1,5 +1,5 @@
 -- What the command line and a file of options give together.
-use Rattle.std.specs.Prelude.{◌≡◌, ◌⊎◌, ◌++◌, ◌==◌, List, [], Bool, Option, Some, None, codes, filter, length, not, option_map, unwrap_or, if◌then◌else◌}
+use Rattle.std.specs.Prelude.{◌≡◌, ◌⊎◌, ◌++◌, ◌==◌, List, [], Bool, Some, None, codes, filter, length, not, option_map, unwrap_or, if◌then◌else◌}
 use Rattle.std.specs.List.{before_first, list_any}
 use Rattle.clap.specs.Matches.{matched_of, one_text, raw_values}
 use Rattle.clap.specs.declared.parser.matches.Found.{Found}

@@ -1,5 +1,5 @@
 -- The options whose values are numbers.
-use Rattle.std.specs.Prelude.{◌≡◌, ℕ, ℤ, pos, Bool, ◌&&◌, nat_le, Option, Some, None, codes, if◌then◌else◌, is_some, option_and_then}
+use Rattle.std.specs.Prelude.{◌≡◌, ℕ, ℤ, pos, ◌&&◌, nat_le, Option, Some, None, codes, if◌then◌else◌, is_some, option_and_then}
 use Rattle.clap.specs.Matches.{first_value}
 use Rattle.clap.specs.declared.parser.matches.Found.{Found}
 use Rattle.ados_text.specs.Text.{Bytes}

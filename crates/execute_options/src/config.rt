@@ -9,13 +9,14 @@ ghost use Rattle.execute_options.specs.Names.{is_typed_alone, may_stand_in_file}
 ghost use Rattle.execute_options.specs.Numbers.{AreInRange, numbers_of};
 ghost use Rattle.execute_options.specs.OptionLines.{absolute, default_path};
 
-use crate::command::{matches_of_options, name_of};
+use crate::command::matches_of_options;
 use crate::faults::OptionsFault;
 use crate::given::has_flag;
 use crate::mistakes::{bad_line, refusal};
 use crate::numbers::Numbers;
 use crate::option_lines::{OptionLine, options_of};
 use crate::request::Refused;
+use crate::table::name_of;
 use crate::unread::bytes_within;
 use ados_session::FileFault;
 use ados_text::NoMemory;

@@ -7,13 +7,14 @@ ghost use Rattle.execute_options.specs.Given.{values_of};
 ghost use Rattle.execute_options.specs.Names.{is_option, late_option};
 ghost use Rattle.ados_resident.specs.declared.dialects.Dialect.TheVariants.{Core, Full};
 
-use crate::command::{is_option, matches_of_words};
+use crate::command::matches_of_words;
 use crate::config::Config;
 use crate::faults::OptionsFault;
 use crate::given::Given;
 use crate::mistakes::{bad_line, refusal};
 use crate::numbers::Numbers;
 use crate::request::{AtEnd, Options, Refused};
+use crate::table::is_option;
 use ados_find::limits_of;
 use ados_resident::Dialect;
 use ados_transfer::MirrorOptions;

@@ -2,7 +2,7 @@ use Rattle.std.proofs.Common.{rules, tests}
 use Rattle.std.specs.Str.{bytes_eq}
 use Rattle.std.proofs.lemmas.Iterator.{YieldsList-from_slice}
 use Rattle.std.proofs.lemmas.Iterator.Search.{any_from_yields_List}
-use Rattle.execute_options.proofs.command.is_name_of.Goals as goal
+use Rattle.execute_options.proofs.table.is_name_of.Goals as goal
 
 pub returns : goal.returns
 returns c =
