@@ -16,7 +16,7 @@ use std::rt::Files;
 use thiserror::Error;
 
 /// What that line says.
-#[derive(Debug, Drop, Error)]
+#[derive(Debug, Error)]
 pub enum Fault {
     /// The words are not a command line of the program, for this reason.
     #[error("{0}")]
@@ -79,6 +79,35 @@ pub enum Fault {
     /// As many seconds have passed as may, and an event is due.
     #[error("time limit of {0} s reached (--seconds)")]
     Seconds(u64),
+}
+
+// Written out, so that dropping a fault is one step in a proof, and not one for each of its forms.
+impl Drop for Fault {
+    fn drop(self) {
+        match self {
+            Fault::BadLine(_text)
+            | Fault::NoFolder(_text)
+            | Fault::HostWords(_text)
+            | Fault::NotInPath(_text)
+            | Fault::Unanswered(_text)
+            | Fault::NotRun(_text) => {}
+            Fault::CannotRead(_unread) | Fault::ScriptUnread(_unread) => {}
+            Fault::HostLine {
+                file: _file,
+                line: _line,
+                reason: _reason,
+            } => {}
+            Fault::Transfer(_fault) => {}
+            Fault::ManyHosts
+            | Fault::OwnName
+            | Fault::NotBrought
+            | Fault::Memory
+            | Fault::Write
+            | Fault::Drive(_)
+            | Fault::Turns(_)
+            | Fault::Seconds(_) => {}
+        }
+    }
 }
 
 impl Fault {
@@ -149,6 +178,14 @@ pub fn not_brought<R: AllocGlobal + Files>(rt: &R, fault: TransferFault) -> Faul
             rt,
             path.as_str(),
         )),
+        other => Fault::Transfer(other),
+    }
+}
+
+/// The fault of a folder that is not shared.
+pub fn not_shared(fault: TransferFault) -> Fault {
+    match fault {
+        TransferFault::CannotRead(path) => Fault::NoFolder(path),
         other => Fault::Transfer(other),
     }
 }

@@ -37,7 +37,7 @@ use ados_launch::{Counted, End};
 use ados_ram::Place;
 use ados_text::{NoMemory, Text};
 use ados_trace::Traced;
-use ados_transfer::{Lines, Plan, TransferFault, bring, bring_script, taken_place};
+use ados_transfer::{Lines, Plan, bring, bring_script, taken_place};
 use ados_world::World;
 use checks::{Checks, read_checked};
 use deadline::Deadline;
@@ -133,11 +133,8 @@ fn opened<R: Env + AllocGlobal + Files + Clone + Drop + Clock>(
     if options.share.is_empty() {
         return Ok(None);
     }
-    match Share::open(rt, options.share.as_slice(), options.mirror, world) {
-        Ok(share) => Ok(Some(share)),
-        Err(Fault::Transfer(TransferFault::CannotRead(path))) => Err(Fault::NoFolder(path)),
-        Err(fault) => Err(fault),
-    }
+    let share = Share::open(rt, options.share.as_slice(), options.mirror, world)?;
+    Ok(Some(share))
 }
 
 // Runs the script, takes what is asked for, and gives the exit status.

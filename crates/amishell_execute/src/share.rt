@@ -5,7 +5,7 @@ ghost use Rattle.ados_launch.specs.Deeds.{RunsLines};
 
 use crate::alone::run_lines;
 use crate::due::Due;
-use crate::faults::{Fault, report};
+use crate::faults::{Fault, not_shared, report};
 use crate::home::Home;
 use crate::launcher::{Bringer, Start};
 use crate::pace::Pace;
@@ -46,7 +46,10 @@ impl Share {
     {
         let alloc = rt.alloc();
         let home = Home::new(rt)?;
-        let volumes = volumes_of(rt, words, world.files(), world.assigns())?;
+        let volumes = match volumes_of(rt, words, world.files(), world.assigns()) {
+            Ok(volumes) => volumes,
+            Err(fault) => return Err(not_shared(fault)),
+        };
         let mirror = Mirror::new(alloc, volumes, options)?;
         // These lines start no program.
         let mut launcher = Listed::new(Vec::new(alloc));

@@ -47,9 +47,9 @@ fn tell_limit<R: AllocGlobal + Eprint>(
     origins: &Origins<'_>,
     limit: Fault,
 ) -> Result<(), NoMemory> {
-    let limit = match limit {
+    let limit = match &limit {
         Fault::Drive(_) => Fault::Turns(options.turns),
-        limit => limit,
+        _ => limit,
     };
     if options.quiet || !tell_stands(rt, world, origins, &limit)? {
         report(rt, &limit);
