@@ -1,14 +1,13 @@
 -- Frames that are kept, and the scripts among them.
-use Rattle.std.proofs.Common.{ℕ, zero, suc, ◌+◌, ◌-◌, ◌≤◌, ◌≡◌, ◌∙◌, List, [], ◌∷◌, ◌++◌, Bool, true, false, Option, Some, None, length, take, drop, reverse, slice_get, refl, ap, sym, arith}
+use Rattle.std.proofs.Common.{ℕ, zero, suc, ◌-◌, ◌≤◌, ◌≡◌, ◌∙◌, List, [], ◌∷◌, ◌++◌, Option, Some, None, length, drop, reverse, slice_get, refl, ap, sym, arith}
 use Rattle.std.specs.List.{filter_map}
 use Rattle.std.specs.Option.{option_map}
-use Rattle.std.proofs.lemmas.Bool.{both_ways}
 use Rattle.std.proofs.lemmas.List.{drop_all, reverse-append, take_all}
 use Rattle.std.proofs.lemmas.List.Elements.{filter_map-append}
 use Rattle.ados_text.specs.Text.{Text}
 use Rattle.ados_flow.specs.declared.kinds.FrameKind.{FrameKind}
 use Rattle.ados_flow.specs.declared.kinds.FrameKind.TheVariants.{Script, RunCommands, Tick}
-use Rattle.ados_flow.specs.Frames.{FrameState, ScriptLine, kind_script_line, script_line_of}
+use Rattle.ados_flow.specs.Frames.{FrameState, kind_script_line, script_line_of}
 use Rattle.amishell_execute.specs.Ends.{kept_after, script_at, script_of}
 
 append-nil : {X : Type 0} (xs : List X) → xs ++ [] ≡ xs

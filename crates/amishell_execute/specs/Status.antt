@@ -1,5 +1,9 @@
 -- The exit status.
-use Rattle.std.specs.Prelude.{ℕ, ℤ, pos, if◌then◌else◌, nat_lt}
+use Rattle.std.specs.Prelude.{ℕ, ℤ, pos, Result, Ok, Err, if◌then◌else◌, nat_lt}
+use Rattle.ados_launch.specs.declared.driver.End.{End}
+use Rattle.ados_launch.specs.declared.faults.DriveFault.TheVariants.{Turns as TurnsOfDrive}
+use Rattle.amishell_execute.specs.declared.faults.Fault.{Fault}
+use Rattle.amishell_execute.specs.declared.faults.Fault.TheVariants.{BadLine as BadWords, HostWords, ManyHosts, OwnName, ScriptUnread, NotInPath, Turns, Seconds, Drive}
 use Rattle.amishell_execute.specs.declared.status.Status.{Status}
 use Rattle.amishell_execute.specs.declared.status.Status.TheVariants.{Done, Ended, Wrong, BadLine, Limit, Failed, Unreadable}
 
@@ -17,3 +21,27 @@ number_of Unreadable = 126
 abbrev pub status_of : ℕ → ℤ → Status
 status_of least (pos n) = if nat_lt n least then Done else if nat_lt n 256 then Ended n else Failed
 status_of _ _ = Failed
+
+-- that of a fault: 2 if the command line is invalid, 126 if the script cannot be read or a program is not in PATH, 124 at a limit of
+-- events or of seconds, and 125 for any other
+abbrev pub status_of_fault : Fault → ℕ
+status_of_fault (BadWords reason) = 2
+status_of_fault (HostWords reason) = 2
+status_of_fault ManyHosts = 2
+status_of_fault OwnName = 2
+status_of_fault (ScriptUnread unread) = 126
+status_of_fault (NotInPath words) = 126
+status_of_fault (Drive TurnsOfDrive) = 124
+status_of_fault (Turns turns) = 124
+status_of_fault (Seconds seconds) = 124
+status_of_fault fault = 125
+
+-- that of a run: the one of its script's code, or of its fault
+abbrev pub status_of_run : ℕ → Result End Fault → ℕ
+status_of_run least (Ok end) = number_of (status_of least end.code.0)
+status_of_run least (Err fault) = status_of_fault fault
+
+-- what the program exits with, by the status or the fault that is left
+abbrev pub exit_status : Result Status Fault → ℕ
+exit_status (Ok status) = number_of status
+exit_status (Err fault) = status_of_fault fault

@@ -1,5 +1,6 @@
 //! The line on the end of a script.
 ghost use Rattle.std.specs.Prelude.{◌≡◌, ◌||◌, is_some};
+ghost use Rattle.amishell_execute.specs.Ends.{cause_of};
 
 use crate::lost_jumps::LostJump;
 use ados_items::trimmed;
@@ -21,7 +22,8 @@ pub enum Cause {
 
 /// Why an end is told: exactly if it was early or broken, or a jump found nothing.
 pub fn cause_of(report: &EndReport, jump: Option<LostJump>) -> Option<Cause>
-    ensures { is_some result ≡ (report.now.early || report.now.broken || is_some jump) }
+    ensures told { is_some result ≡ (report.now.early || report.now.broken || is_some jump) }
+    ensures cause { result ≡ cause_of report.now jump }
 {
     if report.broken {
         return Some(Cause::Break);

@@ -1,6 +1,6 @@
 //! `--error`: the code that a command of the host has at least where it fails.
-ghost use Rattle.std.specs.Prelude.{◌≡◌};
-ghost use Rattle.amishell_execute.specs.ErrorCodes.{raised};
+ghost use Rattle.std.specs.Prelude.{◌≡◌, option_map};
+ghost use Rattle.amishell_execute.specs.ErrorCodes.{last_code, least_code, raised};
 
 use crate::faults::Fault;
 use ados_machine::Answer;
@@ -59,15 +59,23 @@ fn bad_words(alloc: Global, words: &str, reason: &str) -> Fault {
 }
 
 /// The code that a program has at least where it fails; 0 if none is given.
-pub fn least_code(codes: &[ErrorCode], program: &Text) -> u8 {
-    let found = codes
-        .iter()
-        .rev()
-        .find(|code| code.program.as_bytes() == program.as_bytes());
-    match found {
+pub fn least_code(codes: &[ErrorCode], program: &Text) -> u8
+    ensures { result ≡ least_code codes.now program.now }
+{
+    match last_code(codes, program) {
         Some(code) => code.least,
         None => 0,
     }
+}
+
+// What was given last for a program.
+fn last_code<'a>(codes: &'a [ErrorCode], program: &Text) -> Option<&'a ErrorCode>
+    ensures { option_map (λ code. code.now) result ≡ last_code codes.now program.now }
+{
+    codes
+        .iter()
+        .rev()
+        .find(|code| code.program.as_bytes() == program.as_bytes())
 }
 
 /// The end of a program that has at least this code where it fails.

@@ -1,5 +1,6 @@
 //! Why the program ends with a line on standard error.
 ghost use Rattle.std.specs.Prelude.{◌≡◌};
+ghost use Rattle.amishell_execute.specs.Status.{number_of, status_of_fault};
 ghost use Rattle.amishell_execute.specs.declared.faults.Fault.TheVariants.{Drive, Memory};
 
 use crate::status::Status;
@@ -15,7 +16,7 @@ use std::rt::Files;
 use thiserror::Error;
 
 /// What that line says.
-#[derive(Debug, Drop, Error)]
+#[derive(Debug, Error)]
 pub enum Fault {
     /// The words are not a command line of the program, for this reason.
     #[error("{0}")]
@@ -80,15 +81,46 @@ pub enum Fault {
     Seconds(u64),
 }
 
+// Written out, so that dropping a fault is one step in a proof, and not one for each of its forms.
+impl Drop for Fault {
+    fn drop(self) {
+        match self {
+            Fault::BadLine(_text)
+            | Fault::NoFolder(_text)
+            | Fault::HostWords(_text)
+            | Fault::NotInPath(_text)
+            | Fault::Unanswered(_text)
+            | Fault::NotRun(_text) => {}
+            Fault::CannotRead(_unread) | Fault::ScriptUnread(_unread) => {}
+            Fault::HostLine {
+                file: _file,
+                line: _line,
+                reason: _reason,
+            } => {}
+            Fault::Transfer(_fault) => {}
+            Fault::ManyHosts
+            | Fault::OwnName
+            | Fault::NotBrought
+            | Fault::Memory
+            | Fault::Write
+            | Fault::Drive(_)
+            | Fault::Turns(_)
+            | Fault::Seconds(_) => {}
+        }
+    }
+}
+
 impl Fault {
     /// The exit status after it.
-    pub fn status(&self) -> Status {
+    pub fn status(&self) -> Status
+        ensures { number_of result ≡ status_of_fault self.now }
+    {
         match self {
             Fault::BadLine(_) | Fault::HostWords(_) | Fault::ManyHosts | Fault::OwnName => {
                 Status::BadLine
             }
             Fault::ScriptUnread(_) | Fault::NotInPath(_) => Status::Unreadable,
-            Fault::Turns(_) | Fault::Seconds(_) => Status::Limit,
+            Fault::Drive(DriveFault::Turns) | Fault::Turns(_) | Fault::Seconds(_) => Status::Limit,
             _ => Status::Failed,
         }
     }
@@ -121,6 +153,8 @@ impl From<NoMemory> for Fault {
 }
 
 impl<T: Drop> From<AllocFailed<T>> for Fault {
+    ghost from_gives = { λ _e why. why ≡ Memory };
+
     fn from(_e: AllocFailed<T>) -> Fault {
         Fault::Memory
     }
@@ -144,6 +178,14 @@ pub fn not_brought<R: AllocGlobal + Files>(rt: &R, fault: TransferFault) -> Faul
             rt,
             path.as_str(),
         )),
+        other => Fault::Transfer(other),
+    }
+}
+
+/// The fault of a folder that is not shared.
+pub fn not_shared(fault: TransferFault) -> Fault {
+    match fault {
+        TransferFault::CannotRead(path) => Fault::NoFolder(path),
         other => Fault::Transfer(other),
     }
 }

@@ -1,9 +1,10 @@
 //! The program: one command script of this machine, run by the Shell of AmigaDOS Release 2 in one command.
 #![tactic(auto)]
 
-ghost use Rattle.std.specs.Prelude.{◌≡◌, [], OnOk};
+ghost use Rattle.std.specs.Prelude.{[], OnOk};
 ghost use Rattle.ados_launch.specs.Agreement.{Agrees};
 
+mod alone;
 mod checks;
 mod deadline;
 mod delivery;
@@ -20,6 +21,7 @@ mod launcher;
 mod losses;
 mod lost_jumps;
 mod origins;
+mod outcome;
 mod pace;
 mod play;
 mod reader;
@@ -31,11 +33,11 @@ mod trail;
 mod unanswered;
 mod watched;
 
-use ados_launch::Counted;
+use ados_launch::{Counted, End};
 use ados_ram::Place;
-use ados_text::{Code, Text};
+use ados_text::{NoMemory, Text};
 use ados_trace::Traced;
-use ados_transfer::{Lines, Plan, TransferFault, bring, bring_script, take, taken_place};
+use ados_transfer::{Lines, Plan, bring, bring_script, taken_place};
 use ados_world::World;
 use checks::{Checks, read_checked};
 use deadline::Deadline;
@@ -47,6 +49,7 @@ use hosts::{hosts_for, world_with};
 use inspections::inspect_all;
 use losses::{Kept, tell_losses};
 use origins::Origins;
+use outcome::hand_out;
 use play::{Script, play};
 use share::Share;
 use stands::status_after;
@@ -130,11 +133,8 @@ fn opened<R: Env + AllocGlobal + Files + Clone + Drop + Clock>(
     if options.share.is_empty() {
         return Ok(None);
     }
-    match Share::open(rt, options.share.as_slice(), options.mirror, world) {
-        Ok(share) => Ok(Some(share)),
-        Err(Fault::Transfer(TransferFault::CannotRead(path))) => Err(Fault::NoFolder(path)),
-        Err(fault) => Err(fault),
-    }
+    let share = Share::open(rt, options.share.as_slice(), options.mirror, world)?;
+    Ok(Some(share))
 }
 
 // Runs the script, takes what is asked for, and gives the exit status.
@@ -150,13 +150,10 @@ fn run_script<
     requires agrees { Agrees world.old [] }
 {
     let mut plan = Plan::new(rt.alloc(), options.mirror.limits, world.files())?;
-    let script = add_files(rt, options, world, &mut plan)?;
-    let lines = lines_for(rt, options, share.as_ref(), &plan, &script)?;
-    let mut origins = Origins::new(rt.alloc(), plan.planned());
-    if let Some(share) = share.as_ref() {
-        origins.add_shares(rt, options.share.as_slice(), share.volumes())?;
-    }
-    let kept = Kept::new(rt.alloc(), world.files(), plan.planned(), &script)?;
+    let place = add_files(rt, options, world, &mut plan)?;
+    let lines = lines_for(rt, options, share.as_ref(), &plan, &place)?;
+    let origins = origins_of(rt, options, &plan, share.as_ref())?;
+    let kept = Kept::new(rt.alloc(), world.files(), plan.planned(), &place)?;
     let script = Script {
         planned: plan.planned(),
         lines: &lines,
@@ -164,43 +161,57 @@ fn run_script<
         at_end: options.at_end,
         deadline: Deadline::after(rt, options.seconds),
         errors,
-        checks: Checks::new(rt.alloc(), options, &script)?,
+        checks: Checks::new(rt.alloc(), options, &place)?,
+        teller: Teller::new(&origins, options.quiet),
     };
-    let teller = Teller::new(&origins, options.quiet);
-    let trail = Trail::new(rt.alloc())?;
-    let inner = Counted::new(io::writer(rt));
-    let ended = if options.trace {
-        let inner = Traced::new(rt, &origins, inner)?;
-        let mut writer = Watched { inner, trail };
-        play(rt, world, script, teller, share.as_mut(), &mut writer)
-    } else {
-        let mut writer = Watched { inner, trail };
-        play(rt, world, script, teller, share.as_mut(), &mut writer)
-    };
-    let closed = close(rt, world, share.as_mut());
-    // What is to be taken is taken even if the shared folder could not be brought up to date, but not if it did not come in.
-    let has_begun = share.as_ref().is_none_or(Share::is_filled);
-    let is_taken = has_begun && take_all(rt, options, world);
-    let is_alike = closed?;
+    let traced = options.trace.then_some(&origins);
+    let ended = play_watched(rt, world, script, share.as_mut(), traced);
+    let outcome = hand_out(rt, options, world, share.as_mut())?;
     let code = ended.as_ref().ok().map(|end| end.code);
     let status = status_after(rt, options, world, &origins, ended)?;
     if !options.quiet {
         tell_gone(rt, options, world, share.as_ref(), kept)?;
     }
-    if !is_alike {
-        return report_lacking(rt, code);
-    }
-    Ok(if is_taken { status } else { Status::Failed })
+    outcome.status(rt, code, status)
 }
 
-// Reports that a shared folder is not as the script left it, and with which code the script ended, if it did.
-fn report_lacking<R: AllocGlobal + Eprint>(rt: &R, code: Option<Code>) -> Result<Status, Fault> {
-    let mut line = String::from_str(rt.alloc(), "the shared folder and the Shell's files differ")?;
-    if let Some(Code(number)) = code {
-        write!(line, "; the script's code was {number}")?;
+// Runs the script. If there are names for the scripts here, each command is told before what it prints.
+fn play_watched<R: AllocGlobal + Files + Input + Print + Eprint + Processes + Clone + Drop + Clock>(
+    rt: &R,
+    world: &mut World,
+    script: Script<'_>,
+    share: Option<&mut Share>,
+    traced: Option<&Origins<'_>>,
+) -> Result<End, Fault>
+    requires agrees { Agrees world.old [] }
+{
+    let trail = Trail::new(rt.alloc())?;
+    let inner = Counted::new(io::writer(rt));
+    match traced {
+        Some(origins) => {
+            let inner = Traced::new(rt, origins, inner)?;
+            let mut writer = Watched { inner, trail };
+            play(rt, world, script, share, &mut writer)
+        }
+        None => {
+            let mut writer = Watched { inner, trail };
+            play(rt, world, script, share, &mut writer)
+        }
     }
-    report(rt, &line);
-    Ok(Status::Failed)
+}
+
+// By which paths the scripts are named.
+fn origins_of<'a, R: AllocGlobal + Files>(
+    rt: &R,
+    options: &Options<'_>,
+    plan: &'a Plan,
+    share: Option<&Share>,
+) -> Result<Origins<'a>, NoMemory> {
+    let mut origins = Origins::new(rt.alloc(), plan.planned());
+    if let Some(share) = share {
+        origins.add_shares(rt, options.share.as_slice(), share.volumes())?;
+    }
+    Ok(origins)
 }
 
 // Plans what is brought in, the script last, and gives its place.
@@ -241,30 +252,6 @@ fn tell_gone<R: AllocGlobal + Eprint>(
         }
     }
     tell_losses(rt, world.files(), &kept)
-}
-
-// Brings the shared folders up to date, if there are any; gives whether all was done.
-fn close<R: AllocGlobal + Files + Eprint + Clone + Drop + Clock>(
-    rt: &R,
-    world: &World,
-    share: Option<&mut Share>,
-) -> Result<bool, Fault> {
-    match share {
-        Some(share) => share.close(rt, world),
-        None => Ok(true),
-    }
-}
-
-// Takes what is asked for; gives whether all was taken.
-fn take_all<R: AllocGlobal + Files + Eprint>(rt: &R, options: &Options<'_>, world: &World) -> bool {
-    let mut is_taken = true;
-    for words in &options.take {
-        if let Err(fault) = take(rt, world.files(), world.assigns(), words) {
-            report(rt, &fault);
-            is_taken = false;
-        }
-    }
-    is_taken
 }
 
 // The lines of the run.

@@ -1,6 +1,6 @@
 //! The run of a script.
 
-ghost use Rattle.std.specs.Prelude.{◌≡◌, ◌<◌, ◌^◌, ◌-◌, [], true, None, is_none, IfErr, OnOk};
+ghost use Rattle.std.specs.Prelude.{◌≡◌, ◌<◌, ◌^◌, ◌-◌, [], true, false, None, is_none, IfErr, OnOk};
 ghost use Rattle.ados_launch.specs.Agreement.{Agrees, AreOver, IsOpenTable};
 ghost use Rattle.ados_launch.specs.Deeds.{Does, DoesByRule, RunsLines};
 ghost use Rattle.ados_launch.specs.Drives.{Drives, HasDriveResult};
@@ -45,6 +45,8 @@ pub struct Script<'a> {
     pub errors: &'a [ErrorCode],
     /// How it and the scripts that it calls are checked.
     pub checks: Checks<'a>,
+    /// Who tells where they end.
+    pub teller: Teller<'a>,
 }
 
 /// Runs a script in a new world, with standard input for what asks, and writes what it prints.
@@ -59,7 +61,6 @@ pub fn play<R: AllocGlobal + Files + Input + Eprint + Processes + Clone + Drop +
     rt: &R,
     world: &mut World,
     script: Script<'_>,
-    teller: Teller<'_>,
     share: Option<&mut Share>,
     writer: &mut Watched<K>,
 ) -> Result<End, Fault>
@@ -85,7 +86,7 @@ pub fn play<R: AllocGlobal + Files + Input + Eprint + Processes + Clone + Drop +
             rt.reader(),
             script.at_end,
         ),
-        teller,
+        teller: script.teller,
         checks: script.checks,
     };
     let ended = run.drive(world, share, writer);
@@ -162,6 +163,8 @@ impl<R: AllocGlobal + Files + Eprint + Processes + Clone + Drop + Clock, I: Read
         ensures children { IsOpenTable session.new.children self.new.launcher.calls }
         ensures agrees { OnOk result (Agrees world.new self.new.launcher.calls) }
         ensures over { OnOk result (AreOver self.new.launcher.calls) }
+        // At a limit too: what the last event renamed is followed in the shared folder.
+        ensures followed { is_none share.entry ≡ false → session.new.renamed ≡ None }
         ensures drives { is_none share.entry ≡ true → IfDriven result (HasDriveResult self.old.turns []
             (playing_moment K.contents K.faults K.stalls world.old self.old.reader writer.old.inner self.old.launcher)
             (playing_moment K.contents K.faults K.stalls world.new self.new.reader writer.new.inner self.new.launcher)) }
@@ -201,7 +204,7 @@ impl<R: AllocGlobal + Files + Eprint + Processes + Clone + Drop + Clock, I: Read
         ensures children { IsOpenTable session.new.children self.new.launcher.calls }
         ensures agrees { OnOk result (Agrees world.new self.new.launcher.calls) }
         ensures over { OnOk result (AreOver self.new.launcher.calls) }
-        ensures alone { is_none share.old ≡ true → is_none share.new ≡ true }
+        ensures share { is_none share.new ≡ is_none share.old }
         ensures drives { is_none share.old ≡ true → IfDriven result (HasDriveResult self.old.turns []
             (playing_moment K.contents K.faults K.stalls world.old self.old.reader writer.old.inner self.old.launcher)
             (playing_moment K.contents K.faults K.stalls world.new self.new.reader writer.new.inner self.new.launcher)) }
@@ -258,9 +261,10 @@ impl<R: AllocGlobal + Files + Eprint + Processes + Clone + Drop + Clock, I: Read
         ensures schedule { session.new.schedule ≡ session.old.schedule }
         ensures reader { self.new.reader ≡ self.old.reader }
         ensures ran { RunsLines world.old world.new }
+        ensures share { is_none share.new ≡ is_none share.old }
         // Without a shared folder nothing happens.
-        ensures alone { is_none share.old ≡ true → (is_none share.new ≡ true) × (world.new ≡ world.old)
-            × (session.new ≡ session.old) × (self.new.launcher ≡ self.old.launcher) × IfErr result (λ why. drive_fault_of why ≡ None) }
+        ensures alone { is_none share.old ≡ true → (world.new ≡ world.old) × (session.new ≡ session.old)
+            × (self.new.launcher ≡ self.old.launcher) × IfErr result (λ why. drive_fault_of why ≡ None) }
     {
         if let Some(deadline) = &self.deadline {
             deadline.check(self.rt)?;

@@ -1,14 +1,15 @@
 //! Folders of this machine that are shared with the Shell.
-ghost use Rattle.std.specs.Prelude.{◌≡◌, ◌<◌, ◌^◌, ◌-◌, [], None, IsOk, OnOk};
+ghost use Rattle.std.specs.Prelude.{◌≡◌, ◌<◌, ◌^◌, ◌-◌, [], None, OnOk};
 ghost use Rattle.ados_launch.specs.Agreement.{Agrees, IsOpenTable};
 ghost use Rattle.ados_launch.specs.Deeds.{RunsLines};
 
+use crate::alone::run_lines;
 use crate::due::Due;
-use crate::faults::{Fault, report};
+use crate::faults::{Fault, not_shared, report};
 use crate::home::Home;
 use crate::launcher::{Bringer, Start};
 use crate::pace::Pace;
-use ados_launch::{Launcher, Listed, Session, SystemEnd, SystemFault, system};
+use ados_launch::{Listed, Session};
 use ados_share::{Arrival, Mirror, Moment, StartPlace};
 use ados_text::Text;
 use ados_transfer::{MirrorOptions, Volume, push_word, volumes_of};
@@ -18,9 +19,6 @@ use std::io::Eprint;
 use std::process::Processes;
 use std::rt::{Env, Files};
 use std::time::Clock;
-
-// The most events that a line takes which brings something in: the longest file comes in 16,384 pieces.
-const EVENTS: u64 = 16_500;
 
 /// The mirror of the folders, and its state.
 #[derive(Drop)]
@@ -48,7 +46,10 @@ impl Share {
     {
         let alloc = rt.alloc();
         let home = Home::new(rt)?;
-        let volumes = volumes_of(rt, words, world.files(), world.assigns())?;
+        let volumes = match volumes_of(rt, words, world.files(), world.assigns()) {
+            Ok(volumes) => volumes,
+            Err(fault) => return Err(not_shared(fault)),
+        };
         let mirror = Mirror::new(alloc, volumes, options)?;
         // These lines start no program.
         let mut launcher = Listed::new(Vec::new(alloc));
@@ -248,59 +249,4 @@ fn take_in<R: Processes>(
     run_lines(alloc, world, arrival.lines.as_slice(), launcher, session)?;
     launcher.offer(None);
     Ok(arrival)
-}
-
-// Runs lines in order, each alone in a shell of its own.
-fn run_lines<L: Launcher>(
-    alloc: Global,
-    world: &mut World,
-    lines: &[Text],
-    launcher: &mut L,
-    session: &mut Session<'_>,
-) -> Result<(), Fault>
-    requires agrees { Agrees world.old (L.calls launcher.old) }
-    requires children { IsOpenTable session.old.children (L.calls launcher.old) }
-    ensures agrees { OnOk result (Agrees world.new (L.calls launcher.new)) }
-    ensures children { IsOpenTable session.new.children (L.calls launcher.new) }
-    ensures schedule { session.new.schedule ≡ session.old.schedule }
-    ensures held { session.new.held ≡ session.old.held }
-    ensures ran { RunsLines world.old world.new }
-{
-    for line in lines {
-        run_alone(alloc, world, line, launcher, session)?;
-    }
-    Ok(())
-}
-
-// Runs a line alone, whose output is ignored. If no shell is free it is not run. However it ends, the session then knows which
-// programs are open.
-fn run_alone<L: Launcher>(
-    alloc: Global,
-    world: &mut World,
-    line: &Text,
-    launcher: &mut L,
-    session: &mut Session<'_>,
-) -> Result<(), Fault>
-    requires agrees { Agrees world.old (L.calls launcher.old) }
-    ensures agrees { OnOk result (Agrees world.new (L.calls launcher.new)) }
-    ensures children { IsOpenTable session.new.children (L.calls launcher.new) }
-    ensures schedule { session.new.schedule ≡ session.old.schedule }
-    ensures held { session.new.held ≡ session.old.held }
-    ensures ran { RunsLines world.old world.new }
-{
-    let mut printed = Vec::new(alloc);
-    let ran = system(alloc, world, line, launcher, EVENTS, &mut printed);
-    session.look(world, &ran);
-    outcome(&ran)
-}
-
-// The result of a line that ran alone.
-fn outcome(ran: &Result<SystemEnd, SystemFault>) -> Result<(), Fault>
-    ensures { OnOk result (IsOk ran.now) }
-{
-    match ran {
-        Ok(SystemEnd::Ended(_) | SystemEnd::NoShell) => Ok(()),
-        Ok(SystemEnd::StillRunning(_)) => Err(Fault::NotBrought),
-        Err(_) => Err(Fault::Memory),
-    }
 }

@@ -1,47 +1,70 @@
 //! The exit status of a run, and the lines on where the scripts stand when it has to stop.
+ghost use Rattle.std.specs.Prelude.{◌≡◌, ◌≢◌, IfErr, IfOk};
+ghost use Rattle.amishell_execute.specs.Status.{number_of, status_of_fault, status_of_run};
+ghost use Rattle.amishell_execute.specs.declared.faults.Fault.TheVariants.{Memory};
 
 use crate::ends::with_text;
 use crate::faults::{Fault, report};
 use crate::origins::Origins;
 use crate::status::Status;
 use ados_flow::Frame;
-use ados_launch::{DriveFault, End};
+use ados_launch::End;
+use ados_text::NoMemory;
 use ados_trace::{ScriptNames, script_name};
 use ados_world::World;
 use execute_options::Options;
 use std::fmt::Display;
 use std::io::Eprint;
 
-/// The exit status of a run. At a limit the lines say where the scripts stand.
+/// The exit status of a run. At a limit the lines say where the scripts stand; `Memory` if there was none for them.
 pub fn status_after<R: AllocGlobal + Eprint>(
     rt: &R,
     options: &Options<'_>,
     world: &World,
     origins: &Origins<'_>,
     ended: Result<End, Fault>,
-) -> Result<Status, Fault> {
-    let fault = match ended {
-        Ok(end) => return Ok(Status::of_code(end.code, options.least)),
-        Err(Fault::Drive(DriveFault::Turns)) => Fault::Turns(options.turns),
-        Err(fault) => fault,
+) -> Result<Status, Fault>
+    ensures status { IfOk result (λ status. number_of status ≡ status_of_run options.now.least ended) }
+    ensures fault { IfErr result (λ fault. fault ≢ Memory → status_of_fault fault ≡ status_of_run options.now.least ended) }
+{
+    match ended {
+        Ok(end) => Ok(Status::of_code(end.code, options.least)),
+        Err(fault) => match fault.status() {
+            Status::Limit => {
+                tell_limit(rt, options, world, origins, fault)?;
+                Ok(Status::Limit)
+            }
+            _ => Err(fault),
+        },
+    }
+}
+
+// Tells that a limit was reached, and where the scripts stand.
+fn tell_limit<R: AllocGlobal + Eprint>(
+    rt: &R,
+    options: &Options<'_>,
+    world: &World,
+    origins: &Origins<'_>,
+    limit: Fault,
+) -> Result<(), NoMemory> {
+    let limit = match &limit {
+        Fault::Drive(_) => Fault::Turns(options.turns),
+        _ => limit,
     };
-    if fault.status() != Status::Limit {
-        return Err(fault);
+    if options.quiet || !tell_stands(rt, world, origins, &limit)? {
+        report(rt, &limit);
     }
-    if options.quiet || !tell_stands(rt, world, origins, &fault)? {
-        report(rt, &fault);
-    }
-    Ok(Status::Limit)
+    Ok(())
 }
 
 // Tells for each script that runs, the newest of a shell first, in which line it stands, and why it goes no further; gives whether
-/// one runs.
+// one runs.
 fn tell_stands<R: AllocGlobal + Eprint, T: Display>(
     rt: &R,
     world: &World,
     origins: &Origins<'_>,
     why: &T,
-) -> Result<bool, Fault> {
+) -> Result<bool, NoMemory> {
     let mut is_told = false;
     for number in 1..=20 {
         let frames = match world.shell(number) {
@@ -61,7 +84,7 @@ fn tell_stand<R: AllocGlobal + Eprint, T: Display>(
     frame: &Frame,
     origins: &Origins<'_>,
     why: &T,
-) -> Result<bool, Fault> {
+) -> Result<bool, NoMemory> {
     let (Some(name), Some((script, line))) = (script_name(frame), frame.script_line()) else {
         return Ok(false);
     };

@@ -5,7 +5,7 @@ ghost use Rattle.amishell_execute.specs.Status.{number_of, status_of};
 use ados_text::Code;
 
 /// How the program ended, as its caller learns it.
-#[derive(Clone, Copy, PartialEq, Eq, Debug)]
+#[derive(Clone, Copy)]
 pub enum Status {
     /// All that was asked for is done.
     Done,

@@ -1,2 +1,5 @@
+pub mod Config
 pub mod Given
+pub mod Names
+pub mod Numbers
 pub mod OptionLines

@@ -1,14 +1,22 @@
 //! The file of options: which one is read, and what is wrong with its lines.
-ghost use Rattle.std.specs.Prelude.{◌≡◌, IfOk, option_map, string_bytes};
+ghost use Rattle.std.specs.Prelude.{◌≡◌, [], IfOk, IfSome, OnOk, codes, is_ok, option_map, string_bytes, true};
+ghost use Rattle.std.specs.List.{list_all};
+ghost use Rattle.clap.specs.Matches.{first_value, found_of};
 ghost use Rattle.ados_transfer.specs.Paths.{path_in};
+ghost use Rattle.execute_options.specs.Config.{file_of, lines_of};
+ghost use Rattle.execute_options.specs.Given.{IsFlagOf, IsLeftOutOf};
+ghost use Rattle.execute_options.specs.Names.{is_typed_alone, may_stand_in_file};
+ghost use Rattle.execute_options.specs.Numbers.{AreInRange, numbers_of};
 ghost use Rattle.execute_options.specs.OptionLines.{absolute, default_path};
 
 use crate::command::matches_of_options;
 use crate::faults::OptionsFault;
+use crate::given::has_flag;
 use crate::mistakes::{bad_line, refusal};
 use crate::numbers::Numbers;
 use crate::option_lines::{OptionLine, options_of};
 use crate::request::Refused;
+use crate::table::name_of;
 use crate::unread::bytes_within;
 use ados_session::FileFault;
 use ados_text::NoMemory;
@@ -26,9 +34,6 @@ const CONFIG_BYTES: usize = 65_536;
 // The file of the person who runs the program, in the folder of such files.
 const DEFAULT: &str = "amishell/options";
 
-// The options that only the command line may have.
-const TYPED_ALONE: [&str; 5] = ["--check", "--config", "--help", "--no-config", "--version"];
-
 /// The options of a file.
 #[derive(Drop)]
 pub struct Config {
@@ -44,8 +49,11 @@ impl Config {
     pub fn find<R: AllocGlobal + Env + Files>(
         rt: &R,
         typed: &ArgMatches<'_>,
-    ) -> Result<Config, OptionsFault> {
-        if typed.get_flag("no-config") {
+    ) -> Result<Config, OptionsFault>
+        ensures none { IsFlagOf (found_of typed.now) (codes "no-config") → IfOk result (λ config. lines_of config ≡ []) }
+        ensures named { IsLeftOutOf (found_of typed.now) (codes "no-config") → IfOk result (λ config. IfSome (first_value (found_of typed.now) (codes "config")) (λ file. file_of config ≡ file)) }
+    {
+        if has_flag(typed, "no-config") {
             return Ok(Config::empty(rt.alloc()));
         }
         if let Some(file) = typed.get_str("config") {
@@ -62,7 +70,9 @@ impl Config {
     }
 
     // No options.
-    fn empty(alloc: Global) -> Config {
+    fn empty(alloc: Global) -> Config
+        ensures { lines_of result ≡ [] }
+    {
         Config {
             file: String::new(alloc),
             options: Vec::new(alloc),
@@ -81,27 +91,32 @@ impl Config {
     }
 
     // The options of a file.
-    fn read<R: AllocGlobal + Files>(rt: &R, file: &str) -> Result<Config, OptionsFault> {
+    fn read<R: AllocGlobal + Files>(rt: &R, file: &str) -> Result<Config, OptionsFault>
+        ensures { IfOk result (λ config. file_of config ≡ file.now) }
+    {
         let bytes = bytes_within(rt, file, CONFIG_BYTES)?;
-        let mut config = Config::empty(rt.alloc());
-        config.file.push_str(file)?;
         match options_of(rt.alloc(), bytes.as_slice()) {
-            Ok(options) => config.options = options,
+            Ok(options) => Ok(Config {
+                file: String::from_str(rt.alloc(), file)?,
+                options,
+            }),
             Err(FileFault::BadLine(line)) => {
                 let reason = format!(in rt.alloc();
                     "options {file}: line {line}: it is not UTF-8"
                 )?;
-                return Err(OptionsFault::BadLine(reason));
+                Err(OptionsFault::BadLine(reason))
             }
-            Err(FileFault::NoMemory) => return Err(OptionsFault::NoMemory),
+            Err(FileFault::NoMemory) => Err(OptionsFault::NoMemory),
         }
-        Ok(config)
     }
 
     /// What `clap` finds in the options.
     ///
     /// `BadLine` names the first line that is no option, or none that may stand there after those before it.
-    pub fn matches(&self, alloc: Global) -> Result<ArgMatches<'_>, Refused> {
+    pub fn matches(&self, alloc: Global) -> Result<ArgMatches<'_>, Refused>
+        ensures names { OnOk result (list_all (λ line. may_stand_in_file line.word) (lines_of self.now) ≡ true) }
+        ensures range { IfOk result (λ found. AreInRange (found_of found) (numbers_of (found_of found))) }
+    {
         match matches_of(alloc, self.options.as_slice()) {
             Err(Refused::BadLine(_)) => Err(self.first_fault(alloc)),
             found => found,
@@ -126,10 +141,11 @@ impl Config {
 }
 
 // What `clap` finds in options.
-fn matches_of(alloc: Global, options: &[OptionLine]) -> Result<ArgMatches<'_>, Refused> {
-    for option in options {
-        check_name(alloc, option.as_str())?;
-    }
+fn matches_of(alloc: Global, options: &[OptionLine]) -> Result<ArgMatches<'_>, Refused>
+    ensures names { OnOk result (list_all (λ line. may_stand_in_file line.word) options.now ≡ true) }
+    ensures range { IfOk result (λ found. AreInRange (found_of found) (numbers_of (found_of found))) }
+{
+    check_names(alloc, options)?;
     let matches = match matches_of_options(alloc, options) {
         Ok(matches) => matches,
         Err(error) => return Err(refusal(alloc, &error)),
@@ -138,19 +154,38 @@ fn matches_of(alloc: Global, options: &[OptionLine]) -> Result<ArgMatches<'_>, R
     Ok(matches)
 }
 
+// Checks that each word is an option, and none that only the command line may have.
+fn check_names(alloc: Global, options: &[OptionLine]) -> Result<(), Refused>
+    ensures { is_ok result ≡ list_all (λ line. may_stand_in_file line.word) options.now }
+{
+    for option in options {
+        check_name(alloc, option.as_str())?;
+    }
+    Ok(())
+}
+
 // Checks that a word is an option, and none that only the command line may have.
-fn check_name(alloc: Global, word: &str) -> Result<(), Refused> {
-    let name = match word.split_once('=') {
-        Some((name, _)) => name,
-        None => word,
-    };
-    if !name.starts_with("--") || name.len() == 2 {
+fn check_name(alloc: Global, word: &str) -> Result<(), Refused>
+    ensures { is_ok result ≡ may_stand_in_file word.now }
+{
+    let name = name_of(word);
+    if !name.as_bytes().starts_with(b"--") || name.len() == 2 {
         return Err(bad_line(format!(in alloc; "{word}: not an option")));
     }
-    if TYPED_ALONE.iter().any(|typed| *typed == name) {
+    if is_typed_alone(name) {
         return Err(bad_line(format!(in alloc; "{name} can only be typed")));
     }
     Ok(())
+}
+
+// Only the command line may have the option.
+fn is_typed_alone(name: &str) -> bool
+    ensures { result ≡ is_typed_alone name.now }
+{
+    matches!(
+        name,
+        "--check" | "--config" | "--help" | "--no-config" | "--version"
+    )
 }
 
 // The path of the file of the person who runs the program, by the values of XDG_CONFIG_HOME and HOME. One that is not absolute counts

@@ -10,6 +10,7 @@ mod numbers;
 mod option_lines;
 mod reading;
 mod request;
+mod table;
 mod unread;
 
 pub use config::Config;

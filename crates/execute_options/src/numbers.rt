@@ -1,10 +1,12 @@
 //! The options whose values are numbers.
-ghost use Rattle.std.specs.Prelude.{◌≡◌, ◌≤◌, IfSome};
+ghost use Rattle.std.specs.Prelude.{◌≡◌, ◌≤◌, IfOk, IfSome, is_some};
 ghost use Rattle.std.specs.Option.{option_or};
+ghost use Rattle.clap.specs.Matches.{first_value, found_of};
+ghost use Rattle.execute_options.specs.Numbers.{AreInRange, number_given, number_written, numbers_of};
 
 use crate::mistakes::bad_line;
 use crate::request::Refused;
-use ados_text::number;
+use ados_text::bounded_number;
 use clap::ArgMatches;
 use std::alloc::Global;
 
@@ -24,7 +26,10 @@ pub struct Numbers {
 
 impl Numbers {
     /// Those that are given. `BadLine` if one is not in its range.
-    pub fn of(alloc: Global, matches: &ArgMatches<'_>) -> Result<Numbers, Refused> {
+    pub fn of(alloc: Global, matches: &ArgMatches<'_>) -> Result<Numbers, Refused>
+        ensures numbers { IfOk result (λ numbers. numbers ≡ numbers_of (found_of matches.now)) }
+        ensures range { IfOk result (AreInRange (found_of matches.now)) }
+    {
         Ok(Numbers {
             turns: given(alloc, matches, "turns", MOST)?,
             seconds: given(alloc, matches, "seconds", MOST)?,
@@ -53,7 +58,11 @@ fn given(
     matches: &ArgMatches<'_>,
     name: &str,
     most: u64,
-) -> Result<Option<u64>, Refused> {
+) -> Result<Option<u64>, Refused>
+    ensures number { IfOk result (λ number. number ≡ number_given (found_of matches.now) name.now most) }
+    ensures range { IfOk result (λ number. is_some number ≡ is_some (first_value (found_of matches.now) name.now)) }
+    ensures most { IfOk result (λ number. IfSome number (λ number. number ≤ most)) }
+{
     let Some(word) = matches.get_str(name) else {
         return Ok(None);
     };
@@ -65,13 +74,11 @@ fn given(
 
 // The number that a word writes, if it is from 1 to the most that it may be.
 fn number_written(word: &str, most: u64) -> Option<u64>
-    ensures { IfSome result (λ number. number ≤ most) }
+    ensures number { result ≡ number_written most word.now }
+    ensures most { IfSome result (λ number. number ≤ most) }
 {
-    match number(word.as_bytes()) {
-        Ok(number) => match u64::try_from(number) {
-            Ok(number) if 1 <= number && number <= most => Some(number),
-            _ => None,
-        },
-        Err(_) => None,
+    match u64::try_from(bounded_number(word.as_bytes())?) {
+        Ok(number) if 1 <= number && number <= most => Some(number),
+        _ => None,
     }
 }

@@ -1,14 +1,20 @@
 //! What the words after the program's name ask for.
-ghost use Rattle.std.specs.Prelude.{◌≡◌, if◌then◌else◌};
+ghost use Rattle.std.specs.Prelude.{◌≡◌, IfOk, None, codes, false, find, if◌then◌else◌, is_none, is_ok, map, option_map};
+ghost use Rattle.std.specs.List.{list_any};
+ghost use Rattle.std.specs.Str.{bytes_eq};
+ghost use Rattle.clap.specs.Matches.{found_of};
+ghost use Rattle.execute_options.specs.Given.{values_of};
+ghost use Rattle.execute_options.specs.Names.{is_option, late_option};
 ghost use Rattle.ados_resident.specs.declared.dialects.Dialect.TheVariants.{Core, Full};
 
-use crate::command::{is_option, matches_of_words};
+use crate::command::matches_of_words;
 use crate::config::Config;
 use crate::faults::OptionsFault;
 use crate::given::Given;
 use crate::mistakes::{bad_line, refusal};
 use crate::numbers::Numbers;
 use crate::request::{AtEnd, Options, Refused};
+use crate::table::is_option;
 use ados_find::limits_of;
 use ados_resident::Dialect;
 use ados_transfer::MirrorOptions;
@@ -45,29 +51,45 @@ pub fn given_words<R: Env + AllocGlobal>(rt: &R) -> Result<Vec<String>, OptionsF
 ///
 /// `Help` if it answers them with its help or the version; `BadLine` if it finds another fault in them, or if an option comes after
 /// SCRIPT and no word is `--`.
-pub fn typed_matches<'a, S: AsStr>(
-    alloc: Global,
-    words: &'a [S],
-) -> Result<ArgMatches<'a>, Refused> {
+pub fn typed_matches<'a, S: AsStr>(alloc: Global, words: &'a [S]) -> Result<ArgMatches<'a>, Refused>
+    ensures { IfOk result (λ typed. list_any (λ word. bytes_eq (S.text word) (codes "--")) words.now ≡ false → late_option (values_of (found_of typed) (codes "script")) ≡ None) }
+{
     match matches_of_words(alloc, words) {
-        Ok(typed) if words.iter().any(|word| word.as_str() == "--") => Ok(typed),
+        Ok(typed) if has_dashes(words) => Ok(typed),
         Ok(typed) => refuse_late_options(alloc, typed),
         Err(error) => Err(refusal(alloc, &error)),
     }
 }
 
+// A word is `--`.
+fn has_dashes<S: AsStr>(words: &[S]) -> bool
+    ensures { result ≡ list_any (λ word. bytes_eq (S.text word) (codes "--")) words.now }
+{
+    words.iter().any(|word| word.as_str() == "--")
+}
+
 // An option after SCRIPT would be an argument of the script: `wipe --dry` would delete.
-fn refuse_late_options<'a>(
-    alloc: Global,
-    typed: ArgMatches<'a>,
-) -> Result<ArgMatches<'a>, Refused> {
-    let words = typed.get_strs("script").unwrap_or(&[]);
-    match words.iter().skip(1).find(|word| is_option(alloc, word)) {
+fn refuse_late_options<'a>(alloc: Global, typed: ArgMatches<'a>) -> Result<ArgMatches<'a>, Refused>
+    ensures late { is_ok result ≡ is_none (late_option (values_of (found_of typed.entry) (codes "script"))) }
+    ensures typed { IfOk result (λ found. found_of found ≡ found_of typed.entry) }
+{
+    let late = match typed.get_strs("script") {
+        Some([_, args @ ..]) => first_option(args),
+        _ => None,
+    };
+    match late {
         None => Ok(typed),
         Some(word) => Err(bad_line(format!(in alloc;
             "{word} comes before SCRIPT (-- before SCRIPT gives it to the script)"
         ))),
     }
+}
+
+// The first of some words that is an option.
+fn first_option<'a>(words: &[&'a str]) -> Option<&'a str>
+    ensures { option_map (λ word. word.now) result ≡ find is_option (map (λ word. word.now) words.now) }
+{
+    words.iter().copied().find(|word| is_option(word))
 }
 
 /// What a command line asks for with a file of options.

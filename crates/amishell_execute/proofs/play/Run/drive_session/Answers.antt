@@ -14,7 +14,7 @@ loop-init g c = record {
   agrees = c.requires.agrees;
   does = does-none _ _ _ _ refl refl;
   children = c.requires.children;
-  without_share = search rules;
+  share = refl;
   alone = λ none. alone-none _ c.args.session.now refl c.requires.begins c.requires.held c.requires.agrees;
 }
 
@@ -29,13 +29,13 @@ loop-preserved g c =
       agrees = rw c.follow.ensures.launcher c.in_ok-take.ensures.agrees;
       does = does-then false _ _ _ _ _ _ (does-then false _ _ _ _ _ _ i.does (does-lines _ _ _ c.attend.ensures.ran)) c.in_ok-take.ensures.does;
       children = rw c.follow.ensures.launcher c.take.ensures.children;
-      without_share = λ none. (c.attend.ensures.alone (i.without_share none)).0;
+      share = c.attend.ensures.share ∙ i.share;
       alone = λ none.
-          let same = c.attend.ensures.alone (i.without_share none) in
+          let same = c.attend.ensures.alone (i.share ∙ none) in
           alone-same _ _ _ (c.loop.counter + 1) c.take.new.self c.take.new.self
           (rw (c.follow.ensures.launcher, c.follow.ensures.reader) refl) refl
           (alone-step _ _ _ c.loop.counter c.attend.new.session c.take.new.self
-          (alone-same _ _ _ c.loop.counter c.loop.session c.attend.new.session (rw (same.1, same.3, c.attend.ensures.reader) refl) same.2 (i.alone none))
+          (alone-same _ _ _ c.loop.counter c.loop.session c.attend.new.session (rw (same.0, same.2, c.attend.ensures.reader) refl) same.1 (i.alone none))
           t c.take.ensures.stays c.in_ok-take.ensures.agrees c.take.ensures.in_round c.take.ensures.few);
     }
 
@@ -52,7 +52,7 @@ returns-in_err-attend-clause-does g c = does-any _ _ _ _ _ (does-then false _ _ 
 
 pub returns-in_err-attend-clause-drives : goal.returns-in_err-attend-clause-drives
 returns-in_err-attend-clause-drives g c none =
-    undriven c.from_residual.result c.in_err-attend.field-0.0 _ c.from_residual.ensures.1 (c.in_err-attend.ensures.alone (c.loop.invariant.without_share none)).4
+    undriven c.from_residual.result c.in_err-attend.field-0.0 _ c.from_residual.ensures.1 (c.in_err-attend.ensures.alone (c.loop.invariant.share ∙ none)).3
 
 pub returns-in_err-take-clause-does : goal.returns-in_err-take-clause-does
 returns-in_err-take-clause-does g c =
@@ -62,8 +62,8 @@ returns-in_err-take-clause-does g c =
 pub returns-in_err-take-clause-drives : goal.returns-in_err-take-clause-drives
 returns-in_err-take-clause-drives g c none =
     let i = c.loop.invariant in
-    let same = c.attend.ensures.alone (i.without_share none) in
-    let a = alone-same _ _ _ c.loop.counter c.loop.session c.attend.new.session (rw (same.1, same.3, c.attend.ensures.reader) refl) same.2 (i.alone none) in
+    let same = c.attend.ensures.alone (i.share ∙ none) in
+    let a = alone-same _ _ _ c.loop.counter c.loop.session c.attend.new.session (rw (same.0, same.2, c.attend.ensures.reader) refl) same.1 (i.alone none) in
     fault-driven c.from_residual-in_err-take.result c.in_err-take.field-0.0 _ c.from_residual-in_err-take.ensures.1
     (stops-by c.args.self.now.turns c.loop.counter [] _ _ _ c.attend.new.session c.take.new.self a.driven c.loop-test.true a.in_round c.take.ensures.stays c.take.ensures.few
     a.reads a.writes c.in_err-take.field-0.0 c.in_err-take.ensures.takes)
@@ -80,8 +80,8 @@ returns-then-not-branch-clause-over g c =
 pub returns-then-not-branch-clause-drives : goal.returns-then-not-branch-clause-drives
 returns-then-not-branch-clause-drives g c none =
     let i = c.loop.invariant in
-    let same = c.attend.ensures.alone (i.without_share none) in
-    let a = alone-same _ _ _ c.loop.counter c.loop.session c.attend.new.session (rw (same.1, same.3, c.attend.ensures.reader) refl) same.2 (i.alone none) in
+    let same = c.attend.ensures.alone (i.share ∙ none) in
+    let a = alone-same _ _ _ c.loop.counter c.loop.session c.attend.new.session (rw (same.0, same.2, c.attend.ensures.reader) refl) same.1 (i.alone none) in
     let t = nothing-by c.attend.new.session c.take.new.self _ _ c.in_ok-take.field-0 c.if-not-branch.true c.in_ok-take.ensures.takes in
     ends-nothing c.args.self.now.turns c.loop.counter [] _ _ _ c.attend.new.session c.take.new.self c.end.result a.driven t c.loop-test.true a.count
     c.end.ensures.events c.end.ensures.code c.end.ensures.result2 c.end.ensures.shells a.reads a.writes
@@ -108,20 +108,20 @@ returns-clause-drives g c none =
     finish-by c.args.self.now.turns c.loop.counter [] _ _ c.loop.session (Ok c.in_ok-finish.field-0) a.driven (omega arith) a.in_round a.count a.few a.reads a.writes
     c.in_ok-finish.ensures.end c.in_ok-finish.ensures.over c.in_ok-finish.ensures.turns c.in_ok-finish.ensures.only
 
-pub returns-in_err-follow-clause-alone : goal.returns-in_err-follow-clause-alone
-returns-in_err-follow-clause-alone g c none = (c.attend.ensures.alone (c.loop.invariant.without_share none)).0
+pub returns-in_err-follow-clause-share : goal.returns-in_err-follow-clause-share
+returns-in_err-follow-clause-share g c = c.attend.ensures.share ∙ c.loop.invariant.share
 
-pub returns-in_err-attend-clause-alone : goal.returns-in_err-attend-clause-alone
-returns-in_err-attend-clause-alone g c none = (c.attend.ensures.alone (c.loop.invariant.without_share none)).0
+pub returns-in_err-attend-clause-share : goal.returns-in_err-attend-clause-share
+returns-in_err-attend-clause-share g c = c.attend.ensures.share ∙ c.loop.invariant.share
 
-pub returns-in_err-take-clause-alone : goal.returns-in_err-take-clause-alone
-returns-in_err-take-clause-alone g c none = (c.attend.ensures.alone (c.loop.invariant.without_share none)).0
+pub returns-in_err-take-clause-share : goal.returns-in_err-take-clause-share
+returns-in_err-take-clause-share g c = c.attend.ensures.share ∙ c.loop.invariant.share
 
-pub returns-then-not-branch-clause-alone : goal.returns-then-not-branch-clause-alone
-returns-then-not-branch-clause-alone g c none = (c.attend.ensures.alone (c.loop.invariant.without_share none)).0
+pub returns-then-not-branch-clause-share : goal.returns-then-not-branch-clause-share
+returns-then-not-branch-clause-share g c = c.attend.ensures.share ∙ c.loop.invariant.share
 
-pub returns-in_err-finish-clause-alone : goal.returns-in_err-finish-clause-alone
-returns-in_err-finish-clause-alone g c none = c.loop.invariant.without_share none
+pub returns-in_err-finish-clause-share : goal.returns-in_err-finish-clause-share
+returns-in_err-finish-clause-share g c = c.loop.invariant.share
 
-pub returns-clause-alone : goal.returns-clause-alone
-returns-clause-alone g c none = c.loop.invariant.without_share none
+pub returns-clause-share : goal.returns-clause-share
+returns-clause-share g c = c.loop.invariant.share

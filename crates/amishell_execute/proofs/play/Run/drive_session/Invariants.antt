@@ -13,7 +13,7 @@ invariant-loop g l = record {
   agrees : Agrees l.world l.self.launcher.calls;
   does : Does l.fn.world l.world false (g.K.Sink.contents l.fn.writer.inner) (g.K.Sink.contents l.writer.inner);
   children : IsOpenTable l.session.children l.self.launcher.calls;
-  without_share : is_none l.fn.share ≡ true → is_none l.share ≡ true;
+  share : is_none l.share ≡ is_none l.fn.share;
   alone : is_none l.fn.share ≡ true → DrivenAlone
       (playing_moment g.K.Sink.contents g.K.Sink.faults g.K.Sink.stalls l.fn.world l.fn.self.reader l.fn.writer.inner l.fn.self.launcher)
       (playing_moment g.K.Sink.contents g.K.Sink.faults g.K.Sink.stalls l.world l.self.reader l.writer.inner l.self.launcher)

@@ -1,7 +1,7 @@
 use Rattle.std.proofs.Common.{◌≡◌}
 use Rattle.ados_launch.specs.Agreement.{Agrees, IsOpenTable}
 use Rattle.ados_launch.specs.Deeds.{RunsLines}
-use Rattle.amishell_execute.proofs.share.run_lines.Given as goal
+use Rattle.amishell_execute.proofs.alone.run_lines.Given as goal
 
 abbrev pub invariant-loop-line : goal.invariant-loop-line
 invariant-loop-line g l = record {

@@ -1,6 +1,6 @@
 use Rattle.std.proofs.Common.{◌∙◌}
 use Rattle.ados_launch.proofs.Deeding.{lines-then}
-use Rattle.amishell_execute.proofs.share.run_lines.Goals as goal
+use Rattle.amishell_execute.proofs.alone.run_lines.Goals as goal
 
 pub returns-in_err-run_alone-clause-ran : goal.returns-in_err-run_alone-clause-ran
 returns-in_err-run_alone-clause-ran g c =

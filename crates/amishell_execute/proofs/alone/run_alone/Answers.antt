@@ -1,6 +1,6 @@
 use Rattle.ados_launch.proofs.DeedsAlone.{ran-alone}
 use Rattle.amishell_execute.proofs.Ran.{agrees_ran}
-use Rattle.amishell_execute.proofs.share.run_alone.Goals as goal
+use Rattle.amishell_execute.proofs.alone.run_alone.Goals as goal
 
 pub returns-clause-ran : goal.returns-clause-ran
 returns-clause-ran g c =
