@@ -5,6 +5,7 @@ import shutil
 import signal
 import subprocess
 import time
+from collections import Counter
 
 from deeds import BEGIN
 from rooms import FOLDER, Link, look, place
@@ -18,6 +19,11 @@ WRITTEN = re.compile(rb"wrote-(\d+)")
 TEMPORARY = ".amishell-execute."
 # What a run in memory takes.
 MEMORY = ["Work", "Old", "T", "keep"]
+ACT = "sh ../act"
+# A program that starts in the folder tells that it begins, and which files it sees there, with their sizes.
+SEES = r"""if [ ! -e script0 ]; then find . -type f -printf '%f %s\n' >../saw{0} 2>/dev/null; echo began-{0}; fi"""
+LISTED = re.compile(rb"^list-(\d+)\n(.*?)^began-\1$", re.M | re.S)
+FILE = re.compile(rb"^(\S+) +(\d+|empty) [-h]", re.M)
 SHOW = b"""#!/bin/sh
 grep -raohE '[ts][0-9]+x' "$1" 2>/dev/null
 true
@@ -28,6 +34,7 @@ NOT_SHARED = re.compile(rb"taken twice|files and folders, left alone from")
 # The folder, or the script beside what fills the Shell, is not there, cannot be opened or is too large.
 NOT_RUN = re.compile(rb"not a folder|cannot read f\n|does not fit|more than \d+ bytes in all, with script")
 NOT_STARTED = re.compile(rb"^show: ", re.M)
+GAVE_WAY = re.compile(rb"both changed|left alone|since its name|since it is not empty|cannot read|cannot bring in")
 UNWRITTEN = re.compile(rb"both changed|cannot |not written|nothing is written")
 
 
@@ -40,8 +47,9 @@ class Room:
         if plan.limits and plan.limits.is_full:
             os.makedirs(f"{room}/f")
             plan.limits.mount(f"{room}/f", {path: what for path, what in plan.before.items() if path.startswith("f/")})
-        beside = {f"act{number}": "\n".join([f"echo {number} >>../began", BEGIN, *lines]).encode() + b"\n" for number, lines in enumerate(plan.acts)}
-        scripts = {f"script{number}": "".join(f"{line}\n" for line in plan.lines(number)).encode() for number in range(len(plan.scripts))}
+        beside = {f"act{number}": "\n".join([f"echo {number} >>../began", BEGIN, SEES.format(number), *lines]).encode() + b"\n"
+                  for number, lines in enumerate(plan.acts)}
+        scripts = {f"script{number}": "".join(f"{line}\n" for line in self.lines(number)).encode() for number in range(len(plan.scripts))}
         hook = f'#!/bin/sh\ncd "{room}/f"\necho "$1" "$2" >../call\n{BEGIN}{plan.deed}\n'.encode() if plan.deed else b""
         if plan.limits:
             shared = {path: what for path, what in plan.before.items() if path.startswith("f/") and isinstance(what, bytes)}
@@ -51,6 +59,14 @@ class Room:
             plan.limits.give(room)
         self.before, self.states = self.files(), self.look_at_all()
         self.outside = self.beside()
+
+    def lines(self, number):
+        """The lines of a script. Before each program it lists what it has, if that can be compared with what the program sees."""
+        plan = self.plan
+        is_listed = plan.is_alone and not (plan.is_dry or plan.is_compared or plan.deed or "--core" in plan.options)
+        is_listed = is_listed and ("--all" in plan.options or not any(".n" in line for line in plan.lines(number)))
+        return [one for line in plan.lines(number)
+                for one in ([f"Echo list-{line.removeprefix(ACT)}", "List RAM:Work ALL", line] if is_listed and line.startswith(ACT) else [line])]
 
     def beside(self):
         return look(f"{self.room}/out")[0]
@@ -128,7 +144,7 @@ class Room:
             return None if self.look_at_all() == self.states else "a dry run changes the folder"
         self.stands = self.files()
         lost = self.beside_memory() if self.plan.is_compared else self.loss()
-        return lost or self.torn() or self.left() or self.difference() or self.without_a_line()
+        return lost or self.unseen() or self.torn() or self.left() or self.difference() or self.without_a_line()
 
     def close(self):
         """Ends what was mounted."""
@@ -155,6 +171,16 @@ class Room:
             return f"lost without a word: {sorted(lost)}, statuses {self.statuses}"
         if lost and self.is_killed and not TOLD.search(self.told):
             return f"lost by a kill after an update: {sorted(lost)}"
+        return None
+
+    def unseen(self):
+        """Each file that the script has as a program begins the program sees: while the system refuses to write one, none starts. What something else
+        changed, or what is not shared, need not be there."""
+        for number, listed in LISTED.findall(self.said) if not GAVE_WAY.search(self.told) else []:
+            has = Counter(f"{name.decode().lower()} {size.decode()}" for name, size in FILE.findall(listed))
+            unseen = has - Counter(self.read(f"saw{number.decode()}").decode().lower().splitlines())
+            if unseen:
+                return f"program {number.decode()} begins, and does not see what the script has: {sorted(unseen)}"
         return None
 
     def of_scripts(self):

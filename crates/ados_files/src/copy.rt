@@ -8,15 +8,13 @@ ghost use Rattle.ados_find.specs.Shared.{version};
 ghost use Rattle.ados_find.specs.Effects.{effect_of};
 ghost use Rattle.ados_files.specs.Copy.{manner_of, target_directory, copy_to_directory, is_onto, one_entry, copy_found, copy_into_target, copy_row};
 
-use ados_objects::done_with;
-use ados_objects::{is_directory, is_file};
 use crate::copy_one::{Copying, MakingMissing, Manner};
 use crate::jobs::{all_jobs, jobs_onto, sources_of};
-use ados_objects::NamedObjects;
 use crate::options::{COPY_ALL, COPY_CLONE, COPY_COM, COPY_FROM, COPY_NOPRO, COPY_QUIET, COPY_TO};
 use ados_find::{
     Act, Codes, CommandResult, Outcome, Shared, ShellView, Work, current, each, place_of,
 };
+use ados_objects::{NamedObjects, done_with, is_directory, is_file};
 use ados_ram::{Entry, Place, Ram};
 use ados_readargs::Args;
 use ados_text::{NoMemory, Result2, Text};

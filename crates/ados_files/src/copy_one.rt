@@ -9,10 +9,10 @@ ghost use Rattle.ados_find.specs.Done.{done_of, act_on_each};
 ghost use Rattle.ados_find.specs.Shared.{limits_of, version};
 ghost use Rattle.ados_files.specs.Copy.{middle_directories, make_missing, copy_fault, files_unless, new_bits, noted_files, cloned_files, copied_files, copied_fault, written_files, copy_written, copy_unless, copy_entry, copy_one};
 
-use ados_objects::go_on_saying;
 use crate::jobs::Job;
 use crate::make_dir::Making;
 use ados_find::{Act, Codes, Shared, ShellView, Work, current, each};
+use ados_objects::go_on_saying;
 use ados_ram::{Bits, Busy, Entry, Place, Ram};
 use ados_text::{Name, NoMemory, Result2, Stop};
 use std::slice;

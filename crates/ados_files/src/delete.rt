@@ -3,10 +3,9 @@ ghost use Rattle.std.specs.Prelude.{◌≡◌, IfOk};
 ghost use Rattle.ados_find.specs.Effects.{effect_of};
 ghost use Rattle.ados_files.specs.Delete.{delete_manner, delete_one, targets, delete_place, delete_row};
 
-use ados_objects::{done_with_named, go_on_saying};
-use ados_objects::only;
 use crate::options::{DELETE_ALL, DELETE_FILE, DELETE_FORCE, DELETE_QUIET};
 use ados_find::{Act, CommandResult, Shared, ShellView, Work, current, each};
+use ados_objects::{done_with_named, go_on_saying, only};
 use ados_ram::{Place, Ram};
 use ados_readargs::Args;
 use ados_text::NoMemory;

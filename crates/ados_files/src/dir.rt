@@ -5,12 +5,12 @@ ghost use Rattle.ados_find.specs.Effects.{effect_of};
 ghost use Rattle.ados_find.specs.Paths.{Gives};
 ghost use Rattle.ados_files.specs.Dir.{choice_by, choice_of, dir_by, dir_effect, directories_given, dir_row};
 
-use ados_objects::{all_children, entry_at};
 use crate::dir_lines::{Choice, dir_text};
 use crate::letters::{are_letters_of, has_letter, text_or_empty};
 use crate::options::{DIR_ALL, DIR_DIR, DIR_DIRS, DIR_FILES, DIR_INTER, DIR_OPT};
 use ados_assign::Places;
 use ados_find::{Codes, CommandResult, Outcome, Refusal, Shared, ShellView, bases_of};
+use ados_objects::{all_children, entry_at};
 use ados_ram::{Place, list_refusal};
 use ados_readargs::Args;
 use ados_text::{Result2, Text};

@@ -3,10 +3,10 @@ ghost use Rattle.std.specs.Prelude.{◌≡◌, IfOk};
 ghost use Rattle.ados_find.specs.Effects.{effect_of};
 ghost use Rattle.ados_files.specs.Filenote.{comment_given, note_one, note_place, filenote_row};
 
-use ados_objects::{done_with_named, go_on};
 use crate::below::objects_of;
 use crate::options::{FILENOTE_ALL, FILENOTE_COMMENT, FILENOTE_FILE};
 use ados_find::{Act, CommandResult, Shared, ShellView, Work, current, each};
+use ados_objects::{done_with_named, go_on};
 use ados_ram::Place;
 use ados_readargs::Args;
 use ados_text::{NoMemory, Text};

@@ -5,10 +5,10 @@ ghost use Rattle.ados_ram.specs.Place.{key_of};
 ghost use Rattle.ados_ram.specs.Written.{full_path};
 ghost use Rattle.ados_files.specs.SortOrder.{plain_lines};
 
-use ados_objects::{put_between, say_path};
 use crate::parts::stands_in;
 use crate::sort_order::line_len;
 use ados_find::{Shared, ShellView};
+use ados_objects::{put_between, say_path};
 use ados_pattern::Pattern;
 use ados_ram::{Place, Ram};
 use ados_text::{LINE_BYTES, NoMemory, Result2, Text, at_most, fault_text, push_right, without};

@@ -5,8 +5,8 @@ ghost use Rattle.ados_ram.specs.Place.{key_of};
 ghost use Rattle.ados_ram.specs.Written.{written_place};
 ghost use Rattle.ados_find.specs.Paths.{Gives};
 
-use ados_objects::{NamedObjects, named};
 use ados_find::{Lookup, Shared};
+use ados_objects::{NamedObjects, named};
 use ados_ram::{Entry, Place, Ram, push_places};
 use ados_text::{NoMemory, Text};
 use std::alloc::Global;

@@ -4,10 +4,10 @@ ghost use Rattle.ados_find.specs.Done.{done_of};
 ghost use Rattle.ados_find.specs.Effects.{effect_of};
 ghost use Rattle.ados_files.specs.Join.{write_one, write_read, join_to_target, join_row};
 
-use ados_objects::{Paths, at_path, done_with, go_on};
 use crate::options::{JOIN_FILE, JOIN_TO};
 use crate::type_files::{Printing, Typing};
 use ados_find::{Act, CommandResult, Outcome, Shared, ShellView, Work, current, each};
+use ados_objects::{Paths, at_path, done_with, go_on};
 use ados_ram::Place;
 use ados_readargs::Args;
 use ados_text::{NoMemory, Text};

@@ -11,11 +11,8 @@ ghost use Rattle.ados_find.specs.Effects.{effect_of};
 ghost use Rattle.ados_find.specs.Paths.{Gives};
 ghost use Rattle.ados_files.specs.Listing.{entries_of, listed_places, list_text, list_directory, list_texts, pattern_given, depth_of, shape_of, list_printed, list_row};
 
-use ados_objects::done_with;
-use ados_objects::{all_children, entry_at};
 use crate::below::object_count;
 use crate::formats::Format;
-use ados_objects::{NamedObjects, named_bases, pattern_of};
 use crate::options::{
     LIST_ALL, LIST_DIR, LIST_DIRS, LIST_FILES, LIST_LFORMAT, LIST_PAT, LIST_QUICK, LIST_SINCE,
     LIST_SUB, LIST_TO, LIST_UPTO, is_given,
@@ -25,6 +22,7 @@ use crate::spellings::spelled_path;
 use ados_find::{
     Act, Codes, CommandResult, Outcome, Refusal, Shared, ShellView, Work, current, output_to,
 };
+use ados_objects::{NamedObjects, all_children, done_with, entry_at, named_bases, pattern_of};
 use ados_pattern::Pattern;
 use ados_ram::{Place, Ram, list_refusal, push_places};
 use ados_readargs::Args;

@@ -3,9 +3,9 @@ ghost use Rattle.std.specs.Prelude.{◌≡◌, IfOk};
 ghost use Rattle.ados_find.specs.Effects.{effect_of};
 ghost use Rattle.ados_files.specs.MakeDir.{make_one, make_dir_row};
 
-use ados_objects::{Paths, done_with, go_on};
 use crate::options::MAKE_DIR_NAME;
 use ados_find::{Act, CommandResult, Outcome, Shared, ShellView, Work, current};
+use ados_objects::{Paths, done_with, go_on};
 use ados_ram::Place;
 use ados_readargs::Args;
 use ados_text::NoMemory;

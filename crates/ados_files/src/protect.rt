@@ -3,11 +3,11 @@ ghost use Rattle.std.specs.Prelude.{◌≡◌, IfOk};
 ghost use Rattle.std.specs.Option.{option_copied};
 ghost use Rattle.ados_find.specs.Effects.{effect_of};
 
-use ados_objects::{done_with_named, go_on};
 use crate::below::objects_of;
 use crate::letters::{are_letters_of, has_letter, text_or_empty};
 use crate::options::{PROTECT_ADD, PROTECT_ALL, PROTECT_FILE, PROTECT_FLAGS, PROTECT_SUB};
 use ados_find::{Act, Codes, CommandResult, Outcome, Shared, ShellView, Work, current, each};
+use ados_objects::{done_with_named, go_on};
 use ados_ram::{Bits, Entry, Place};
 use ados_readargs::Args;
 use ados_text::{NoMemory, Result2};

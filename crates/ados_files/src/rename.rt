@@ -5,14 +5,13 @@ ghost use Rattle.ados_ram.specs.Place.{key_of};
 ghost use Rattle.ados_find.specs.Effects.{effect_of};
 ghost use Rattle.ados_find.specs.Paths.{Gives};
 
-use ados_objects::is_directory;
 use crate::gather::gather_into;
 use crate::jobs::sources_of;
-use ados_objects::{NamedObjects, named, pattern_of, piece_of};
 use crate::options::{RENAME_FROM, RENAME_TO};
 use ados_find::{
     Codes, CommandResult, Lookup, Outcome, Refusal, Renamed, Shared, ShellView, place_of,
 };
+use ados_objects::{NamedObjects, is_directory, named, pattern_of, piece_of};
 use ados_pattern::Pattern;
 use ados_ram::{Entry, Place, Ram};
 use ados_readargs::Args;

@@ -10,11 +10,11 @@ ghost use Rattle.ados_find.specs.Shared.{SharedState};
 
 use crate::hits::{Hits, Searching, Wanted, search_files};
 use crate::jobs::sources_of;
-use ados_objects::{NamedObjects, only, pattern_of};
 use crate::options::{
     SEARCH_ALL, SEARCH_FILE, SEARCH_FROM, SEARCH_NONUM, SEARCH_PATTERN, SEARCH_QUIET, SEARCH_TEXT,
 };
 use ados_find::{Codes, CommandResult, Lookup, Outcome, Shared, ShellView};
+use ados_objects::{NamedObjects, only, pattern_of};
 use ados_ram::{Place, Ram, push_places};
 use ados_readargs::Args;
 use ados_text::{NoMemory, Result2, Text};

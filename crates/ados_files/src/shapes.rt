@@ -4,8 +4,8 @@ ghost use Rattle.std.specs.List.{flat_map};
 ghost use Rattle.std.specs.Option.{option_copied};
 
 use crate::formats::Format;
-use ados_objects::{Line, keeps, push_line, push_lines};
 use crate::parts::stands_in;
+use ados_objects::{Line, keeps, push_line, push_lines};
 use ados_pattern::Pattern;
 use ados_ram::{Entry, Place, Ram};
 use ados_text::{NoMemory, Text};

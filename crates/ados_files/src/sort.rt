@@ -8,12 +8,12 @@ ghost use Rattle.ados_objects.specs.Acts.{at_path};
 ghost use Rattle.ados_files.specs.TypeFiles.{type_one};
 ghost use Rattle.ados_files.specs.declared.type_files.Printing.TheVariants.{Plain};
 
-use ados_objects::at_path;
 use crate::join::written_to;
 use crate::options::{SORT_CASE, SORT_COLSTART, SORT_FROM, SORT_NUMERIC, SORT_TO};
 use crate::sort_order::{SortOrder, plain_lines, sort_lines};
 use crate::type_files::{Printing, Typing};
 use ados_find::{Codes, CommandResult, Lookup, Outcome, Refusal, Shared, ShellView, Work};
+use ados_objects::at_path;
 use ados_readargs::Args;
 use ados_text::{NoMemory, Octets, Result2, Text};
 use std::alloc::Global;

@@ -2,8 +2,7 @@
 ghost use Rattle.std.specs.Prelude.{◌≡◌, IfOk};
 ghost use Rattle.ados_files.specs.Spellings.{path_inside, path_before, spelled_path};
 
-use ados_objects::entry_at;
-use ados_objects::{NamedObjects, directory_part, piece_of};
+use ados_objects::{NamedObjects, directory_part, entry_at, piece_of};
 use ados_ram::Ram;
 use ados_text::{NoMemory, Text};
 use std::alloc::Global;

@@ -4,7 +4,6 @@ ghost use Rattle.ados_find.specs.Effects.{effect_of};
 ghost use Rattle.ados_find.specs.Paths.{Gives};
 ghost use Rattle.ados_files.specs.TypeFiles.{file_text, type_one, all_text, type_printed, is_asked, printing_by, printing_of, type_by_options, type_row};
 
-use ados_objects::Names;
 use crate::dumps::{numbered, push_hex};
 use crate::letters::{are_letters_of, has_letter, text_or_empty};
 use crate::options::{TYPE_FROM, TYPE_HEX, TYPE_NUMBER, TYPE_OPT, TYPE_TO};
@@ -12,6 +11,7 @@ use ados_find::{
     Act, Codes, CommandResult, Lookup, Outcome, Refusal, Shared, ShellView, Work, current, each,
     output_to,
 };
+use ados_objects::Names;
 use ados_ram::{FileBytes, Place};
 use ados_readargs::Args;
 use ados_text::{NoMemory, Result2, Text};

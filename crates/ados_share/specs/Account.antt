@@ -1,9 +1,10 @@
 -- What one update of the shared folder could not write.
-use Rattle.std.specs.Prelude.{List, [], ◌∷◌, ◌++◌, Bool, false, ◌&&◌, not, ◌==◌, Option, Some, None, if◌then◌else◌, length}
+use Rattle.std.specs.Prelude.{List, [], ◌∷◌, ◌++◌, map, filter, is_err, Bool, false, ◌&&◌, not, ◌==◌, Option, Some, None, if◌then◌else◌, length}
 use Rattle.std.specs.List.{list_any}
 use Rattle.ados_text.specs.Text.{Bytes}
 use Rattle.ados_ram.specs.declared.entries.Body.{Body}
 use Rattle.ados_ram.specs.declared.entries.Body.TheVariants.{Directory, File}
+use Rattle.ados_share.specs.declared.syncs.Attempt.{Attempt}
 use Rattle.ados_share.specs.declared.syncs.FreshFile.{FreshFile}
 use Rattle.ados_transfer.specs.declared.here.Here.{Here}
 use Rattle.ados_transfer.specs.declared.here.Here.TheVariants.{Absent, Directory as Folder, File as Seen, Large, Foreign, Unread}
@@ -26,6 +27,18 @@ with_bytes_of all (File bytes) = all ++ bytes ∷ []
 -- the files that were written and that a power cut may empty, with this one; one without bytes is none of them
 abbrev pub with_fresh : List FreshFile → FreshFile → List FreshFile
 with_fresh all file = if length file.bytes == 0 then all else all ++ file ∷ []
+
+-- the contents of files
+abbrev pub contents_of : List FreshFile → List Bytes
+contents_of files = map (λ file. file.bytes) files
+
+-- the files that were to be brought to the disk
+abbrev pub files_of : List Attempt → List FreshFile
+files_of attempts = map (λ attempt. attempt.file) attempts
+
+-- those of them for which that failed
+abbrev pub failed_files : List Attempt → List FreshFile
+failed_files attempts = files_of (filter (λ attempt. is_err attempt.outcome) attempts)
 
 -- the bytes are not empty, and occur in one of the files that could not be written
 abbrev pub is_in_unwritten : List Bytes → Bytes → Bool

@@ -1,5 +1,5 @@
 -- What is known of the objects of a share, each by its key.
-use Rattle.std.specs.Prelude.{◌≡◌, Bool, false, ◌&&◌, not, Option, String, string_bytes}
+use Rattle.std.specs.Prelude.{◌≡◌, ◌==◌, Bool, true, false, ◌&&◌, not, Option, Some, None, String, length, string_bytes}
 use Rattle.std.specs.BTreeMap.{BTreeMap, get_by_text}
 use Rattle.std.specs.FinMap as map
 use Rattle.std.specs.Map.{update}
@@ -8,6 +8,8 @@ use Rattle.std.specs.Str.{bytes_eq}
 use Rattle.ados_text.specs.Text.{Bytes}
 use Rattle.ados_ram.specs.Files.{Files}
 use Rattle.ados_ram.specs.Place.{key_of}
+use Rattle.ados_transfer.specs.declared.records.Last.{Last}
+use Rattle.ados_transfer.specs.declared.records.Last.TheVariants.{Directory, File, StandIn}
 use Rattle.ados_transfer.specs.declared.records.Record.{Record}
 use Rattle.ados_transfer.specs.Records.{is_kept}
 
@@ -26,3 +28,19 @@ OthersStay old new key = (q : Bytes) → bytes_eq key q ≡ false → get_by_tex
 -- a row is that of an object with this key, and the Shell does not have what that was
 abbrev pub has_left : {A : Type 0} → Files → Bytes → String A × Record → Bool
 has_left files key row = bytes_eq (string_bytes row.0) key && not (is_kept row.1.last (map.get files (key_of row.1.place)))
+
+-- it was a file that has bytes
+abbrev pub has_content : Last → Bool
+has_content Directory = false
+has_content (File bytes) = not (length bytes == 0)
+has_content (StandIn comment) = false
+
+-- the Shell has in its place what an object was at the last comparison
+abbrev pub is_kept_there : Files → Option Record → Bool
+is_kept_there files None = false
+is_kept_there files (Some object) = is_kept object.last (map.get files (key_of object.place))
+
+-- it is so, or the object has no record any longer
+abbrev pub is_settled : Files → Option Record → Bool
+is_settled files None = true
+is_settled files (Some object) = is_kept_there files (Some object)

@@ -9,8 +9,9 @@ use crate::moves::Destination;
 use crate::syncs::FreshFile;
 use ados_ram::{Body, Entry, FileBytes};
 use ados_text::NoMemory;
-use ados_transfer::{Record, TransferFault, Volumes, is_part};
+use ados_transfer::{Manner, Record, Rights, TransferFault, Volumes, is_part};
 use std::alloc::Global;
+use std::collections::BTreeMap;
 
 /// When the folder is brought up to date.
 #[derive(Clone, Copy, PartialEq, Eq)]
@@ -48,10 +49,14 @@ pub struct Account {
     pub aside: Vec<Aside>,
     /// The paths at which some of that stays.
     pub kept: Vec<String>,
-    /// A file that is gone gave no rights to group and others: a new one may have bytes of it, and gives none either.
+    /// A file or a folder that is gone gave others no right to read it: a new one may have bytes of it, and gives group and others none.
     pub is_private: bool,
+    /// The permissions that files had before the script moved them, by the keys of their places now.
+    pub moved: BTreeMap<String, Manner>,
     /// The files that were written, and that a power cut may empty.
     pub fresh: Vec<FreshFile>,
+    /// Those of them that could not be brought to the disk.
+    pub unsynced: Vec<FreshFile>,
 }
 
 /// An object of the folder that was moved out of the way of another one.
@@ -63,8 +68,8 @@ pub struct Aside {
     pub record: Record,
     /// The path where it is now; `None` for a folder, which is deleted at once.
     pub beside: Option<String>,
-    /// Its mode (permissions).
-    pub mode: u32,
+    /// Its permissions, and whose it is.
+    pub rights: Rights,
     /// Where the script moved it, if it did.
     pub moved: Option<Destination>,
 }
@@ -85,7 +90,9 @@ impl Account {
             aside: Vec::new(alloc),
             kept: Vec::new(alloc),
             is_private: false,
+            moved: BTreeMap::new(alloc),
             fresh: Vec::new(alloc),
+            unsynced: Vec::new(alloc),
         }
     }
 
@@ -229,12 +236,17 @@ impl Account {
         std::mem::replace(&mut self.fresh, Vec::new(self.alloc))
     }
 
-    /// The mode of a file with these bytes that was moved aside.
-    pub fn mode_of(&self, bytes: &FileBytes) -> Option<u32> {
+    /// The permissions of a file with these bytes that was moved aside.
+    pub fn manner_of(&self, bytes: &FileBytes) -> Option<Manner> {
         self.aside
             .iter()
             .find(|aside| aside.record.is_file_of(bytes))
-            .map(|aside| aside.mode)
+            .map(|aside| Manner::Kept(aside.rights))
+    }
+
+    /// The permissions of the file that the script moved to the place of this key, if it moved one there.
+    pub fn moved_manner(&self, key: &str) -> Option<Manner> {
+        self.moved.get(key).copied()
     }
 
     /// The line that reports what is not deleted.

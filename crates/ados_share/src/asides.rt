@@ -1,16 +1,53 @@
 //! Objects of the folder of a share that are moved aside while others of another kind get their places.
 
 use crate::account::{Account, Aside};
-use crate::departure::{move_aside, own_path};
+use crate::departure::{Departures, Stage, move_aside, own_path};
 use crate::mirror::Mirror;
-use ados_transfer::{Here, Record, Stamp, TransferFault, place_new};
+use ados_ram::Ram;
+use ados_transfer::{Below, Here, Record, Stamp, TransferFault, place_new};
 use std::fs::Permissions;
 use std::io::ErrorKind;
 use std::os::unix::fs::PermissionsExt;
 use std::rt::Files;
+use std::time::Clock;
 use std::{fs, io};
 
 impl Mirror {
+    // Makes way for what is of another kind now, and writes what needs the place. What is moved aside for it is deleted only if all of
+    // it is written and nothing changed aside, otherwise it gets its place back.
+    pub(crate) fn change_kinds<R: AllocGlobal + Files + Clock>(
+        &mut self,
+        rt: &Below<'_, R>,
+        files: &Ram,
+        departures: &Departures<'_>,
+        account: &mut Account,
+    ) -> Result<(), TransferFault> {
+        let written = self.exchange_kinds(rt, files, departures, account);
+        let is_written = written.is_ok()
+            && self.heed_changes_aside(rt, departures, account).is_ok();
+        let finished = self.finish_kind_changes(rt, account, is_written);
+        written?;
+        finished
+    }
+
+    // Moves aside what is in the way, and writes what needs the place.
+    fn exchange_kinds<R: AllocGlobal + Files + Clock>(
+        &mut self,
+        rt: &Below<'_, R>,
+        files: &Ram,
+        departures: &Departures<'_>,
+        account: &mut Account,
+    ) -> Result<(), TransferFault> {
+        for (key, departure) in departures.by_key.iter().rev() {
+            if departure.is_within_kind_change
+                && (departure.changes_kind || departure.entry.is_none())
+            {
+                self.delete_here(rt, key.as_str(), departure, account)?;
+            }
+        }
+        self.write_stage(rt, files, departures, account, Stage::KindChange)
+    }
+
     // Moves an object aside; `false` if something else came to be there since it was looked at.
     pub(crate) fn set_aside<R: AllocGlobal + Files>(
         &mut self,
@@ -20,20 +57,8 @@ impl Mirror {
         here: &Here,
         account: &mut Account,
     ) -> io::Result<bool> {
-        let Some((beside, mode)) = move_aside(rt, self.volumes.root_of(path), path, here)? else {
+        let Some(aside) = self.moved_aside(rt, key, path, here)? else {
             return Ok(false);
-        };
-        let Some((key, record)) = self.records.remove_entry(key) else {
-            return Ok(true);
-        };
-        self.contents.leave_out(key.as_str(), Some(&record));
-        let moved = self.moves.take(key.as_str());
-        let aside = Aside {
-            key,
-            record,
-            beside,
-            mode,
-            moved,
         };
         match account.set_aside(aside) {
             Ok(()) => Ok(true),
@@ -41,8 +66,33 @@ impl Mirror {
         }
     }
 
+    // Moves an object aside, which has no record from then on; nothing if something else came to be there since it was looked at.
+    pub(crate) fn moved_aside<R: AllocGlobal + Files>(
+        &mut self,
+        rt: &R,
+        key: &str,
+        path: &str,
+        here: &Here,
+    ) -> io::Result<Option<Aside>> {
+        let Some((beside, rights)) = move_aside(rt, self.volumes.root_of(path), path, here)? else {
+            return Ok(None);
+        };
+        let Some((key, record)) = self.records.remove_entry(key) else {
+            return Ok(None);
+        };
+        self.contents.leave_out(key.as_str(), Some(&record));
+        let moved = self.moves.take(key.as_str());
+        Ok(Some(Aside {
+            key,
+            record,
+            beside,
+            rights,
+            moved,
+        }))
+    }
+
     // Deletes what was moved aside; if anything is not written each object gets its place back, the last one first.
-    pub(crate) fn finish_kind_changes<R: AllocGlobal + Files>(
+    fn finish_kind_changes<R: AllocGlobal + Files>(
         &mut self,
         rt: &R,
         account: &mut Account,
@@ -71,10 +121,10 @@ impl Mirror {
             key,
             record,
             beside,
-            mode,
+            rights,
             moved,
         } = aside;
-        match placed_back(rt, &record, beside.as_ref(), mode) {
+        match placed_back(rt, &record, beside.as_ref(), rights.mode) {
             Ok(Some(stamp)) => {
                 let mut record = record;
                 record.stamp = stamp;

@@ -10,7 +10,7 @@ use crate::remainders::Remainder;
 use crate::syncs::write_synced;
 use ados_ram::{Entry, FileBytes, Place, Ram};
 use ados_text::NoMemory;
-use ados_transfer::{Draft, Here, Last, TransferFault, is_beginning_of, no_memory};
+use ados_transfer::{Draft, Here, Last, Manner, TransferFault, is_beginning_of, no_memory};
 use std::alloc::Global;
 use std::collections::BTreeMap;
 use std::rt::Files;
@@ -37,8 +37,8 @@ pub struct Backup {
     pub original: String,
     /// What it held.
     pub bytes: FileBytes,
-    /// Its mode.
-    pub mode: u32,
+    /// Its permissions.
+    pub manner: Manner,
     /// Where the script moved it, if it did.
     pub moved: Option<Destination>,
 }
@@ -70,12 +70,12 @@ impl Backups {
         self.by_path.contains_key(path)
     }
 
-    /// The mode of a file with these bytes that was written over.
-    pub fn mode_of(&self, bytes: &FileBytes) -> Option<u32> {
+    /// The permissions of a file with these bytes that was written over.
+    pub fn manner_of(&self, bytes: &FileBytes) -> Option<Manner> {
         self.by_path
             .values()
             .find(|backup| backup.bytes == *bytes)
-            .map(|backup| backup.mode)
+            .map(|backup| backup.manner)
     }
 
     /// What is at or below a place of the Shell's files gives way to what comes in: if it is the other copy of one of them, that is no
@@ -162,7 +162,7 @@ impl Mirror {
         ensures followed { self.new.moves ≡ self.old.moves }
     {
         let (key, path) = object;
-        let (Here::File { mode, .. }, Some(record)) = (here, self.records.get(key)) else {
+        let (Here::File { rights, .. }, Some(record)) = (here, self.records.get(key)) else {
             return Ok(());
         };
         let Last::File(bytes) = &record.last else {
@@ -171,14 +171,15 @@ impl Mirror {
         let Ok(moved) = self.moves.copy(key) else {
             return Err(no_memory());
         };
+        let manner = Manner::Kept(*rights);
         let backup = Backup {
             original: String::from_str(self.alloc, path)?,
             bytes: bytes.clone()?,
-            mode: *mode,
+            manner,
             moved,
         };
         let root = self.volumes.root_of(path);
-        let beside = write_synced(rt, root, bytes, *mode)?;
+        let beside = write_synced(rt, root, bytes, manner)?;
         match self.backups.add(beside.as_str(), backup) {
             Ok(()) => Ok(()),
             Err(_) => {

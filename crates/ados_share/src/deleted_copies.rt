@@ -8,7 +8,7 @@ use crate::mirror::Mirror;
 use crate::moves::Elsewhere;
 use crate::syncs::write_synced;
 use ados_ram::{Entry, FileBytes, Ram};
-use ados_transfer::{Draft, Here, Last, TransferFault, holds, is_beginning_of, lower};
+use ados_transfer::{Draft, Here, Last, Manner, TransferFault, holds, is_beginning_of, lower};
 use std::rt::Files;
 use std::{fs, mem};
 
@@ -51,7 +51,9 @@ impl Mirror {
         here: &Here,
     ) -> Result<(), TransferFault> {
         match here {
-            Here::File { mode, .. } if departure.elsewhere.is_some() => self.note(key, *mode),
+            Here::File { rights, .. } if departure.elsewhere.is_some() => {
+                self.note(key, Manner::Kept(*rights))
+            }
             _ => Ok(()),
         }
     }
@@ -102,12 +104,15 @@ impl Mirror {
         if is_here || record.state_there(entry).is_same(&last) {
             return Ok(());
         }
-        let mode = self.waiting.mode(key).unwrap_or(PRIVATE);
-        self.note(key, mode)
+        let manner = match self.waiting.rights(key) {
+            Some(rights) => Manner::Kept(rights),
+            None => Manner::Mode(PRIVATE),
+        };
+        self.note(key, manner)
     }
 
     // Notes what was the file of a record, once.
-    fn note(&mut self, key: &str, mode: u32) -> Result<(), TransferFault> {
+    fn note(&mut self, key: &str, manner: Manner) -> Result<(), TransferFault> {
         let Some(record) = self.records.get(key) else {
             return Ok(());
         };
@@ -121,7 +126,7 @@ impl Mirror {
         let backup = Backup {
             original: record.path.clone()?,
             bytes: bytes.clone()?,
-            mode,
+            manner,
             moved: self.moves.copy(key)?,
         };
         self.backups.deleted.push(backup)?;
@@ -164,7 +169,7 @@ impl Mirror {
             if moved.is_none() && !holders.has_outside(&backup.bytes) {
                 continue;
             }
-            if self.is_in_folder(rt, &backup)? || self.backups.mode_of(&backup.bytes).is_some() {
+            if self.is_in_folder(rt, &backup)? || self.backups.manner_of(&backup.bytes).is_some() {
                 self.backups.deleted.push(backup)?;
             } else {
                 self.restore(rt, backup)?;
@@ -207,7 +212,7 @@ impl Mirror {
         let path = backup.original.as_str();
         let key = lower(self.alloc, path)?;
         let root = self.volumes.root_of(path);
-        match write_synced(rt, root, &backup.bytes, backup.mode) {
+        match write_synced(rt, root, &backup.bytes, backup.manner) {
             Ok(beside) => self.backups.add(beside.as_str(), backup),
             Err(error) => {
                 self.not_done(&error, "cannot write", key.as_str(), path)?;

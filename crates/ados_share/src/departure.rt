@@ -9,11 +9,12 @@ ghost use Rattle.ados_share.specs.Records.{has_key};
 use crate::moves::Elsewhere;
 use ados_ram::Entry;
 use ados_transfer::{
-    Below, Draft, Here, Last, Record, Stamp, TransferFault, enter, is_descendant, is_unshared,
-    open_beside, path_of, place_whole,
+    Below, Draft, Here, Last, Manner, Record, Rights, Stamp, TransferFault, enter, is_descendant,
+    is_unshared, open_beside, path_of, place_whole,
 };
 use std::alloc::Global;
 use std::collections::BTreeMap;
+use std::fs::Permissions;
 use std::io::ErrorKind;
 use std::os::unix::fs::PermissionsExt;
 use std::rt::Files;
@@ -35,6 +36,17 @@ pub struct Departure<'a> {
     /// If it is a file that is to be deleted, where the Shell has one with its bytes outside of the directory; if it is one that is to be
     /// written over, where it has one anywhere; or where the script moved it, if that is outside of the directory.
     pub elsewhere: Option<Elsewhere>,
+}
+
+/// When a departure is written.
+#[derive(Clone, Copy, PartialEq, Eq)]
+pub enum Stage {
+    /// First, since it is new.
+    New,
+    /// Then, since it changed.
+    Changed,
+    /// At last, once there is room for what is of another kind now.
+    KindChange,
 }
 
 impl<'a> Departure<'a> {
@@ -61,6 +73,17 @@ impl<'a> Departure<'a> {
             changes_kind: false,
             is_within_kind_change: false,
             elsewhere: None,
+        }
+    }
+
+    /// When it is written.
+    pub fn stage(&self) -> Stage {
+        if self.is_within_kind_change {
+            Stage::KindChange
+        } else if self.is_new {
+            Stage::New
+        } else {
+            Stage::Changed
         }
     }
 
@@ -142,6 +165,9 @@ pub fn write_entry<R: AllocGlobal + Files>(
     let (folder, name) = way(rt, path)?;
     if draft.entry.is_directory() {
         let made = enter(rt, folder.as_str(), name)?;
+        if let (Here::Absent, Some(Manner::Mode(mode))) = (draft.here, draft.manner) {
+            fs::set_permissions(rt, made.as_str(), Permissions::from_mode(mode))?;
+        }
         return Ok(Some(Stamp::of(&fs::symlink_metadata(rt, made.as_str())?)));
     }
     let whole = path_of(rt.alloc(), folder.as_str(), name)?;
@@ -166,21 +192,18 @@ pub fn remove<R: AllocGlobal + Files>(
 }
 
 /// Moves a file that was looked at to the name of a temporary file in a folder, or deletes an empty folder. Gives the path where the file
-/// is then, and the mode; nothing if something else came to be there since.
+/// is then, and its permissions; nothing if something else came to be there since.
 pub fn move_aside<R: AllocGlobal + Files>(
     rt: &R,
     folder: &str,
     path: &str,
     here: &Here,
-) -> io::Result<Option<(Option<String>, u32)>> {
+) -> io::Result<Option<(Option<String>, Rights)>> {
     let whole = own_path(rt, path)?;
-    let mode = fs::symlink_metadata(rt, whole.as_str())?
-        .permissions()
-        .mode()
-        & 0o777;
+    let rights = Rights::of(&fs::symlink_metadata(rt, whole.as_str())?);
     if here.is_directory() {
         fs::remove_dir(rt, whole.as_str())?;
-        return Ok(Some((None, mode)));
+        return Ok(Some((None, rights)));
     }
     if !is_still(rt, whole.as_str(), here)? {
         return Ok(None);
@@ -188,7 +211,7 @@ pub fn move_aside<R: AllocGlobal + Files>(
     let (beside, file) = open_beside(rt, folder, 0o600)?;
     drop(file);
     match fs::rename(rt, whole.as_str(), beside.as_str()) {
-        Ok(()) => Ok(Some((Some(beside), mode))),
+        Ok(()) => Ok(Some((Some(beside), rights))),
         Err(error) => {
             let _ = fs::remove_file(rt, beside.as_str());
             Err(error)

@@ -2,13 +2,15 @@
 ghost use Rattle.std.specs.Prelude.{◌≡◌, IfOk};
 ghost use Rattle.std.specs.List.{list_any};
 ghost use Rattle.ados_text.specs.Text.{Bytes};
-ghost use Rattle.ados_share.specs.Records.{has_key, has_left};
+ghost use Rattle.std.specs.BTreeMap.{get_by_text};
+ghost use Rattle.ados_share.specs.Records.{has_key, has_left, is_kept_there};
 
 use crate::account::{Account, Moment};
-use crate::departure::{Departure, Departures, is_key_left_out};
+use crate::departure::{Departure, Departures, Stage, is_key_left_out};
 use crate::mirror::Mirror;
 use ados_ram::{Entry, Place, Ram};
 use ados_transfer::{Below, TransferFault, Volume, own_entry, shell_path};
+use std::mem;
 use std::rt::Files;
 use std::time::Clock;
 
@@ -31,6 +33,7 @@ impl Mirror {
         let updated = self.update(rt, files, &mut account);
         let finished = self.finish_backups(rt, files, &mut account);
         self.note_refused(&mut account);
+        self.unsynced = mem::replace(&mut account.unsynced, Vec::new(self.alloc));
         self.reports.report_further()?;
         self.report_temporaries(rt, &account)?;
         updated?;
@@ -44,6 +47,7 @@ impl Mirror {
         files: &Ram,
         account: &mut Account,
     ) -> Result<(), TransferFault> {
+        self.sync_again(rt, account)?;
         let away = self.away(rt, files, account)?;
         if away.len() == self.volumes.all().len() {
             return Ok(());
@@ -80,15 +84,27 @@ impl Mirror {
         departures: &Departures<'_>,
         account: &mut Account,
     ) -> Result<(), TransferFault> {
-        account.is_private = self.loses_private(rt, departures);
-        for is_new in [true, false] {
-            for (key, departure) in &departures.by_key {
-                if departure.is_new == is_new && !departure.is_within_kind_change {
-                    self.write_here(rt, files, key.as_str(), departure, account)?;
-                }
+        self.note_permissions(rt, departures, account)?;
+        self.write_stage(rt, files, departures, account, Stage::New)?;
+        self.write_stage(rt, files, departures, account, Stage::Changed)?;
+        self.change_kinds(rt, files, departures, account)
+    }
+
+    // Writes what comes at one stage; a directory before what is in it.
+    pub(crate) fn write_stage<R: AllocGlobal + Files + Clock>(
+        &mut self,
+        rt: &Below<'_, R>,
+        files: &Ram,
+        departures: &Departures<'_>,
+        account: &mut Account,
+        stage: Stage,
+    ) -> Result<(), TransferFault> {
+        for (key, departure) in &departures.by_key {
+            if departure.stage() == stage {
+                self.write_here(rt, files, key.as_str(), departure, account)?;
             }
         }
-        self.change_kinds(rt, files, departures, account)
+        Ok(())
     }
 
     // The labels of the volumes whose directory or folder is gone. Nothing is written there, and so nothing is deleted in any other.
@@ -142,11 +158,10 @@ impl Mirror {
         account: &mut Account,
     ) -> Result<(), TransferFault> {
         for (key, departure) in departures.by_key.iter().rev() {
-            let is_there = self
-                .records
-                .get(key.as_str())
-                .is_some_and(|record| record.is_kept(files.look(&record.place)));
-            if departure.entry.is_none() && !departure.is_within_kind_change && !is_there {
+            if departure.entry.is_none()
+                && !departure.is_within_kind_change
+                && !self.is_kept(files, key.as_str())
+            {
                 self.delete_here(rt, key.as_str(), departure, account)?;
             }
         }
@@ -158,58 +173,24 @@ impl Mirror {
     fn forgive_undone(&mut self, files: &Ram) -> Result<(), TransferFault> {
         for key in &self.reports.missed()? {
             let place = self.place_of(key.as_str())?;
-            match self.records.get(key.as_str()) {
-                Some(record) if record.is_kept(files.look(&record.place)) => {
-                    self.reports.settle(key.as_str());
-                }
-                None if files.look(&place).is_none() => {
-                    self.reports.settle(key.as_str());
-                    self.reports.agree(key.as_str());
-                }
-                _ => {}
+            if self.is_kept(files, key.as_str()) {
+                self.reports.settle(key.as_str());
+            } else if !self.records.contains_key(key.as_str()) && files.look(&place).is_none() {
+                self.reports.settle(key.as_str());
+                self.reports.agree(key.as_str());
             }
         }
         Ok(())
     }
 
-    // Makes way for what is of another kind now, and writes what needs the place. What is moved aside for it is deleted only if all of
-    // it is written and nothing changed aside, otherwise it gets its place back.
-    fn change_kinds<R: AllocGlobal + Files + Clock>(
-        &mut self,
-        rt: &Below<'_, R>,
-        files: &Ram,
-        departures: &Departures<'_>,
-        account: &mut Account,
-    ) -> Result<(), TransferFault> {
-        let written = self.exchange_kinds(rt, files, departures, account);
-        let is_written = written.is_ok()
-            && self.heed_changes_aside(rt, departures, account).is_ok();
-        let finished = self.finish_kind_changes(rt, account, is_written);
-        written?;
-        finished
-    }
-
-    // Moves aside what is in the way, and writes what needs the place.
-    fn exchange_kinds<R: AllocGlobal + Files + Clock>(
-        &mut self,
-        rt: &Below<'_, R>,
-        files: &Ram,
-        departures: &Departures<'_>,
-        account: &mut Account,
-    ) -> Result<(), TransferFault> {
-        for (key, departure) in departures.by_key.iter().rev() {
-            if departure.is_within_kind_change
-                && (departure.changes_kind || departure.entry.is_none())
-            {
-                self.delete_here(rt, key.as_str(), departure, account)?;
-            }
-        }
-        for (key, departure) in &departures.by_key {
-            if departure.is_within_kind_change {
-                self.write_here(rt, files, key.as_str(), departure, account)?;
-            }
-        }
-        Ok(())
+    // The Shell has in its place what the object with this key was at the last comparison.
+    fn is_kept(&self, files: &Ram, key: &str) -> bool
+        ensures { result ≡ is_kept_there files.now (get_by_text self.now.records key.now) }
+    {
+        let Some(record) = self.records.get(key) else {
+            return false;
+        };
+        record.is_kept(files.look(&record.place))
     }
 
     // The objects whose state in the Shell's files differs from the last comparison. A file whose name is left out is never written: that

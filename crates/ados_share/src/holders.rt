@@ -1,4 +1,7 @@
 //! Which files of the Shell have the same bytes as a file of the folder of a share.
+ghost use Rattle.std.specs.Prelude.{◌≡◌, true, IfSome, find};
+ghost use Rattle.std.specs.Option.{option_copied};
+ghost use Rattle.ados_share.specs.Contents.{has_bytes};
 
 use crate::contents::digest;
 use crate::departure::Departure;
@@ -60,15 +63,31 @@ impl<'a> Index<'a> {
     }
 
     // The first file that was added with these bytes.
-    fn first_with(&self, bytes: &FileBytes) -> Option<&Holder<'a>> {
-        let alike = self.by_digest.get(&digest(bytes))?;
-        alike.iter().find(|holder| holder.bytes == bytes)
+    fn first_with(&self, bytes: &FileBytes) -> Option<&Holder<'a>>
+        ensures { IfSome result (λ holder. has_bytes bytes.now holder.now ≡ true) }
+    {
+        first_with(self.by_digest.get(&digest(bytes))?.as_slice(), bytes)
     }
+}
+
+// The first of these files that has these bytes.
+fn first_with<'h, 'a>(holders: &'h [Holder<'a>], bytes: &FileBytes) -> Option<&'h Holder<'a>>
+    ensures first { option_copied result ≡ find (has_bytes bytes.now) holders.now }
+    ensures has { IfSome result (λ holder. has_bytes bytes.now holder.now ≡ true) }
+{
+    for holder in holders {
+        if *holder.bytes == *bytes {
+            return Some(holder);
+        }
+    }
+    None
 }
 
 impl<'a> Holders<'a> {
     /// The first file that has these bytes, of those outside if one of them does.
-    pub fn first_with(&self, bytes: &FileBytes) -> Option<&Holder<'a>> {
+    pub fn first_with(&self, bytes: &FileBytes) -> Option<&Holder<'a>>
+        ensures { IfSome result (λ holder. has_bytes bytes.now holder.now ≡ true) }
+    {
         match self.outside.first_with(bytes) {
             Some(found) => Some(found),
             None => self.inside.first_with(bytes),
@@ -87,7 +106,9 @@ impl<'a> Holders<'a> {
         departure: &Departure<'_>,
         bytes: &FileBytes,
         is_moved: bool,
-    ) -> Option<&Holder<'a>> {
+    ) -> Option<&Holder<'a>>
+        ensures { IfSome result (λ holder. has_bytes bytes.now holder.now ≡ true) }
+    {
         if !departure.is_gone() {
             return self.first_with(bytes);
         }

@@ -1,7 +1,6 @@
 //! Large files that are moved aside, since the script gave their old names to other objects before their new ones were free.
 
 use crate::account::{Account, Aside};
-use crate::departure::move_aside;
 use crate::large_moves::Moved;
 use crate::mirror::Mirror;
 use crate::renaming::{Renaming, renamed};
@@ -22,29 +21,18 @@ impl Mirror {
             return Ok(None);
         }
         let path = moved.path.as_str();
-        let root = self.volumes.root_of(path);
-        let (beside, mode) = match move_aside(rt, root, path, &Here::Large(moved.stamp)) {
-            Ok(Some(done)) => done,
-            Err(error) if error.kind() == ErrorKind::OutOfMemory => {
-                return Err(TransferFault::NoMemory);
+        match self.moved_aside(rt, moved.key.as_str(), path, &Here::Large(moved.stamp)) {
+            Ok(Some(aside)) => {
+                self.forget(aside.key.as_str());
+                Ok(Some(aside))
             }
+            Ok(None) => Ok(None),
+            Err(error) if error.kind() == ErrorKind::OutOfMemory => Err(TransferFault::NoMemory),
             Err(_) => {
                 account.refuse(path)?;
-                return Ok(None);
+                Ok(None)
             }
-            Ok(None) => return Ok(None),
-        };
-        let Some((key, record)) = self.records.remove_entry(moved.key.as_str()) else {
-            return Ok(None);
-        };
-        self.forget(key.as_str());
-        Ok(Some(Aside {
-            key,
-            record,
-            beside,
-            mode,
-            moved: None,
-        }))
+        }
     }
 
     // Gives those that were moved aside their new names, or else their old ones back; gives whether one got its new name.

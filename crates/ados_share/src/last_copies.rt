@@ -1,11 +1,16 @@
 //! Bytes that this machine has in one file alone while the Shell has them outside of the directory: the file is not deleted.
+ghost use Rattle.std.specs.Prelude.{◌≡◌, true, IfSome};
+ghost use Rattle.std.specs.Option.{option_copied};
+ghost use Rattle.std.specs.BTreeMap.{get_by_text};
+ghost use Rattle.ados_share.specs.Contents.{if_file_of, is_file_of};
 
 use crate::departure::{Departure, Departures};
 use crate::mirror::Mirror;
 use crate::moves::{Destination, Elsewhere};
 use ados_ram::{FileBytes, Place, Ram};
 use ados_transfer::{
-    Here, Last, Record, Records, TransferFault, Volumes, is_descendant, is_one_name, shell_path,
+    Here, Last, Record, Records, Rights, TransferFault, Volumes, is_descendant, is_one_name,
+    shell_path,
 };
 use std::alloc::Global;
 use std::collections::BTreeMap;
@@ -25,8 +30,8 @@ struct Waiter {
     path: String,
     // Where the Shell has it.
     elsewhere: Elsewhere,
-    // The mode of a file.
-    mode: Option<u32>,
+    // The permissions of a file.
+    rights: Option<Rights>,
 }
 
 impl Waiting {
@@ -43,9 +48,9 @@ impl Waiting {
         self.by_key.is_empty()
     }
 
-    /// The mode of a file that waits.
-    pub fn mode(&self, key: &str) -> Option<u32> {
-        self.by_key.get(key).and_then(|waiter| waiter.mode)
+    /// The permissions of a file that waits.
+    pub fn rights(&self, key: &str) -> Option<Rights> {
+        self.by_key.get(key).and_then(|waiter| waiter.rights)
     }
 
     // Something in a folder waits.
@@ -169,7 +174,9 @@ impl Mirror {
     }
 
     // The file of the folder that had these bytes: the first one that the Shell no longer has in its place, or else the last one of all.
-    pub(crate) fn original_of(&self, files: &Ram, bytes: &FileBytes) -> Option<&Record> {
+    pub(crate) fn original_of(&self, files: &Ram, bytes: &FileBytes) -> Option<&Record>
+        ensures { IfSome result (λ found. is_file_of found.now.last bytes.now ≡ true) }
+    {
         let mut original = None;
         for key in self.contents.alike(bytes)? {
             if let Some(record) = self.file_of(key.as_str(), bytes) {
@@ -183,10 +190,14 @@ impl Mirror {
     }
 
     // The record of a key, if it is that of a file of these bytes.
-    fn file_of(&self, key: &str, bytes: &FileBytes) -> Option<&Record> {
-        self.records
-            .get(key)
-            .filter(|record| record.is_file_of(bytes))
+    fn file_of(&self, key: &str, bytes: &FileBytes) -> Option<&Record>
+        ensures { option_copied result ≡ if_file_of bytes.now (get_by_text self.now.records key.now) }
+    {
+        let record = self.records.get(key)?;
+        match &record.last {
+            Last::File(last) if *last == *bytes => Some(record),
+            Last::File(_) | Last::Directory | Last::StandIn(_) => None,
+        }
     }
 
     // Notes that an object is not deleted, since its bytes would then be only in memory.
@@ -200,7 +211,7 @@ impl Mirror {
             let waiter = Waiter {
                 path: departure.path.clone()?,
                 elsewhere: elsewhere.copy()?,
-                mode: here.mode(),
+                rights: here.rights(),
             };
             self.waiting
                 .by_key

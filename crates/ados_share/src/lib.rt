@@ -21,6 +21,7 @@ mod large_moves;
 mod last_copies;
 mod mirror;
 mod moves;
+mod permissions;
 mod places;
 mod remainders;
 mod removals;

@@ -9,6 +9,7 @@ use crate::contents::Contents;
 use crate::last_copies::Waiting;
 use crate::moves::Moves;
 use crate::reports::Reports;
+use crate::syncs::FreshFile;
 use ados_ram::Ram;
 use ados_transfer::{
     Last, MirrorOptions, Record, Records, Stamp, StandIns, TransferFault, Volume, Volumes, Watch,
@@ -35,6 +36,8 @@ pub struct Mirror {
     pub(crate) backups: Backups,
     // The paths of temporary files that could not be removed.
     pub(crate) temporaries: Vec<String>,
+    // What could not be brought to the disk at the last update.
+    pub(crate) unsynced: Vec<FreshFile>,
     pub(crate) reports: Reports,
     // The folders were looked at.
     pub(crate) has_begun: bool,
@@ -65,6 +68,7 @@ impl Mirror {
             waiting: Waiting::new(alloc),
             backups: Backups::new(alloc),
             temporaries: Vec::new(alloc),
+            unsynced: Vec::new(alloc),
             reports: Reports::new(alloc, volumes.copy()?),
             volumes,
             has_begun: false,

@@ -1,12 +1,12 @@
 //! Where files of the folder went in the Shell's files: each Rename is followed, so that a file that was moved out of the directory is
 //! known there, whatever its bytes are by then.
-ghost use Rattle.std.specs.Prelude.{◌≡◌, IfOk, None, OnErr, OnOk, Some, string_bytes};
-ghost use Rattle.std.specs.Option.{option_copied};
-ghost use Rattle.std.specs.BTreeMap.{IsUnchanged, get_by_text};
+ghost use Rattle.std.specs.Prelude.{◌≡◌, IfOk, None, OnErr, OnOk, Some, string_bytes, true};
+ghost use Rattle.std.specs.Option.{is_some, option_copied};
+ghost use Rattle.std.specs.BTreeMap.{IsEmpty, IsUnchanged, get_by_text};
 ghost use Rattle.std.specs.FinMap as map;
 ghost use Rattle.ados_ram.specs.Place.{key_of};
-ghost use Rattle.ados_share.specs.Moves.{destination_after, is_deleted, is_file};
-ghost use Rattle.ados_share.specs.Records.{Sets};
+ghost use Rattle.ados_share.specs.Moves.{destination_after, destination_without, is_deleted, is_file, is_within, may_be_elsewhere, says_same};
+ghost use Rattle.ados_share.specs.Records.{Sets, has_content, is_settled};
 
 use crate::mirror::Mirror;
 use ados_ram::{Place, Ram};
@@ -34,10 +34,17 @@ pub struct Moves {
 
 impl Moves {
     /// Nothing was moved.
-    pub fn new(alloc: Global) -> Moves {
+    pub fn new(alloc: Global) -> Moves
+        ensures { IsEmpty result.by_key }
+    {
         Moves {
             by_key: BTreeMap::new(alloc),
         }
+    }
+
+    /// All that was moved, by the keys of the files.
+    pub fn all(&self) -> &BTreeMap<String, Destination> {
+        &self.by_key
     }
 
     /// Where the file of this key went.
@@ -90,10 +97,7 @@ impl Moves {
     /// What is at or below a place gives way to what comes in from the folder.
     pub fn note_replaced(&mut self, place: &Place) {
         for destination in self.by_key.values_mut() {
-            if matches!(destination, Destination::At(other) if other.names().starts_with(place.names()))
-            {
-                *destination = Destination::Replaced;
-            }
+            destination.note_replaced(place);
         }
     }
 }
@@ -117,6 +121,15 @@ impl Destination {
             *self = Destination::At(place.carried(from, to)?);
         }
         Ok(())
+    }
+
+    /// What is at or below a place gives way to what comes in from the folder.
+    pub fn note_replaced(&mut self, place: &Place)
+        ensures { self.new ≡ destination_without place.now self.old }
+    {
+        if matches!(self, Destination::At(other) if other.names().starts_with(place.names())) {
+            *self = Destination::Replaced;
+        }
     }
 
     /// The script deleted what was moved.
@@ -143,7 +156,9 @@ pub enum Elsewhere {
 
 impl Elsewhere {
     /// An equal value.
-    pub fn copy(&self) -> Result<Elsewhere, NoMemory> {
+    pub fn copy(&self) -> Result<Elsewhere, NoMemory>
+        ensures { IfOk result (λ elsewhere. says_same elsewhere self.now ≡ true) }
+    {
         Ok(match self {
             Elsewhere::Copy(path) => Elsewhere::Copy(path.clone()?),
             Elsewhere::Moved(path) => Elsewhere::Moved(path.clone()?),
@@ -181,7 +196,11 @@ impl Mirror {
     }
 
     // What is at or below a place is the file of a record, which is not followed yet; not another object that was moved to its place.
-    fn begins_to_move(&self, key: &str, record: &Record, from: &Place) -> bool {
+    fn begins_to_move(&self, key: &str, record: &Record, from: &Place) -> bool
+        ensures file { result ≡ true → has_content record.now.last ≡ true }
+        ensures within { result ≡ true → is_within from.now record.now.place ≡ true }
+        ensures once { result ≡ true → get_by_text self.now.moves.by_key key.now ≡ None }
+    {
         matches!(&record.last, Last::File(bytes) if bytes.len() > 0)
             && record.place.names().starts_with(from.names())
             && self.moves.destination(key).is_none()
@@ -209,7 +228,10 @@ impl Mirror {
         &self,
         files: &Ram,
         destination: Option<&Destination>,
-    ) -> Result<Option<Elsewhere>, TransferFault> {
+    ) -> Result<Option<Elsewhere>, TransferFault>
+        ensures there { IfOk result (λ elsewhere. is_some elsewhere ≡ true → may_be_elsewhere files.now (option_copied destination.entry) ≡ true) }
+        ensures replaced { option_copied destination.entry ≡ Some Destination.Replaced → IfOk result (λ elsewhere. elsewhere ≡ Some Elsewhere.Replaced) }
+    {
         match destination {
             Some(Destination::At(place)) if self.is_out(files, place) => {
                 Ok(Some(Elsewhere::Moved(self.copy_path(files, place)?)))
@@ -224,7 +246,10 @@ impl Mirror {
         &self,
         files: &Ram,
         destination: Option<&Destination>,
-    ) -> Result<Option<Elsewhere>, TransferFault> {
+    ) -> Result<Option<Elsewhere>, TransferFault>
+        ensures there { IfOk result (λ elsewhere. is_some elsewhere ≡ true → may_be_elsewhere files.now (option_copied destination.entry) ≡ true) }
+        ensures replaced { option_copied destination.entry ≡ Some Destination.Replaced → IfOk result (λ elsewhere. elsewhere ≡ Some Elsewhere.Replaced) }
+    {
         match destination {
             Some(Destination::At(place)) if self.is_unwritten(files, place)? => {
                 Ok(Some(Elsewhere::Moved(self.copy_path(files, place)?)))
@@ -234,7 +259,9 @@ impl Mirror {
     }
 
     // A file is at a place that is in a directory of the share, and it is not what was there at the last comparison.
-    pub(crate) fn is_unwritten(&self, files: &Ram, place: &Place) -> Result<bool, TransferFault> {
+    pub(crate) fn is_unwritten(&self, files: &Ram, place: &Place) -> Result<bool, TransferFault>
+        ensures { IfOk result (λ is. is ≡ true → is_file (map.get files.now (key_of place.now)) ≡ true) }
+    {
         let Some(key) = self.key_of(place)? else {
             return Ok(false);
         };
@@ -246,13 +273,17 @@ impl Mirror {
     }
 
     // A file is at a place that is in no directory of the share.
-    fn is_out(&self, files: &Ram, place: &Place) -> bool {
+    fn is_out(&self, files: &Ram, place: &Place) -> bool
+        ensures { result ≡ true → is_file (map.get files.now (key_of place.now)) ≡ true }
+    {
         self.volumes.of_place(place).is_none() && is_file(files, place)
     }
 }
 
 // What was moved is in its place again as it was at the last comparison, or has no record any longer.
-fn is_settled(record: Option<&Record>, files: &Ram) -> bool {
+fn is_settled(record: Option<&Record>, files: &Ram) -> bool
+    ensures { result ≡ is_settled files.now (option_copied record.entry) }
+{
     match record {
         Some(record) => record.is_kept(files.look(&record.place)),
         None => true,

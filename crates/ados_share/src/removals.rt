@@ -71,7 +71,7 @@ impl Mirror {
     // Something that the script has is not written, so that an object is not deleted. It comes in again, unless the script goes on: later
     // its bytes may be nowhere else.
     fn hold(&mut self, key: &str, path: &str, account: &mut Account) -> Result<(), TransferFault> {
-        if account.is_meanwhile() {
+        if account.moment != Moment::End {
             return Ok(());
         }
         self.forget(key);

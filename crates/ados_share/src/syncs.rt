@@ -1,17 +1,20 @@
 //! What an update wrote is on the disk before the update deletes or replaces anything whose bytes stand only there: a power cut would
 //! otherwise leave an empty file while the old one is gone.
-ghost use Rattle.std.specs.Prelude.{◌≡◌, [], true, false, IfOk, OnOk, string_bytes};
+ghost use Rattle.std.specs.Prelude.{◌≡◌, ◌++◌, [], true, false, IfOk, OnOk, string_bytes};
 ghost use Rattle.std.specs.Option.{is_some, option_map};
+ghost use Rattle.ados_share.specs.Account.{contents_of, failed_files, files_of};
 ghost use Rattle.ados_transfer.specs.Paths.{IsBelow};
 
 use crate::account::Account;
 use crate::mirror::Mirror;
 use ados_ram::FileBytes;
+use ados_text::NoMemory;
 use ados_transfer::{Here, Manner, TransferFault, lower, write_beside};
+use std::alloc::Global;
 use std::fs::OpenFile;
 use std::io::ErrorKind;
 use std::rt::Files;
-use std::{fs, io};
+use std::{fs, io, mem};
 
 /// A file that an update wrote, and that a power cut may empty.
 #[derive(Drop)]
@@ -20,6 +23,15 @@ pub struct FreshFile {
     pub path: String,
     /// What it holds.
     pub bytes: FileBytes,
+}
+
+/// What came of bringing a file to the disk.
+#[derive(Drop)]
+pub struct Attempt {
+    /// The file.
+    pub file: FreshFile,
+    /// Whether it is there, and else why not.
+    pub outcome: io::Result<()>,
 }
 
 impl Mirror {
@@ -37,7 +49,7 @@ impl Mirror {
         self.is_synced(rt, account)
     }
 
-    // Brings to the disk what the update wrote; `false` if that failed, so that nothing is to be deleted.
+    // Brings to the disk what the update wrote; `false` if that failed now or before in this update, so that nothing is to be deleted.
     #[tactic(auto, using(crate::proofs::AccountLemmas::first_is_some))]
     pub(crate) fn is_synced<R: AllocGlobal + Files>(
         &mut self,
@@ -48,33 +60,88 @@ impl Mirror {
         ensures written { IfOk result (λ is. is ≡ true → account.new ≡ record account.old { fresh = account.new.fresh }) }
         ensures unwritten { IfOk result (λ is. is ≡ false → is_some (option_map string_bytes account.new.unwritten) ≡ true) }
         ensures refused { IfOk result (λ is. is ≡ false → is_some (option_map string_bytes account.new.refused) ≡ true) }
+        // What failed before in this update is not forgotten.
+        ensures again { IfOk result (λ is. is ≡ true → account.old.unsynced.items ≡ []) }
     {
-        let Some(path) = self.first_unsynced(rt, account.take_fresh())? else {
+        let attempts = sync_all(rt, account.take_fresh())?;
+        let reported = self.report_attempts(attempts.as_slice());
+        let failed = failed_files(self.alloc, attempts)?;
+        let Some(first) = account.unsynced.first().or(failed.first()) else {
+            reported?;
             return Ok(true);
         };
+        let path = first.path.clone()?;
+        account.add_unsynced(failed)?;
         account.add_unwritten(path.as_str())?;
         account.refuse(path.as_str())?;
+        reported?;
         Ok(false)
     }
 
-    // Brings files to the disk. Reports those for which that failed, and gives the path of the first.
-    fn first_unsynced<R: AllocGlobal + Files>(
+    // What could not be brought to the disk at the update before is tried again.
+    pub(crate) fn sync_again<R: AllocGlobal + Files>(
         &mut self,
         rt: &R,
-        files: Vec<FreshFile>,
-    ) -> Result<Option<String>, TransferFault> {
-        let mut first = None;
-        for file in files {
-            if let Err(error) = sync(rt, file.path.as_str()) {
-                let key = lower(self.alloc, file.path.as_str())?;
-                self.not_done(&error, "cannot write", key.as_str(), file.path.as_str())?;
-                if first.is_none() {
-                    first = Some(file.path);
-                }
+        account: &mut Account,
+    ) -> Result<(), TransferFault> {
+        for file in mem::replace(&mut self.unsynced, Vec::new(self.alloc)) {
+            account.add_fresh(file)?;
+        }
+        self.is_synced(rt, account)?;
+        Ok(())
+    }
+
+    // Reports the files that could not be brought to the disk.
+    fn report_attempts(&mut self, attempts: &[Attempt]) -> Result<(), TransferFault> {
+        for attempt in attempts {
+            if let Err(error) = &attempt.outcome {
+                let path = attempt.file.path.as_str();
+                let key = lower(self.alloc, path)?;
+                self.not_done(error, "cannot write", key.as_str(), path)?;
             }
         }
-        Ok(first)
+        Ok(())
     }
+}
+
+impl Account {
+    /// Notes files that could not be brought to the disk: each of them counts as not written.
+    pub fn add_unsynced(&mut self, files: Vec<FreshFile>) -> Result<(), TransferFault>
+        ensures unsynced { OnOk result (self.new.unsynced.items ≡ self.old.unsynced.items ++ files.items) }
+        ensures bytes { OnOk result (self.new.bytes.items ≡ self.old.bytes.items ++ contents_of files.items) }
+        ensures rest { self.new ≡ record self.old { unsynced = self.new.unsynced; bytes = self.new.bytes } }
+    {
+        for file in files {
+            self.bytes.push(file.bytes.copy()?)?;
+            self.unsynced.push(file)?;
+        }
+        Ok(())
+    }
+}
+
+// Tries to bring files to the disk, one after the other, whether or not that fails for those before.
+fn sync_all<R: AllocGlobal + Files>(rt: &R, files: Vec<FreshFile>) -> Result<Vec<Attempt>, NoMemory>
+    ensures each { IfOk result (λ attempts. files_of attempts.items ≡ files.items) }
+{
+    let mut attempts = Vec::new(rt.alloc());
+    for file in files {
+        let outcome = sync(rt, file.path.as_str());
+        attempts.push(Attempt { file, outcome })?;
+    }
+    Ok(attempts)
+}
+
+// Those for which that failed.
+fn failed_files(alloc: Global, attempts: Vec<Attempt>) -> Result<Vec<FreshFile>, NoMemory>
+    ensures { IfOk result (λ files. files.items ≡ failed_files attempts.items) }
+{
+    let mut failed = Vec::new(alloc);
+    for attempt in attempts {
+        if attempt.outcome.is_err() {
+            failed.push(attempt.file)?;
+        }
+    }
+    Ok(failed)
 }
 
 // Brings to the disk those files with these bytes that the update wrote.
@@ -96,11 +163,11 @@ pub(crate) fn write_synced<R: AllocGlobal + Files>(
     rt: &R,
     folder: &str,
     bytes: &FileBytes,
-    mode: u32,
+    manner: Manner,
 ) -> io::Result<String>
     ensures { IfOk result (λ path. IsBelow folder.now (string_bytes path)) }
 {
-    let beside = write_beside(rt, folder, bytes, Manner::Mode(mode))?;
+    let beside = write_beside(rt, folder, bytes, manner)?;
     match sync(rt, beside.as_str()) {
         Ok(()) => Ok(beside),
         Err(error) => {

@@ -14,7 +14,6 @@ use ados_transfer::{
     Decision, Draft, Here, Last, Record, Stamp, TransferFault, check_readable, is_beginning_of,
     no_memory,
 };
-use std::os::unix::fs::PermissionsExt;
 use std::rt::Files;
 use std::time::Clock;
 use std::{fs, io};
@@ -54,9 +53,9 @@ impl Mirror {
             }
             Decision::Write if self.options.dry => self.reports.report_once("would write", path),
             Decision::Write => {
-                let mode = self.mode_of(rt, files, entry, account)?;
+                let manner = self.manner_of(rt, files, (key, entry), &here, account);
                 let is_last = self.is_lost_below(rt, files, key, departure)?;
-                let draft = Draft::new(entry, &here, mode, is_last);
+                let draft = Draft::new(entry, &here, manner, is_last);
                 self.note_written_over(key, departure, &draft)?;
                 self.write(rt, (key, path), &draft, account)
             }
@@ -123,74 +122,6 @@ impl Mirror {
         write_entry(rt, object.1, draft)
     }
 
-    // A file is gone that gave no rights to group and others, and no object that is written has its bytes.
-    pub(crate) fn loses_private<R: Files>(&self, rt: &R, departures: &Departures<'_>) -> bool {
-        departures.by_key.iter().any(|(key, departure)| {
-            departure.is_gone()
-                && is_private(rt, departure.path.as_str())
-                && !self.is_moved(key.as_str(), departures)
-        })
-    }
-
-    // An object that is written has the bytes of the file with this key.
-    fn is_moved(&self, key: &str, departures: &Departures<'_>) -> bool {
-        let Some(record) = self.records.get(key) else {
-            return false;
-        };
-        departures.by_key.values().any(|departure| {
-            departure
-                .entry
-                .and_then(Entry::bytes)
-                .is_some_and(|bytes| record.is_file_of(bytes))
-        })
-    }
-
-    // The mode of the file of the folder that has the bytes of an entry: one that the Shell no longer has, since the entry may be its
-    // new place, or else one of which the entry may be a copy, without the rights of others to write.
-    fn mode_of<R: AllocGlobal + Files>(
-        &self,
-        rt: &R,
-        files: &Ram,
-        entry: &Entry,
-        account: &Account,
-    ) -> Result<Option<u32>, TransferFault> {
-        let Some(bytes) = entry.bytes() else {
-            return Ok(None);
-        };
-        let original = self.original_of(files, bytes);
-        if let Some(record) = original
-            && !record.is_kept(files.look(&record.place))
-        {
-            return self.mode_here(rt, record);
-        }
-        let moved = match account.mode_of(bytes) {
-            Some(mode) => Some(mode),
-            None => self.backups.mode_of(bytes),
-        };
-        match (moved, original) {
-            (Some(mode), _) => Ok(Some(mode)),
-            (None, Some(record)) if bytes.len() > 0 => {
-                let mode = self.mode_here(rt, record)?;
-                Ok(mode.map(|mode| mode & 0o755))
-            }
-            _ if account.is_private && entry.bits.script => Ok(Some(0o700)),
-            _ if account.is_private => Ok(Some(0o600)),
-            _ => Ok(None),
-        }
-    }
-
-    // The mode of a file of the folder.
-    fn mode_here<R: AllocGlobal + Files>(
-        &self,
-        rt: &R,
-        record: &Record,
-    ) -> Result<Option<u32>, TransferFault> {
-        match fs::symlink_metadata(rt, record.path.as_str()) {
-            Ok(found) if found.is_file() => Ok(Some(found.permissions().mode())),
-            _ => Ok(None),
-        }
-    }
-
     // Reports that this machine's object stays, or with this text that it can't be looked at, and why, as that is found now.
     pub(crate) fn not_touched<R: AllocGlobal + Files>(
         &mut self,
@@ -250,12 +181,6 @@ impl Mirror {
         self.reports.agree(key);
         self.keep_as(key, path, Last::of(entry)?, stamp, &self.now(rt))
     }
-}
-
-// A file is at a path whose mode gives no rights to group and others.
-fn is_private<R: Files>(rt: &R, path: &str) -> bool {
-    fs::symlink_metadata(rt, path).is_ok_and(|found| found.is_file()
-        && found.permissions().mode() & 0o077 == 0)
 }
 
 // What a file of this machine holds is in a file of the Shell that is not written, and the one that takes its place does not begin with it.

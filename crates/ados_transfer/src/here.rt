@@ -6,10 +6,10 @@ use crate::bringing::bytes_of;
 use crate::decision::{Decision, State, decide};
 use crate::faults::TransferFault;
 use crate::records::{Record, state_there};
+use crate::rights::Rights;
 use crate::stamps::Stamp;
 use ados_ram::{Entry, FileBytes, Limits};
 use std::io::ErrorKind;
-use std::os::unix::fs::PermissionsExt;
 use std::rt::Files;
 use std::{fs, io};
 
@@ -20,14 +20,14 @@ pub enum Here {
     Absent,
     /// A folder.
     Directory(Stamp),
-    /// A file, with its mode.
+    /// A file, with its permissions.
     File {
         /// What it holds.
         bytes: FileBytes,
         /// Its stamp, from before it was read.
         stamp: Stamp,
-        /// Its mode.
-        mode: u32,
+        /// Its permissions, and whose it is.
+        rights: Rights,
     },
     /// A file of more bytes than the Shell's may have.
     Large(Stamp),
@@ -63,7 +63,7 @@ impl Here {
             Ok(bytes) if bytes.len() <= limits.file() => Ok(Here::File {
                 bytes: FileBytes::from_slice(rt.alloc(), &bytes)?,
                 stamp,
-                mode: found.permissions().mode(),
+                rights: Rights::of(&found),
             }),
             Ok(_) => Ok(Here::Large(stamp)),
             Err(error) if error.kind() == ErrorKind::OutOfMemory => Err(TransferFault::NoMemory),
@@ -117,10 +117,10 @@ impl Here {
         }
     }
 
-    /// The mode of a file that the Shell can hold.
-    pub fn mode(&self) -> Option<u32> {
+    /// The permissions of a file that the Shell can hold, and whose it is.
+    pub fn rights(&self) -> Option<Rights> {
         match self {
-            Here::File { mode, .. } => Some(*mode),
+            Here::File { rights, .. } => Some(*rights),
             Here::Absent | Here::Directory(_) | Here::Large(_) | Here::Foreign | Here::Unread =>
                 None,
         }

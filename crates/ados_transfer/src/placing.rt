@@ -5,9 +5,7 @@
 
 use crate::bringing::bytes_of;
 use crate::here::Here;
-use crate::owners::Owner;
 use crate::paths::{folder_of, last_piece};
-use crate::stamps::Stamp;
 use crate::writing::{Manner, link_beside, open_beside, place_new, write_beside};
 use ados_ram::{Entry, FileBytes};
 use std::fs::Metadata;
@@ -28,24 +26,24 @@ pub struct Draft<'a> {
     pub entry: &'a Entry,
     /// What this machine had when it was looked at.
     pub here: &'a Here,
-    /// The mode of the file of which it is a copy.
-    pub mode: Option<u32>,
+    /// The permissions that it is to have, where these are not those of what is replaced, or of what is new.
+    pub manner: Option<Manner>,
     /// Only the Shell has beside what this machine had, so that it must not be lost.
     pub is_last_copy: bool,
 }
 
 impl<'a> Draft<'a> {
-    /// What the Shell has in place of what this machine had, with the mode of the file of which it is a copy.
+    /// What the Shell has in place of what this machine had, with the permissions that it is to have.
     pub fn new(
         entry: &'a Entry,
         here: &'a Here,
-        mode: Option<u32>,
+        manner: Option<Manner>,
         is_last_copy: bool,
     ) -> Draft<'a> {
         Draft {
             entry,
             here,
-            mode,
+            manner,
             is_last_copy,
         }
     }
@@ -61,7 +59,7 @@ pub fn place_whole<R: AllocGlobal + Files>(
     let Some(bytes) = draft.entry.bytes() else {
         return Err(Error::from(ErrorKind::InvalidInput));
     };
-    let beside = write_beside(rt, folder, bytes, manner(rt, target, draft)?)?;
+    let beside = write_beside(rt, folder, bytes, manner(draft)?)?;
     let placed = match draft.here {
         Here::File { bytes, .. } => { place_over(rt, folder, beside.as_str(), target, bytes) }
         _ => place_new(rt, beside.as_str(), target),
@@ -72,24 +70,15 @@ pub fn place_whole<R: AllocGlobal + Files>(
     placed
 }
 
-// The permissions for a file: those it had before, or those of the file of which it is a copy; a new script is executable.
-fn manner<R: Files>(rt: &R, target: &str, draft: &Draft<'_>) -> io::Result<Manner> {
-    match (draft.here, draft.mode) {
-        (Here::File { mode, .. }, _) => Manner::over(*mode, owner_of(rt, target, draft.here)),
-        (_, Some(mode)) => Ok(Manner::Mode(mode)),
-        _ if draft.entry.bits.script => Ok(Manner::Executable),
-        _ => Ok(Manner::Plain),
-    }
-}
-
-// Whose a file is that was looked at, if it is still there.
-fn owner_of<R: Files>(rt: &R, target: &str, here: &Here) -> Option<Owner> {
-    let found = fs::symlink_metadata(rt, target).ok()?;
-    if here.has_stamp(&Stamp::of(&found)) {
-        Some(Owner::of(&found))
-    } else {
-        None
-    }
+// The permissions for a file: those that it is to have, or had before; a new script is executable. A file that may not be written is
+// refused.
+fn manner(draft: &Draft<'_>) -> io::Result<Manner> {
+    let own = match draft.here {
+        Here::File { rights, .. } => Manner::over(*rights)?,
+        _ if draft.entry.bits.script => Manner::Executable,
+        _ => Manner::Plain,
+    };
+    Ok(draft.manner.unwrap_or(own))
 }
 
 // Gives a file the name of another one that holds these bytes; `false` if that holds others by now.

@@ -3,8 +3,8 @@
 ghost use Rattle.std.specs.Prelude.{◌≡◌, true, IfOk, IfSome, OnOk, string_bytes};
 ghost use Rattle.ados_transfer.specs.Paths.{IsBelow, is_file_name, path_in};
 
-use crate::owners::{Owner, give};
 use crate::paths::{is_file_name, step_into};
+use crate::rights::{Owner, Rights};
 use crate::stamps::Stamp;
 use ados_ram::FileBytes;
 use ados_text::Name;
@@ -27,28 +27,26 @@ pub enum Manner {
     Executable,
     /// Those of this mode.
     Mode(u32),
-    /// Those of this mode, as the file had them that is replaced, and its owner.
-    Over(u32, Owner),
+    /// Those of the file that is replaced, or that had another name before, and its owner.
+    Kept(Rights),
+    /// Those of the file of which it is a copy, which is this user's: nobody else may write it.
+    Copied(Rights),
 }
 
 impl Manner {
-    /// The permissions of a file in place of one with this mode, and with this owner if that is known; one that may not be written is
-    /// refused: `PermissionDenied`.
-    pub fn over(mode: u32, owner: Option<Owner>) -> io::Result<Manner> {
-        if mode & 0o222 == 0 {
+    /// The permissions of a file in place of one with these; one that may not be written is refused: `PermissionDenied`.
+    pub fn over(rights: Rights) -> io::Result<Manner> {
+        if rights.mode & 0o222 == 0 {
             return Err(io::Error::from(ErrorKind::PermissionDenied));
         }
-        Ok(match owner {
-            Some(owner) => Manner::Over(mode, owner),
-            None => Manner::Mode(mode),
-        })
+        Ok(Manner::Kept(rights))
     }
 
     // The permissions that the file has until all of it is written: a file that others may not read must not be open to them.
     fn first_mode(self) -> u32 {
         match self {
             Manner::Plain | Manner::Executable => 0o666,
-            Manner::Mode(_) | Manner::Over(..) => 0o600,
+            Manner::Mode(_) | Manner::Kept(_) | Manner::Copied(_) => 0o600,
         }
     }
 }
@@ -131,7 +129,7 @@ pub fn write_whole<R: AllocGlobal + Files>(
         Err(error) => return Err(error),
     };
     let manner = match &seen {
-        Some(seen) => Manner::over(seen.permissions().mode(), Some(Owner::of(seen)))?,
+        Some(seen) => Manner::over(Rights::of(seen))?,
         None => Manner::Plain,
     };
     let beside = write_beside(rt, folder, bytes, manner)?;
@@ -152,10 +150,7 @@ pub fn write_whole<R: AllocGlobal + Files>(
 /// Gives a file a name that nothing has; `false` if something has it.
 pub fn place_new<R: AllocGlobal + Files>(rt: &R, beside: &str, target: &str) -> io::Result<bool> {
     match fs::hard_link(rt, beside, target) {
-        Ok(()) => {
-            fs::remove_file(rt, beside)?;
-            return Ok(true);
-        }
+        Ok(()) => return give_up(rt, beside, target),
         Err(error) if error.kind() == ErrorKind::AlreadyExists => return Ok(false),
         // Not every file system has second names.
         Err(_) => {}
@@ -168,6 +163,15 @@ pub fn place_new<R: AllocGlobal + Files>(rt: &R, beside: &str, target: &str) -> 
         }
         Err(error) => Err(error),
     }
+}
+
+// A file gives up the first of its two names; if that is refused, the second one, so that it is not there twice.
+fn give_up<R: Files>(rt: &R, old: &str, new: &str) -> io::Result<bool> {
+    if let Err(error) = fs::remove_file(rt, old) {
+        let _ = fs::remove_file(rt, new);
+        return Err(error);
+    }
+    Ok(true)
 }
 
 // Gives a file the name of one that was looked at; `false` if that has changed since.
@@ -216,7 +220,8 @@ fn fill<R: Files>(
     let mode = match manner {
         Manner::Plain => return Ok(()),
         Manner::Mode(mode) => mode & 0o777,
-        Manner::Over(mode, owner) => give(rt, path, &*file, owner, mode & 0o777)?,
+        Manner::Kept(rights) => rights.give(rt, path, &*file)?,
+        Manner::Copied(rights) => rights.copy_mode(Owner::of(&file.metadata()?)),
         Manner::Executable => {
             let mode = file.metadata()?.permissions().mode() & 0o777;
             mode | ((mode & 0o444) >> 2)

@@ -1,0 +1,173 @@
+//! Which permissions what is written to the folder gets: nobody is to read or write afterwards what he could not before.
+
+use crate::account::Account;
+use crate::departure::{Departure, Departures};
+use crate::mirror::Mirror;
+use crate::moves::Destination;
+use ados_ram::{Entry, FileBytes, Ram};
+use ados_transfer::{Here, Manner, Record, Rights, TransferFault};
+use std::fs;
+use std::rt::Files;
+
+// What a file, a script and a folder give to their user alone.
+const OWN_FILE: u32 = 0o600;
+
+const OWN_SCRIPT: u32 = 0o700;
+
+const OWN_FOLDER: u32 = 0o700;
+
+// Others may read a file, or enter a folder.
+const READ_BY_OTHERS: u32 = 0o004;
+
+const ENTERED_BY_OTHERS: u32 = 0o001;
+
+impl Mirror {
+    // Before an update writes anything: which permissions files have that the script moved to other places of a share, and whether a file
+    // or a folder is gone that others could not read or enter.
+    pub(crate) fn note_permissions<R: AllocGlobal + Files>(
+        &self,
+        rt: &R,
+        departures: &Departures<'_>,
+        account: &mut Account,
+    ) -> Result<(), TransferFault> {
+        for (key, destination) in self.moves.all() {
+            let record = self.records.get(key.as_str());
+            if let Some(rights) = record.and_then(|record| rights_here(rt, record)) {
+                self.note_moved(destination, Manner::Kept(rights), account)?;
+            }
+        }
+        for backup in self.backups.by_path.values() {
+            if let Some(destination) = &backup.moved {
+                self.note_moved(destination, backup.manner, account)?;
+            }
+        }
+        account.is_private = self.loses_private(rt, departures);
+        Ok(())
+    }
+
+    // A file with these permissions was moved there.
+    fn note_moved(
+        &self,
+        destination: &Destination,
+        manner: Manner,
+        account: &mut Account,
+    ) -> Result<(), TransferFault> {
+        if let Destination::At(place) = destination
+            && let Some(key) = self.key_of(place)?
+        {
+            account.moved.insert(key, manner)?;
+        }
+        Ok(())
+    }
+
+    // A file is gone that others could not read, or a folder that they could not enter, and it was not moved to a place of a share.
+    fn loses_private<R: Files>(&self, rt: &R, departures: &Departures<'_>) -> bool {
+        departures.by_key.iter().any(|(key, departure)| {
+            departure.is_gone()
+                && is_private(rt, departure)
+                && !self.is_moved(key.as_str(), departures)
+        })
+    }
+
+    // The file with this key was moved to a place of a share, or an object that is written has its bytes.
+    fn is_moved(&self, key: &str, departures: &Departures<'_>) -> bool {
+        if let Some(Destination::At(place)) = self.moves.destination(key) {
+            return self.volumes.of_place(place).is_some();
+        }
+        let Some(record) = self.records.get(key) else {
+            return false;
+        };
+        departures.by_key.values().any(|departure| {
+            departure
+                .entry
+                .and_then(Entry::bytes)
+                .is_some_and(|bytes| record.is_file_of(bytes))
+        })
+    }
+
+    // The permissions that an object of this key is to have, where these are not those of what is in its place, or of what is new: those of
+    // the file that was moved there, or that has its bytes; or none for others.
+    pub(crate) fn manner_of<R: Files>(
+        &self,
+        rt: &R,
+        files: &Ram,
+        object: (&str, &Entry),
+        here: &Here,
+        account: &Account,
+    ) -> Option<Manner> {
+        let (key, entry) = object;
+        if let Some(manner) = account.moved_manner(key) {
+            return Some(manner);
+        }
+        if here.rights().is_some() {
+            return None;
+        }
+        let known = match entry.bytes() {
+            Some(bytes) => self.manner_of_bytes(rt, files, bytes, account),
+            None => None,
+        };
+        match known {
+            None if account.is_private => Some(Manner::Mode(own_mode(entry))),
+            _ => known,
+        }
+    }
+
+    // The permissions of the file of the folder that has these bytes: one that the Shell no longer has, since this may be its new place, or
+    // else one of which this may be a copy.
+    fn manner_of_bytes<R: Files>(
+        &self,
+        rt: &R,
+        files: &Ram,
+        bytes: &FileBytes,
+        account: &Account,
+    ) -> Option<Manner> {
+        let original = self.original_of(files, bytes);
+        if let Some(record) = original
+            && !record.is_kept(files.look(&record.place))
+        {
+            return rights_here(rt, record).map(Manner::Kept);
+        }
+        let moved = match account.manner_of(bytes) {
+            Some(manner) => Some(manner),
+            None => self.backups.manner_of(bytes),
+        };
+        match (moved, original) {
+            (None, Some(record)) if bytes.len() > 0 => {
+                rights_here(rt, record).map(Manner::Copied)
+            }
+            (moved, _) => moved,
+        }
+    }
+}
+
+// The permissions of a file of the folder.
+fn rights_here<R: Files>(rt: &R, record: &Record) -> Option<Rights> {
+    match fs::symlink_metadata(rt, record.path.as_str()) {
+        Ok(found) if found.is_file() => Some(Rights::of(&found)),
+        _ => None,
+    }
+}
+
+// A file is there that others may not read, or a folder that they may not enter.
+fn is_private<R: Files>(rt: &R, departure: &Departure<'_>) -> bool {
+    let Ok(found) = fs::symlink_metadata(rt, departure.path.as_str()) else {
+        return false;
+    };
+    let needed = if found.is_dir() {
+        ENTERED_BY_OTHERS
+    } else {
+        READ_BY_OTHERS
+    };
+    (found.is_dir() || found.is_file()) && Rights::of(&found).mode & needed == 0
+}
+
+// What a new object gives to its user alone.
+fn own_mode(entry: &Entry) -> u32 {
+    if entry.is_directory() {
+        OWN_FOLDER
+    } else if entry.bits.script {
+        OWN_SCRIPT
+    } else {
+        OWN_FILE
+    }
+}
