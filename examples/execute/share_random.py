@@ -10,13 +10,14 @@ while something that the Shell has is not written, or after it gave way. What ch
 moves to T: stays here until it comes in again elsewhere, or is kept if a program deletes it. share_losses.py tries what the model leaves out.
 The last line is 'N changes, M starts: ok'.
 """
-import os, random, shutil, subprocess, sys, time
+import os, random, re, shutil, subprocess, sys, time
 
 os.environ['XDG_CONFIG_HOME'] = '/dev/null'
 STEPS = 120
 FILES = ['a', 'b', 'c', 'd', 'p/a', 'p/b', 'q/a', 'q/b', 'r/a']
 FOLDERS = ['p', 'q', 'r', 's']
 GONE, FOLDER = 'gone', 'folder'
+KEPT = re.compile(r'\.kept\d*$')
 
 
 def below(side, folder):
@@ -102,7 +103,7 @@ class Model:
                 pass
             elif shell == GONE and machine == FOLDER and below(self.machine, path):
                 self.put(self.last, path, GONE)
-            elif machine == last and machine != FOLDER and machine not in shell and any(machine in text for text in unwritten):
+            elif machine == last and machine != FOLDER and not shell.startswith(machine) and any(machine in text for text in unwritten):
                 # it comes in again
                 if not meanwhile:
                     self.put(self.last, path, GONE)
@@ -323,10 +324,12 @@ def run(program, room, random_, count):
             # a copy of what was written over waits there
             came = {path: text for path, text in came.items() if not os.path.basename(path).startswith('.amishell-execute.')}
         else:
-            # bytes that gave way to this machine's may be kept, and those that a program here has put elsewhere just now
-            extra = {path for path in came if path.endswith('.kept') and path not in stands}
+            # bytes that gave way to this machine's may be kept, and those that a program here has put elsewhere just now; what has to be
+            # kept may have a number, and the name that its file had before
+            names = {text: path for path, text in stands.items() if KEPT.search(path)}
+            extra = {path for path, text in came.items() if KEPT.search(path) and text not in names}
             extra |= {os.path.dirname(path) for path in extra} - set(stands)
-            came = {path: text for path, text in came.items() if path not in extra}
+            came = {names[text] if KEPT.search(path) else path: text for path, text in came.items() if path not in extra}
         if came != stands:
             for path in sorted(set(came) | set(stands)):
                 if came.get(path) != stands.get(path):
