@@ -201,8 +201,13 @@ def run(program, room, random_, count):
     with open(os.path.join(room, 'told'), 'w') as told:
         child = subprocess.Popen([program, '--core', '--host', f'act={act}', '--share', folder, os.path.join(room, 'script')], bufsize=0,
                                  stdin=subprocess.PIPE, stdout=subprocess.PIPE, stderr=told, preexec_fn=limit)
+    reached = -1
     for number, lines in enumerate(users):
-        await_step(child, number)
+        if reached < number:
+            reached = await_step(child, number, len(users), os.path.join(room, 'told'))
+        if reached > number:
+            # its program did not start, since something is not written
+            continue
         if asks[number]:
             await_input(child.pid)
         looks.look(f'{room}, before step {number}')
@@ -224,14 +229,21 @@ def run(program, room, random_, count):
     return done, looks.looks
 
 
-def await_step(child, number):
-    """Reads what the script prints up to a step."""
+def await_step(child, number, count, told_at):
+    """Reads what the script prints up to a step, or to a later one (or the end) if programs do not start; gives which one that is."""
     said = b''
-    while not said.endswith(f'{number}? '.encode()):
+    while True:
         byte = child.stdout.read(1)
-        if not byte:
-            raise SystemExit(f'the script ended before step {number}: {said[-300:].decode()}: FAILED')
         said += byte
+        come = re.search(rb'(\d+)\? $', said)
+        if not byte or come and int(come[1]) >= number:
+            break
+    reached = int(come[1]) if byte else count
+    # the limit of a file's size cuts the lines of standard error off
+    with open(told_at) as told:
+        if reached > number and 'no program starts' not in told.read() and b'act: object not found' not in said:
+            raise SystemExit(f'the script ended before step {number}: {said[-300:].decode()}: FAILED')
+    return reached
 
 
 def nothing_is_left(room, folder):

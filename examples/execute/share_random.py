@@ -123,12 +123,13 @@ class Model:
         if any(text in self.let_go and text not in self.machine.values() for text in self.out.values()):
             # it is written back under a name of its own
             raise Unsure
+        self.note_copied()
 
     def keep_moved(self):
         """At the end what only T: has, since a program deleted or wrote over it, stands under a name of its own beside where it was."""
         for text in [text for text in self.out.values() if text not in self.machine.values()]:
             if text in self.copied:
-                # a program put it elsewhere, and deleted it there
+                # a program or the script put it elsewhere, and a program deleted it there
                 raise Unsure
             path = self.origins[text] + '.kept'
             folder = os.path.dirname(path)
