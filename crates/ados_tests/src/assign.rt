@@ -1,10 +1,10 @@
 // Assigns and where paths lead.
-use crate::places::{are_names, at, name};
+use crate::places::{are_names, at, name, text};
 use crate::wrong::{Wrong, expect};
 use ados_assign::{Assigns, Binding, Places};
 use ados_names::Path;
 use ados_ram::{Busy, Limits, Place, Ram};
-use ados_text::{NoMemory, Stop, Text};
+use ados_text::{NoMemory, Stop};
 use std::alloc::Global;
 
 // The first assigns with `Libs` bound to S too.
@@ -48,10 +48,6 @@ fn files(alloc: Global) -> Result<Ram, Stop> {
     Ram::new(alloc)?.write(Limits::Small, &Busy::none(alloc), &at(alloc, "T/x")?, b"1")
 }
 
-fn text(alloc: Global, written: &str) -> Result<Text, NoMemory> {
-    Text::from_bytes(alloc, written.as_bytes())
-}
-
 fn both(alloc: Global, first: &str, second: &str) -> Result<Binding, NoMemory> {
     let mut places = Vec::new(alloc);
     places.push(at(alloc, first)?)?;
@@ -60,7 +56,7 @@ fn both(alloc: Global, first: &str, second: &str) -> Result<Binding, NoMemory> {
 }
 
 // M: is S and T, P: the text `D:`, D: one of Defer that leads to T, and Q: a text that leads to itself.
-fn with_texts(alloc: Global) -> Result<Assigns, NoMemory> {
+pub fn with_texts(alloc: Global) -> Result<Assigns, NoMemory> {
     Assigns::first(alloc)?
         .set(name(alloc, "M")?, both(alloc, "S", "T")?)?
         .set(name(alloc, "P")?, Binding::Path(text(alloc, "D:")?))?

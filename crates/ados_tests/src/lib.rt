@@ -11,8 +11,6 @@ mod breaks;
 #[cfg(test)]
 mod cache;
 #[cfg(test)]
-mod cache_room;
-#[cfg(test)]
 mod items;
 #[cfg(test)]
 mod jumps;
