@@ -83,9 +83,7 @@ fn renamed(alloc: Global, old: &Shared) -> Result<Shared, Stop> {
 }
 
 fn deleted(alloc: Global, old: &Shared) -> Result<Shared, Stop> {
-    let files = old
-        .ram
-        .delete(&Busy::none(alloc), false, &at(alloc, "T")?)?;
+    let files = old.ram.delete(&Busy::none(alloc), false, &at(alloc, "T")?)?;
     Ok(old.with_files(files)?)
 }
 
@@ -182,8 +180,7 @@ fn holds_of(alloc: Global, shared: &mut Shared, asked: Asked) -> Result<bool, Wr
         Asked::Spelling => knows_as_written(alloc, shared),
         Asked::Change(change, path, before, after) => {
             teach(alloc, shared, path)?;
-            Ok(is_anew(alloc, shared, change, path, after)?
-                && leads(alloc, shared, path, before)?)
+            Ok(is_anew(alloc, shared, change, path, after)? && leads(alloc, shared, path, before)?)
         }
         Asked::Unknown(path) => Ok(stays_unknown(alloc, shared, path)?),
         Asked::Learning => leads_where_it_led(alloc, shared),

@@ -11,6 +11,8 @@ mod breaks;
 #[cfg(test)]
 mod cache;
 #[cfg(test)]
+mod drive;
+#[cfg(test)]
 mod items;
 #[cfg(test)]
 mod jumps;
@@ -30,7 +32,5 @@ mod readargs;
 mod text;
 #[cfg(test)]
 mod tree;
-#[cfg(test)]
-mod world;
 #[cfg(test)]
 mod wrong;

@@ -39,37 +39,27 @@ fn renamed(alloc: Global, ram: &Ram, busy: &Busy, from: &str, to: &str) -> Resul
     ram.rename(busy, &at(alloc, from)?, &at(alloc, to)?)
 }
 
-// If an output is open at `S/q` the deletion of each of these has this number.
-fn delete(alloc: Global, rows: &[(&'static str, u16)]) -> Result<(), Wrong> {
+// The deletion of this object, and its rename to T, have this number.
+fn refuses(alloc: Global, ram: &Ram, busy: &Busy, name: &str, want: u16) -> Result<bool, NoMemory> {
+    Ok(
+        fault(deleted(alloc, ram, busy, name))? == want
+            && fault(renamed(alloc, ram, busy, name, "T"))? == want,
+    )
+}
+
+// Each of these is refused with this number if an output is open at `S/q`.
+fn refuse(alloc: Global, rows: &[(&'static str, u16)]) -> Result<(), Wrong> {
     let ram = with_script(alloc)?;
     let busy = in_use(alloc)?;
     for (name, want) in rows {
-        expect(fault(deleted(alloc, &ram, &busy, name))? == *want, name)?;
+        expect(refuses(alloc, &ram, &busy, name, *want)?, name)?;
     }
     Ok(())
 }
 
 #[test]
-fn what_is_above_an_output_is_not_deleted(rt: HostRuntime) -> Result<(), Wrong> {
-    delete(rt.alloc(), &[("X", 205), ("S", 202)])
-}
-
-// If an output is open at `S/q` the rename of each of these to T has this number.
-fn rename(alloc: Global, rows: &[(&'static str, u16)]) -> Result<(), Wrong> {
-    let ram = with_script(alloc)?;
-    let busy = in_use(alloc)?;
-    for (name, want) in rows {
-        expect(
-            fault(renamed(alloc, &ram, &busy, name, "T"))? == *want,
-            name,
-        )?;
-    }
-    Ok(())
-}
-
-#[test]
-fn what_is_above_an_output_is_not_renamed(rt: HostRuntime) -> Result<(), Wrong> {
-    rename(rt.alloc(), &[("X", 205), ("S", 202)])
+fn what_is_above_an_output_is_neither_deleted_nor_renamed(rt: HostRuntime) -> Result<(), Wrong> {
+    refuse(rt.alloc(), &[("X", 205), ("S", 202)])
 }
 
 // How many files are below T.
@@ -79,7 +69,7 @@ fn directory_files(alloc: Global, ram: &Ram) -> Result<usize, NoMemory> {
 
 // The files after a rename of S to `T/n`.
 fn moved(alloc: Global, old: &Ram) -> Result<Ram, Stop> {
-    renamed(alloc, &old.copy()?, &Busy::none(alloc), "S", "T/n")
+    renamed(alloc, old, &Busy::none(alloc), "S", "T/n")
 }
 
 // One more file is below T after the rename, and none before it.
@@ -87,9 +77,14 @@ fn is_moved(alloc: Global, old: &Ram, new: &Ram) -> Result<bool, NoMemory> {
     Ok(directory_files(alloc, new)? == 1 && directory_files(alloc, old)? == 0)
 }
 
+// The files that are renamed are lent, and the new ones owned here.
+fn stands(alloc: Global, old: &Ram) -> Result<bool, Stop> {
+    let new = moved(alloc, old)?;
+    Ok(is_moved(alloc, old, &new)?)
+}
+
 #[test]
 fn an_older_version_stands(rt: HostRuntime) -> Result<(), Wrong> {
     let old = with_script(rt.alloc())?;
-    let new = moved(rt.alloc(), &old)?;
-    expect(is_moved(rt.alloc(), &old, &new)?, "T")
+    expect(stands(rt.alloc(), &old)?, "T")
 }

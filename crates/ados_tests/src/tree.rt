@@ -1,4 +1,5 @@
 // Versions that are kept, and the files at their limit: wide and deep.
+use crate::wrong::{Wrong, expect};
 use ados_ram::{Bits, Busy, Limits, Place, Ram};
 use ados_text::{Name, NoMemory, Stop, Text};
 use std::alloc::Global;
@@ -106,61 +107,114 @@ fn bottom(alloc: Global) -> Result<Place, NoMemory> {
     Ok(place)
 }
 
-#[test]
-fn a_version_stands_through_a_hundred_changes(rt: HostRuntime) -> Result<(), Stop> {
-    let old = written(rt.alloc(), &Ram::new(rt.alloc())?, &[b"S", b"Kept"], b"old")?;
-    let new = changed(rt.alloc(), &old)?;
-    let names = old.list(&at(rt.alloc(), &[b"S"])?)?.len();
-    let more = new.list(&at(rt.alloc(), &[b"S"])?)?.len();
-    assert!(rt; names == 1 && more == 51);
-    assert!(rt; holds(rt.alloc(), &old, b"old")? && holds(rt.alloc(), &new, b"E9")?);
-    Ok(())
+// How many objects are in S.
+fn listed(alloc: Global, ram: &Ram) -> Result<usize, NoMemory> {
+    Ok(ram.list(&at(alloc, &[b"S"])?)?.len())
+}
+
+// The older files hold one file as it was, and the newer ones all.
+fn both_stand(alloc: Global, old: &Ram, new: &Ram) -> Result<bool, NoMemory> {
+    Ok(
+        listed(alloc, old)? == 1
+            && listed(alloc, new)? == 51
+            && holds(alloc, old, b"old")?
+            && holds(alloc, new, b"E9")?,
+    )
+}
+
+// Each function owns one version at most, and lends it: to drop one at many exits is expensive to prove.
+fn stands(alloc: Global, old: &Ram) -> Result<bool, Stop> {
+    let new = changed(alloc, old)?;
+    Ok(both_stand(alloc, old, &new)?)
+}
+
+fn with_kept(alloc: Global) -> Result<Ram, Stop> {
+    written(alloc, &Ram::new(alloc)?, &[b"S", b"Kept"], b"old")
 }
 
 #[test]
-fn a_directory_holds_all_objects(rt: HostRuntime) -> Result<(), Stop> {
+fn a_version_stands_through_a_hundred_changes(rt: HostRuntime) -> Result<(), Wrong> {
+    let old = with_kept(rt.alloc())?;
+    expect(stands(rt.alloc(), &old)?, "S")
+}
+
+// How many objects are in the root.
+fn root_objects(alloc: Global, ram: &Ram) -> Result<usize, NoMemory> {
+    Ok(ram.children(&Place::root(alloc))?.len())
+}
+
+fn has(alloc: Global, ram: &Ram, name: &[u8]) -> Result<bool, NoMemory> {
+    Ok(ram.look(&at(alloc, &[name])?).is_some())
+}
+
+// Every second object is in the older files alone.
+fn are_thinned(alloc: Global, old: &Ram, new: &Ram) -> Result<bool, NoMemory> {
+    Ok(
+        root_objects(alloc, new)? == 514
+            && has(alloc, old, b"aa")?
+            && !has(alloc, new, b"aa")?
+            && has(alloc, old, b"ab")?
+            && has(alloc, new, b"ab")?,
+    )
+}
+
+fn shrink(alloc: Global, old: &Ram) -> Result<bool, Stop> {
+    let new = thinned(alloc, old)?;
+    Ok(are_thinned(alloc, old, &new)?)
+}
+
+#[test]
+fn a_directory_grows_to_all_objects_and_shrinks(rt: HostRuntime) -> Result<(), Wrong> {
     let ram = wide(rt.alloc())?;
-    let count = ram.children(&Place::root(rt.alloc()))?.len();
-    assert!(rt; count == 1_024);
-    Ok(())
+    expect(root_objects(rt.alloc(), &ram)? == 1_024, "all objects")?;
+    expect(shrink(rt.alloc(), &ram)?, "every second object")
 }
 
-#[test]
-fn blocks_of_a_directory_grow_and_shrink(rt: HostRuntime) -> Result<(), Stop> {
-    let old = wide(rt.alloc())?;
-    let new = thinned(rt.alloc(), &old)?;
-    let even = at(rt.alloc(), &[b"aa"])?;
-    let odd = at(rt.alloc(), &[b"ab"])?;
-    let count = new.children(&Place::root(rt.alloc()))?.len();
-    assert!(rt; count == 514);
-    assert!(rt; old.look(&even).is_some() && new.look(&even).is_none());
-    assert!(rt; old.look(&odd).is_some() && new.look(&odd).is_some());
-    Ok(())
+// The contents of the root are the thousand directories, the deepest first, and the four at first.
+fn are_contents(alloc: Global, ram: &Ram) -> Result<bool, NoMemory> {
+    let places = ram.contents(&Place::root(alloc))?;
+    match (places.first(), places.get(999)) {
+        (Some(first), Some(last)) => {
+            Ok(places.len() == 1_004 && first.names().len() == 1_000 && last.names().len() == 1)
+        }
+        _ => Ok(false),
+    }
 }
 
-#[test]
-fn contents_end_with_what_holds_them(rt: HostRuntime) -> Result<(), Stop> {
-    let ram = deep(rt.alloc())?;
-    let places = ram.contents(&Place::root(rt.alloc()))?;
-    assert!(rt; places.len() == 1_004);
-    assert!(rt; places[0].names().len() == 1_000 && places[999].names().len() == 1);
-    assert!(rt; is_reached(rt.alloc(), &ram)?);
-    Ok(())
-}
-
-#[test]
-fn directories_stand_a_thousand_deep(rt: HostRuntime) -> Result<(), Stop> {
-    let ram = deep(rt.alloc())?;
-    let place = bottom(rt.alloc())?;
-    assert!(rt; ram.look(&place).is_some());
-    let new = ram.protect(
-        &place,
+fn protected(ram: &Ram, place: &Place) -> Result<Ram, Stop> {
+    ram.protect(
+        place,
         Bits {
             pure: true,
             ..Bits::FRESH
         },
+    )
+}
+
+// What is at a place of these files can be deleted, and they stand.
+fn is_deleted(alloc: Global, ram: &Ram, place: &Place) -> Result<bool, Stop> {
+    let without = ram.delete(&Busy::none(alloc), false, place)?;
+    Ok(without.look(place).is_none() && ram.look(place).is_some())
+}
+
+// What is at a place can be protected, and then deleted.
+fn takes_changes(alloc: Global, ram: &Ram, place: &Place) -> Result<bool, Stop> {
+    let new = protected(ram, place)?;
+    is_deleted(alloc, &new, place)
+}
+
+fn bottom_takes_changes(alloc: Global, ram: &Ram) -> Result<bool, Stop> {
+    let place = bottom(alloc)?;
+    Ok(ram.look(&place).is_some() && takes_changes(alloc, ram, &place)?)
+}
+
+#[test]
+fn directories_stand_a_thousand_deep(rt: HostRuntime) -> Result<(), Wrong> {
+    let ram = deep(rt.alloc())?;
+    expect(
+        are_contents(rt.alloc(), &ram)?,
+        "contents end with what holds them",
     )?;
-    let without = new.delete(&Busy::none(rt.alloc()), false, &place)?;
-    assert!(rt; without.look(&place).is_none() && new.look(&place).is_some());
-    Ok(())
+    expect(is_reached(rt.alloc(), &ram)?, "one step after another")?;
+    expect(bottom_takes_changes(rt.alloc(), &ram)?, "the last of them")
 }
