@@ -108,12 +108,12 @@ fn bottom(alloc: Global) -> Result<Place, NoMemory> {
 }
 
 // How many objects are in S.
-fn listed(alloc: Global, ram: &Ram) -> Result<usize, NoMemory> {
+fn listed(alloc: Global, ram: &Ram) -> Result<usize, Stop> {
     Ok(ram.list(&at(alloc, &[b"S"])?)?.len())
 }
 
 // The older files hold one file as it was, and the newer ones all.
-fn both_stand(alloc: Global, old: &Ram, new: &Ram) -> Result<bool, NoMemory> {
+fn both_stand(alloc: Global, old: &Ram, new: &Ram) -> Result<bool, Stop> {
     Ok(
         listed(alloc, old)? == 1
             && listed(alloc, new)? == 51
@@ -125,7 +125,7 @@ fn both_stand(alloc: Global, old: &Ram, new: &Ram) -> Result<bool, NoMemory> {
 // Each function owns one version at most, and lends it: to drop one at many exits is expensive to prove.
 fn stands(alloc: Global, old: &Ram) -> Result<bool, Stop> {
     let new = changed(alloc, old)?;
-    Ok(both_stand(alloc, old, &new)?)
+    both_stand(alloc, old, &new)
 }
 
 fn with_kept(alloc: Global) -> Result<Ram, Stop> {
