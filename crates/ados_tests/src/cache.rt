@@ -247,6 +247,7 @@ const UNKNOWN: &[(Asked, &str)] = &[
     (Asked::Unknown("M:x"), "M:x"),
     (Asked::Unknown("P:x"), "P:x"),
     (Asked::Unknown("D:x"), "D:x"),
+    (Asked::Unknown("Q:x"), "Q:x"),
 ];
 
 #[test]
