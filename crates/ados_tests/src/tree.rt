@@ -1,29 +1,26 @@
 // Versions that are kept, and the files at their limit: wide and deep.
+use crate::places::{at, name};
 use crate::wrong::{Wrong, expect};
 use ados_ram::{Bits, Busy, Limits, Place, Ram};
 use ados_text::{Name, NoMemory, Stop, Text};
 use std::alloc::Global;
 
-// The place of the names, one of each text.
-fn at(alloc: Global, names: &[&[u8]]) -> Result<Place, NoMemory> {
-    let mut place = Place::root(alloc);
-    for name in names {
-        place = place.with(Name::new(Text::from_bytes(alloc, name)?))?;
-    }
-    Ok(place)
+// The place of a name below that of a text.
+fn below(alloc: Global, directory: &str, name: &[u8]) -> Result<Place, NoMemory> {
+    at(alloc, directory)?.with(Name::new(Text::from_bytes(alloc, name)?))
 }
 
-fn written(alloc: Global, ram: &Ram, names: &[&[u8]], bytes: &[u8]) -> Result<Ram, Stop> {
-    ram.write(Limits::Small, &Busy::none(alloc), &at(alloc, names)?, bytes)
+fn written(alloc: Global, ram: &Ram, place: &Place, bytes: &[u8]) -> Result<Ram, Stop> {
+    ram.write(Limits::Small, &Busy::none(alloc), place, bytes)
 }
 
-fn renamed(alloc: Global, ram: &Ram, from: &[&[u8]], to: &[&[u8]]) -> Result<Ram, Stop> {
+fn renamed(alloc: Global, ram: &Ram, from: &str, to: &str) -> Result<Ram, Stop> {
     ram.rename(&Busy::none(alloc), &at(alloc, from)?, &at(alloc, to)?)
 }
 
 // A file of the directory S holds these bytes.
 fn holds(alloc: Global, ram: &Ram, bytes: &[u8]) -> Result<bool, NoMemory> {
-    let place = at(alloc, &[b"s", b"kept"])?;
+    let place = at(alloc, "s/kept")?;
     let file = ram.look(&place).and_then(|entry| entry.bytes());
     Ok(file.is_some_and(|found| found.is(bytes)))
 }
@@ -34,8 +31,8 @@ fn changed(alloc: Global, old: &Ram) -> Result<Ram, Stop> {
     for first in 0..5_u8 {
         for second in 0..10_u8 {
             let name = [b'A' + first, b'0' + second];
-            ram = written(alloc, &ram, &[b"s", &name], b"new")?;
-            ram = written(alloc, &ram, &[b"S", b"Kept"], &name)?;
+            ram = written(alloc, &ram, &below(alloc, "s", &name)?, b"new")?;
+            ram = written(alloc, &ram, &at(alloc, "S/Kept")?, &name)?;
         }
     }
     Ok(ram)
@@ -46,7 +43,8 @@ fn wide(alloc: Global) -> Result<Ram, Stop> {
     let mut ram = Ram::new(alloc)?;
     for first in 0..32_u8 {
         for second in 0..32_u8 {
-            match written(alloc, &ram, &[&[b'A' + first, b'A' + second]], b"x") {
+            let place = below(alloc, "", &[b'A' + first, b'A' + second])?;
+            match written(alloc, &ram, &place, b"x") {
                 Ok(more) => ram = more,
                 Err(Stop::Refused(_)) => {}
                 Err(Stop::NoMemory) => return Err(Stop::NoMemory),
@@ -61,7 +59,7 @@ fn thinned(alloc: Global, wide: &Ram) -> Result<Ram, Stop> {
     let mut ram = wide.copy()?;
     for first in 0..32_u8 {
         for second in 0..16_u8 {
-            let place = at(alloc, &[&[b'A' + first, b'A' + 2 * second]])?;
+            let place = below(alloc, "", &[b'A' + first, b'A' + 2 * second])?;
             match ram.delete(&Busy::none(alloc), false, &place) {
                 Ok(less) => ram = less,
                 Err(Stop::Refused(_)) => {}
@@ -74,8 +72,8 @@ fn thinned(alloc: Global, wide: &Ram) -> Result<Ram, Stop> {
 
 // Something is at the bottom of the thousand directories, one step after another.
 fn is_reached(alloc: Global, ram: &Ram) -> Result<bool, NoMemory> {
-    let name = Name::new(Text::from_bytes(alloc, b"D")?);
-    let mut cursor = ram.below(&at(alloc, &[b"A"])?);
+    let name = name(alloc, "D")?;
+    let mut cursor = ram.below(&at(alloc, "A")?);
     for _ in 0..999 {
         cursor = cursor.child(&name);
     }
@@ -84,14 +82,14 @@ fn is_reached(alloc: Global, ram: &Ram) -> Result<bool, NoMemory> {
 
 // The same files with what is at A one directory deeper.
 fn deeper(alloc: Global, ram: &Ram) -> Result<Ram, Stop> {
-    let with = ram.make_dir(Limits::Small, &at(alloc, &[b"P"])?)?;
-    let inside = renamed(alloc, &with, &[b"A"], &[b"P", b"D"])?;
-    renamed(alloc, &inside, &[b"P"], &[b"A"])
+    let with = ram.make_dir(Limits::Small, &at(alloc, "P")?)?;
+    let inside = renamed(alloc, &with, "A", "P/D")?;
+    renamed(alloc, &inside, "P", "A")
 }
 
 // The files with a thousand directories, each in the one before.
 fn deep(alloc: Global) -> Result<Ram, Stop> {
-    let mut ram = Ram::new(alloc)?.make_dir(Limits::Small, &at(alloc, &[b"A"])?)?;
+    let mut ram = Ram::new(alloc)?.make_dir(Limits::Small, &at(alloc, "A")?)?;
     for _ in 0..999 {
         ram = deeper(alloc, &ram)?;
     }
@@ -100,16 +98,16 @@ fn deep(alloc: Global) -> Result<Ram, Stop> {
 
 // The place of the last of the thousand directories.
 fn bottom(alloc: Global) -> Result<Place, NoMemory> {
-    let mut place = at(alloc, &[b"a"])?;
+    let mut place = at(alloc, "a")?;
     for _ in 0..999 {
-        place = place.with(Name::new(Text::from_bytes(alloc, b"d")?))?;
+        place = place.with(name(alloc, "d")?)?;
     }
     Ok(place)
 }
 
 // How many objects are in S.
 fn listed(alloc: Global, ram: &Ram) -> Result<usize, Stop> {
-    Ok(ram.list(&at(alloc, &[b"S"])?)?.len())
+    Ok(ram.list(&at(alloc, "S")?)?.len())
 }
 
 // The older files hold one file as it was, and the newer ones all.
@@ -129,7 +127,7 @@ fn stands(alloc: Global, old: &Ram) -> Result<bool, Stop> {
 }
 
 fn with_kept(alloc: Global) -> Result<Ram, Stop> {
-    written(alloc, &Ram::new(alloc)?, &[b"S", b"Kept"], b"old")
+    written(alloc, &Ram::new(alloc)?, &at(alloc, "S/Kept")?, b"old")
 }
 
 #[test]
@@ -143,18 +141,18 @@ fn root_objects(alloc: Global, ram: &Ram) -> Result<usize, NoMemory> {
     Ok(ram.children(&Place::root(alloc))?.len())
 }
 
-fn has(alloc: Global, ram: &Ram, name: &[u8]) -> Result<bool, NoMemory> {
-    Ok(ram.look(&at(alloc, &[name])?).is_some())
+fn has(alloc: Global, ram: &Ram, name: &str) -> Result<bool, NoMemory> {
+    Ok(ram.look(&at(alloc, name)?).is_some())
 }
 
 // Every second object is in the older files alone.
 fn are_thinned(alloc: Global, old: &Ram, new: &Ram) -> Result<bool, NoMemory> {
     Ok(
         root_objects(alloc, new)? == 514
-            && has(alloc, old, b"aa")?
-            && !has(alloc, new, b"aa")?
-            && has(alloc, old, b"ab")?
-            && has(alloc, new, b"ab")?,
+            && has(alloc, old, "aa")?
+            && !has(alloc, new, "aa")?
+            && has(alloc, old, "ab")?
+            && has(alloc, new, "ab")?,
     )
 }
 
