@@ -12,6 +12,8 @@ use std::alloc::Global;
 // What makes a new version of what is shared.
 #[derive(Clone, Copy)]
 enum Change {
+    // T is E.
+    Rename,
     // T is not there.
     Delete,
     // `S` is bound to L.
@@ -76,6 +78,10 @@ fn knows_as_written(alloc: Global, shared: &mut Shared) -> Result<bool, Wrong> {
     )
 }
 
+fn renamed(alloc: Global, old: &Shared) -> Result<Shared, Stop> {
+    old.renamed(&Busy::none(alloc), &at(alloc, "T")?, &at(alloc, "E")?)
+}
+
 fn deleted(alloc: Global, old: &Shared) -> Result<Shared, Stop> {
     let files = old.ram.delete(&Busy::none(alloc), false, &at(alloc, "T")?)?;
     Ok(old.with_files(files)?)
@@ -88,6 +94,7 @@ fn bound(alloc: Global, old: &Shared) -> Result<Shared, NoMemory> {
 
 fn changed(alloc: Global, old: &Shared, change: Change) -> Result<Shared, Stop> {
     match change {
+        Change::Rename => renamed(alloc, old),
         Change::Delete => deleted(alloc, old),
         Change::Assign => Ok(bound(alloc, old)?),
         Change::Residents => Ok(old.with_residents(old.residents.copy()?)?),
@@ -210,6 +217,10 @@ fn up_to_sixty_four_paths_are_known_as_they_were_written(rt: HostRuntime) -> Res
 }
 
 const CHANGES: &[(Asked, &str)] = &[
+    (
+        Asked::Change(Change::Rename, "T/x", "T/x", ""),
+        "T/x once T is E",
+    ),
     (
         Asked::Change(Change::Delete, "T/x", "T/x", ""),
         "T/x once T is not there",
