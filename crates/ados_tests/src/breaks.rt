@@ -1,44 +1,29 @@
 // Breaks of a driven world: numbers that no recording can write, and how they count.
-use crate::memory::{FlakyReader, FlakyWriter, NEVER};
+use crate::drive::{Given, PLAIN, driven};
 use crate::wrong::{Wrong, expect, expect_row};
-use ados_launch::{BreakAt, Counted, Drive, DriveFault, End, Listed};
+use ados_launch::{BreakAt, DriveFault};
 use ados_text::NoMemory;
-use ados_world::{BreakKind, World};
+use ados_world::BreakKind;
 use std::alloc::Global;
 
-// How a fresh world ends that is driven by one line with these breaks. `NoMemory` for the world is passed on.
-#[tactic(auto, using(ados_launch::proofs::NewPair::new_pair))]
-fn drive(
+// With these breaks and turns this many events are taken, none if one more is due, and this many bytes are written.
+fn takes(
     alloc: Global,
     breaks: &[BreakAt],
     turns: u64,
-    text: &mut Vec<u8>,
-) -> Result<Result<End, DriveFault>, NoMemory> {
-    let Ok(mut world) = World::new(alloc, &[]) else {
-        return Err(NoMemory);
-    };
-    let mut launcher = Listed::new(Vec::new(alloc));
-    let mut reader = Counted::new(FlakyReader::new(b"Echo a\n", 100, NEVER));
-    let mut writer = Counted::new(FlakyWriter::new(text, 100, NEVER, NEVER));
-    let drive = Drive {
-        alloc,
-        turns,
+    want: Option<u64>,
+    bytes: usize,
+) -> Result<bool, NoMemory> {
+    let given = Given {
+        lines: b"Echo a\n",
         breaks,
+        turns,
+        ..PLAIN
     };
-    Ok(drive.run(&mut world, &mut launcher, &mut reader, &mut writer))
-}
-
-// How many events were taken, and how many bytes were written. `NoMemory` is passed on.
-fn driven(
-    alloc: Global,
-    breaks: &[BreakAt],
-    turns: u64,
-) -> Result<(Result<u64, DriveFault>, usize), NoMemory> {
-    let mut text = Vec::with_capacity(alloc, 200)?;
-    match drive(alloc, breaks, turns, &mut text)? {
-        Ok(end) => Ok((Ok(end.events), text.len())),
-        Err(DriveFault::Memory) => Err(NoMemory),
-        Err(fault) => Ok((Err(fault), text.len())),
+    match driven(alloc, given)? {
+        (Ok(end), written) => Ok(want == Some(end.events) && written == bytes),
+        (Err(DriveFault::Turns), written) => Ok(want.is_none() && written == bytes),
+        _ => Ok(false),
     }
 }
 
@@ -70,8 +55,7 @@ fn rows(alloc: Global, rows: &[(u64, u8, u64, Option<u64>, usize)]) -> Result<()
             shell: *shell,
             kind: BreakKind::D,
         };
-        let want = (taken.ok_or(DriveFault::Turns), *bytes);
-        expect_row(driven(alloc, &[at], *turns)? == want, place)?;
+        expect_row(takes(alloc, &[at], *turns, *taken, *bytes)?, place)?;
     }
     Ok(())
 }
@@ -98,7 +82,7 @@ const FALLING: &[BreakAt] = &[
 #[test]
 fn breaks_are_given_in_the_order_of_their_list(rt: HostRuntime) -> Result<(), Wrong> {
     expect(
-        driven(rt.alloc(), FALLING, 100)? == (Ok(6), 2),
+        takes(rt.alloc(), FALLING, 100, Some(6), 2)?,
         "a list that falls",
     )
 }

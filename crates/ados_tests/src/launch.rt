@@ -1,73 +1,20 @@
-// A driver with a launcher, a reader and a writer that fail.
-use crate::memory::{FlakyReader, FlakyWriter, NEVER};
+// A driver with a reader and a writer that fail.
+use crate::drive::{Given, PLAIN, driven};
 use crate::wrong::{Wrong, expect, expect_row};
-use ados_launch::{Counted, Drive, DriveFault, End, Listed};
+use ados_launch::{DriveFault, End};
 use ados_text::{Code, NoMemory, Result2};
-use ados_world::World;
 use std::alloc::Global;
 
-// More events than any run here has.
-const ENOUGH: u64 = 100;
-
-// Which calls go wrong, counted from 1.
-#[derive(Clone, Copy)]
-struct Failing {
-    read: u64,
-    write: u64,
-    stalled_write: u64,
-}
-
-const NONE_FAILS: Failing = Failing {
-    read: NEVER,
-    write: NEVER,
-    stalled_write: NEVER,
+const TWO_LINES: Given = Given {
+    lines: b"Echo a\nEcho b\n",
+    ..PLAIN
 };
 
-// A fresh world driven by these bytes, read three at a time and written one at a time. `NoMemory` for the world is
-// passed on.
-#[tactic(auto, using(ados_launch::proofs::NewPair::new_pair))]
-fn drive(
-    alloc: Global,
-    input: &[u8],
-    text: &mut Vec<u8>,
-    fails: Failing,
-    turns: u64,
-) -> Result<Result<End, DriveFault>, NoMemory> {
-    let Ok(mut world) = World::new(alloc, &[]) else {
-        return Err(NoMemory);
-    };
-    let mut launcher = Listed::new(Vec::new(alloc));
-    let mut reader = Counted::new(FlakyReader::new(input, 3, fails.read));
-    let mut writer = Counted::new(FlakyWriter::new(text, 1, fails.write, fails.stalled_write));
-    let drive = Drive {
-        alloc,
-        turns,
-        breaks: &[],
-    };
-    Ok(drive.run(&mut world, &mut launcher, &mut reader, &mut writer))
-}
-
-// How a fresh world that was driven in this way ended, none if it ended well, and how many bytes it wrote. `NoMemory` is
-// passed on.
-fn driven(
-    alloc: Global,
-    input: &[u8],
-    fails: Failing,
-    turns: u64,
-) -> Result<(Option<DriveFault>, usize), NoMemory> {
-    let mut text = Vec::with_capacity(alloc, 200)?;
-    match drive(alloc, input, &mut text, fails, turns)?.err() {
-        Some(DriveFault::Memory) => Err(NoMemory),
-        fault => Ok((fault, text.len())),
-    }
-}
-
-// What a fresh world driven by these bytes ends with, if nothing fails. `NoMemory` is passed on.
-fn ended(alloc: Global, input: &[u8]) -> Result<Result<End, DriveFault>, NoMemory> {
-    let mut text = Vec::with_capacity(alloc, 200)?;
-    match drive(alloc, input, &mut text, NONE_FAILS, ENOUGH)? {
-        Err(DriveFault::Memory) => Err(NoMemory),
-        end => Ok(end),
+// The world ends well in this way, after this many bytes.
+fn ends(alloc: Global, given: Given, want: End, bytes: usize) -> Result<bool, NoMemory> {
+    match driven(alloc, given)? {
+        (Ok(end), written) => Ok(end == want && written == bytes),
+        (Err(_), _) => Ok(false),
     }
 }
 
@@ -79,20 +26,28 @@ const FAILED: End = End {
 
 #[test]
 fn the_end_has_the_codes_of_the_last_command(rt: HostRuntime) -> Result<(), Wrong> {
-    expect(ended(rt.alloc(), b"foo\n")? == Ok(FAILED), "the end")
+    let given = Given {
+        lines: b"foo\n",
+        ..PLAIN
+    };
+    expect(ends(rt.alloc(), given, FAILED, 47)?, "the end")
 }
 
-const TWO_LINES: &[u8] = b"Echo a\nEcho b\n";
+// The fault that ends the world, if one does, and how many bytes were written before it.
+fn fault(alloc: Global, given: Given) -> Result<(Option<DriveFault>, usize), NoMemory> {
+    let (ended, bytes) = driven(alloc, given)?;
+    Ok((ended.err(), bytes))
+}
 
 // Each of these reads fails in its turn.
 fn fail_reads(alloc: Global, reads: usize) -> Result<(), Wrong> {
     for read in 1..=reads {
-        let fails = Failing {
-            read: read as u64,
-            ..NONE_FAILS
+        let given = Given {
+            failed_read: read as u64,
+            ..TWO_LINES
         };
-        let (fault, _) = driven(alloc, TWO_LINES, fails, ENOUGH)?;
-        expect_row(fault == Some(DriveFault::Read), read)?;
+        let (found, _) = fault(alloc, given)?;
+        expect_row(matches!(found, Some(DriveFault::Read)), read)?;
     }
     Ok(())
 }
@@ -101,32 +56,34 @@ fn fail_reads(alloc: Global, reads: usize) -> Result<(), Wrong> {
 #[test]
 fn each_failed_read_is_a_read_fault(rt: HostRuntime) -> Result<(), Wrong> {
     fail_reads(rt.alloc(), 6)?;
-    let ended = driven(rt.alloc(), TWO_LINES, NONE_FAILS, ENOUGH)?;
-    expect(ended == (None, 4), "reads that do not fail")
+    let ended = fault(rt.alloc(), TWO_LINES)?;
+    expect(matches!(ended, (None, 4)), "reads that do not fail")
 }
 
-fn write_fails_at(call: u64) -> Failing {
-    Failing {
-        write: call,
-        ..NONE_FAILS
-    }
-}
-
-fn write_stalls_at(call: u64) -> Failing {
-    Failing {
-        stalled_write: call,
-        ..NONE_FAILS
-    }
+// The world stops at a write, after this many bytes.
+fn stops_at_write(alloc: Global, given: Given, bytes: usize) -> Result<bool, NoMemory> {
+    let (found, written) = fault(alloc, given)?;
+    Ok(matches!(found, Some(DriveFault::Write)) && written == bytes)
 }
 
 // Each of these writes, of one byte each, fails in its turn, and then writes nothing in its turn.
 fn fail_writes(alloc: Global, writes: usize) -> Result<(), Wrong> {
+    let given = Given {
+        lines: b"Echo ab",
+        ..PLAIN
+    };
     for written in 0..writes {
         let call = written as u64 + 1;
-        let want = (Some(DriveFault::Write), written);
-        let failed = driven(alloc, b"Echo ab", write_fails_at(call), ENOUGH)?;
-        let stalled = driven(alloc, b"Echo ab", write_stalls_at(call), ENOUGH)?;
-        expect_row(failed == want && stalled == want, written)?;
+        let failed = Given {
+            failed_write: call,
+            ..given
+        };
+        let stalled = Given {
+            stalled_write: call,
+            ..given
+        };
+        expect_row(stops_at_write(alloc, failed, written)?, written)?;
+        expect_row(stops_at_write(alloc, stalled, written)?, written)?;
     }
     Ok(())
 }
@@ -138,6 +95,10 @@ fn each_write_that_fails_or_takes_nothing_is_a_write_fault(rt: HostRuntime) -> R
 
 #[test]
 fn no_event_is_taken_without_turns(rt: HostRuntime) -> Result<(), Wrong> {
-    let ended = driven(rt.alloc(), TWO_LINES, NONE_FAILS, 0)?;
-    expect(ended == (Some(DriveFault::Turns), 0), "no turns")
+    let given = Given {
+        turns: 0,
+        ..TWO_LINES
+    };
+    let ended = fault(rt.alloc(), given)?;
+    expect(matches!(ended, (Some(DriveFault::Turns), 0)), "no turns")
 }

@@ -1,7 +1,7 @@
 #![tactic(auto)]
 //! The tests of the crates, one file for each that has them, of what no contract says, and neither a dialogue of
 //! `tests/dialogues/` nor a list of events of `tests/events/` can show: that calls which no command makes succeed if
-//! there is memory, what the state is if an allocation failed, and readers and writers that fail.
+//! there is memory, and readers and writers that fail.
 //! They are together here, so that no crate is proved a second time for its tests.
 
 #[cfg(test)]
@@ -11,7 +11,7 @@ mod breaks;
 #[cfg(test)]
 mod cache;
 #[cfg(test)]
-mod cache_room;
+mod drive;
 #[cfg(test)]
 mod items;
 #[cfg(test)]
@@ -32,7 +32,5 @@ mod readargs;
 mod text;
 #[cfg(test)]
 mod tree;
-#[cfg(test)]
-mod world;
 #[cfg(test)]
 mod wrong;

@@ -1,12 +1,9 @@
 // Names and paths.
+use crate::places::text;
 use crate::wrong::{Wrong, expect, expect_row};
 use ados_names::{Path, Step};
 use ados_text::{NoMemory, Result2, Stop, Text};
 use std::alloc::Global;
-
-fn text(alloc: Global, written: &str) -> Result<Text, NoMemory> {
-    Text::from_bytes(alloc, written.as_bytes())
-}
 
 fn path(alloc: Global, written: &str) -> Result<Path, Stop> {
     Path::parse(alloc, &text(alloc, written)?)

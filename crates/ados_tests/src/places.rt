@@ -3,8 +3,12 @@ use ados_ram::Place;
 use ados_text::{Name, NoMemory, Text};
 use std::alloc::Global;
 
+pub fn text(alloc: Global, written: &str) -> Result<Text, NoMemory> {
+    Text::from_bytes(alloc, written.as_bytes())
+}
+
 pub fn name(alloc: Global, written: &str) -> Result<Name, NoMemory> {
-    Ok(Name::new(Text::from_bytes(alloc, written.as_bytes())?))
+    Ok(Name::new(text(alloc, written)?))
 }
 
 /// The place of a text; the empty text is the root's.

@@ -5,15 +5,6 @@ use ados_ram::{Busy, Limits, Ram};
 use ados_text::{NoMemory, Stop};
 use std::alloc::Global;
 
-// The number of the fault, 0 if there is none. `NoMemory` is passed on.
-fn fault(answer: Result<Ram, Stop>) -> Result<u16, NoMemory> {
-    match answer {
-        Ok(_) => Ok(0),
-        Err(Stop::Refused(number)) => Ok(number.0),
-        Err(Stop::NoMemory) => Err(NoMemory),
-    }
-}
-
 // The files at first and the file `S/q`, which holds `Quit`.
 fn with_script(alloc: Global) -> Result<Ram, Stop> {
     Ram::new(alloc)?.write(
@@ -24,54 +15,6 @@ fn with_script(alloc: Global) -> Result<Ram, Stop> {
     )
 }
 
-// An output is open at `S/q`.
-fn in_use(alloc: Global) -> Result<Busy, NoMemory> {
-    let mut busy = Busy::none(alloc);
-    busy.outputs.push(at(alloc, "s/q")?)?;
-    Ok(busy)
-}
-
-fn deleted(alloc: Global, ram: &Ram, busy: &Busy, name: &str) -> Result<Ram, Stop> {
-    ram.delete(busy, false, &at(alloc, name)?)
-}
-
-fn renamed(alloc: Global, ram: &Ram, busy: &Busy, from: &str, to: &str) -> Result<Ram, Stop> {
-    ram.rename(busy, &at(alloc, from)?, &at(alloc, to)?)
-}
-
-// If an output is open at `S/q` the deletion of each of these has this number.
-fn delete(alloc: Global, rows: &[(&'static str, u16)]) -> Result<(), Wrong> {
-    let ram = with_script(alloc)?;
-    let busy = in_use(alloc)?;
-    for (name, want) in rows {
-        expect(fault(deleted(alloc, &ram, &busy, name))? == *want, name)?;
-    }
-    Ok(())
-}
-
-#[test]
-fn what_is_above_an_output_is_not_deleted(rt: HostRuntime) -> Result<(), Wrong> {
-    delete(rt.alloc(), &[("X", 205), ("S", 202)])
-}
-
-// If an output is open at `S/q` the rename of each of these to T has this number.
-fn rename(alloc: Global, rows: &[(&'static str, u16)]) -> Result<(), Wrong> {
-    let ram = with_script(alloc)?;
-    let busy = in_use(alloc)?;
-    for (name, want) in rows {
-        expect(
-            fault(renamed(alloc, &ram, &busy, name, "T"))? == *want,
-            name,
-        )?;
-    }
-    Ok(())
-}
-
-#[test]
-fn what_is_above_an_output_is_not_renamed(rt: HostRuntime) -> Result<(), Wrong> {
-    rename(rt.alloc(), &[("X", 205), ("S", 202)])
-}
-
 // How many files are below T.
 fn directory_files(alloc: Global, ram: &Ram) -> Result<usize, NoMemory> {
     Ok(ram.directory_files(&at(alloc, "t")?, true)?.len())
@@ -79,7 +22,7 @@ fn directory_files(alloc: Global, ram: &Ram) -> Result<usize, NoMemory> {
 
 // The files after a rename of S to `T/n`.
 fn moved(alloc: Global, old: &Ram) -> Result<Ram, Stop> {
-    renamed(alloc, &old.copy()?, &Busy::none(alloc), "S", "T/n")
+    old.rename(&Busy::none(alloc), &at(alloc, "S")?, &at(alloc, "T/n")?)
 }
 
 // One more file is below T after the rename, and none before it.
@@ -87,9 +30,14 @@ fn is_moved(alloc: Global, old: &Ram, new: &Ram) -> Result<bool, NoMemory> {
     Ok(directory_files(alloc, new)? == 1 && directory_files(alloc, old)? == 0)
 }
 
+// The files that are renamed are lent, and the new ones owned here.
+fn stands(alloc: Global, old: &Ram) -> Result<bool, Stop> {
+    let new = moved(alloc, old)?;
+    Ok(is_moved(alloc, old, &new)?)
+}
+
 #[test]
 fn an_older_version_stands(rt: HostRuntime) -> Result<(), Wrong> {
     let old = with_script(rt.alloc())?;
-    let new = moved(rt.alloc(), &old)?;
-    expect(is_moved(rt.alloc(), &old, &new)?, "T")
+    expect(stands(rt.alloc(), &old)?, "T")
 }
