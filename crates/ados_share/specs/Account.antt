@@ -1,9 +1,11 @@
 -- What one update of the shared folder could not write.
-use Rattle.std.specs.Prelude.{List, [], ◌∷◌, ◌++◌, map, filter, is_err, Bool, false, ◌&&◌, not, ◌==◌, Option, Some, None, if◌then◌else◌, length}
+use Rattle.std.specs.Prelude.{List, [], ◌∷◌, ◌++◌, map, filter, is_err, Bool, true, false, ◌&&◌, not, ◌==◌, Option, Some, None, if◌then◌else◌, length}
 use Rattle.std.specs.List.{list_any}
 use Rattle.ados_text.specs.Text.{Bytes}
 use Rattle.ados_ram.specs.declared.entries.Body.{Body}
 use Rattle.ados_ram.specs.declared.entries.Body.TheVariants.{Directory, File}
+use Rattle.ados_share.specs.declared.account.Moment.{Moment}
+use Rattle.ados_share.specs.declared.account.Moment.TheVariants.{Meanwhile, Start, End}
 use Rattle.ados_share.specs.declared.syncs.Attempt.{Attempt}
 use Rattle.ados_share.specs.declared.syncs.FreshFile.{FreshFile}
 use Rattle.ados_transfer.specs.declared.here.Here.{Here}
@@ -15,6 +17,12 @@ abbrev pub first_path : Option Bytes → Bytes → Option Bytes
 first_path None path = Some path
 first_path (Some old) path = Some old
 
+-- the script has ended
+abbrev pub is_end : Moment → Bool
+is_end Meanwhile = false
+is_end Start = false
+is_end End = true
+
 -- what bars programs after an update: what the system refused to write; with `--dry` nothing was to be written
 abbrev pub barred_by : {A : Type 0} → Bool → Option A → Option A
 barred_by dry refused = if dry then None else refused
@@ -23,6 +31,11 @@ barred_by dry refused = if dry then None else refused
 abbrev pub with_bytes_of : List Bytes → Body → List Bytes
 with_bytes_of all Directory = all
 with_bytes_of all (File bytes) = all ++ bytes ∷ []
+
+-- the path of the first object that could not be written, given one that is never written: a directory of that kind does not count
+abbrev pub path_left_out : Option Bytes → Bytes → Body → Option Bytes
+path_left_out old path Directory = old
+path_left_out old path (File bytes) = first_path old path
 
 -- the files that were written and that a power cut may empty, with this one; one without bytes is none of them
 abbrev pub with_fresh : List FreshFile → FreshFile → List FreshFile

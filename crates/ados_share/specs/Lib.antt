@@ -6,3 +6,4 @@ pub mod Changes
 pub mod Contents
 pub mod Fit
 pub mod Moves
+pub mod LeftOut

@@ -2,9 +2,10 @@
 ghost use Rattle.std.specs.Prelude.{◌≡◌, ◌++◌, ◌∷◌, ◌+◌, ◌-◌, ◌^◌, [], IfOk, OnErr, OnOk, if◌then◌else◌, min, string_bytes};
 ghost use Rattle.std.specs.List.{list_any};
 ghost use Rattle.std.specs.Option.{option_map, is_some};
-ghost use Rattle.ados_share.specs.Account.{first_path, is_in_unwritten, with_bytes_of, with_fresh};
+ghost use Rattle.ados_share.specs.Account.{first_path, is_in_unwritten, path_left_out, with_bytes_of, with_fresh};
 ghost use Rattle.ados_transfer.specs.Within.{is_substring};
 
+use crate::left_out::{LeftOut, Reason};
 use crate::moves::Destination;
 use crate::syncs::FreshFile;
 use ados_ram::{Body, Entry, FileBytes};
@@ -31,10 +32,8 @@ pub struct Account {
     pub alloc: Global,
     /// When the update is made.
     pub moment: Moment,
-    /// The paths of what the Shell has under names that are left out.
-    pub left_out: Vec<String>,
-    /// The paths of the Shell's copies of stand-ins.
-    pub copies: Vec<String>,
+    /// What the Shell has and is never written.
+    pub left_out: Vec<LeftOut>,
     /// The path of the first object that could not be written.
     pub unwritten: Option<String>,
     /// The path of the first object that the system refused to write.
@@ -51,7 +50,7 @@ pub struct Account {
     pub kept: Vec<String>,
     /// A file or a folder that is gone gave others no right to read it: a new one may have bytes of it, and gives group and others none.
     pub is_private: bool,
-    /// The permissions that files had before the script moved them, by the keys of their places now.
+    /// The permissions of files that the script moved, and of folders of which it made copies, by the keys of their places now.
     pub moved: BTreeMap<String, Manner>,
     /// The files that were written, and that a power cut may empty.
     pub fresh: Vec<FreshFile>,
@@ -81,7 +80,6 @@ impl Account {
             alloc,
             moment,
             left_out: Vec::new(alloc),
-            copies: Vec::new(alloc),
             unwritten: None,
             refused: None,
             bytes: Vec::new(alloc),
@@ -101,23 +99,29 @@ impl Account {
         self.moment == Moment::Meanwhile
     }
 
-    /// Notes that the Shell holds an object whose name is left out. A directory has no bytes that could be lost.
-    pub fn add_left_out(&mut self, path: String, entry: &Entry) -> Result<(), TransferFault> {
+    /// Notes that the Shell holds this entry, which is never written. A directory has no bytes that could be lost.
+    pub fn add_left_out(&mut self, one: LeftOut, entry: &Entry) -> Result<(), TransferFault>
+        ensures left_out { OnOk result (self.new.left_out.items ≡ self.old.left_out.items ++ one ∷ []) }
+        ensures unwritten { OnOk result (option_map string_bytes self.new.unwritten ≡ path_left_out (option_map string_bytes self.old.unwritten) (string_bytes one.path) entry.now.body) }
+        ensures bytes { OnOk result (self.new.bytes.items ≡ with_bytes_of self.old.bytes.items entry.now.body) }
+        ensures rest { self.new ≡ record self.old { unwritten = self.new.unwritten; bytes = self.new.bytes; left_out = self.new.left_out } }
+    {
         if !entry.is_directory() {
-            self.add_unwritten_entry(path.as_str(), entry)?;
+            self.add_unwritten_entry(one.path.as_str(), entry)?;
         }
-        self.left_out.push(path)?;
+        self.left_out.push(one)?;
         Ok(())
     }
 
     /// Notes that the Shell has a copy of a stand-in, which is not written.
     pub fn add_copy(&mut self, path: String) -> Result<(), TransferFault>
         ensures unwritten { OnOk result (option_map string_bytes self.new.unwritten ≡ first_path (option_map string_bytes self.old.unwritten) (string_bytes path)) }
-        ensures copies { OnOk result (self.new.copies.items ≡ self.old.copies.items ++ path ∷ []) }
-        ensures rest { self.new ≡ record self.old { unwritten = self.new.unwritten; copies = self.new.copies } }
+        ensures left_out { OnOk result (self.new.left_out.items ≡ self.old.left_out.items ++ record { reason = Reason.StandIn; path = path } ∷ []) }
+        ensures rest { self.new ≡ record self.old { unwritten = self.new.unwritten; left_out = self.new.left_out } }
     {
         self.add_unwritten(path.as_str())?;
-        self.copies.push(path)?;
+        let reason = Reason::StandIn;
+        self.left_out.push(LeftOut { reason, path })?;
         Ok(())
     }
 

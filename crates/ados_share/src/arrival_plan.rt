@@ -67,8 +67,8 @@ impl<'a> ArrivalPlan<'a> {
 
     // Reports that the path of an object is too long for the Shell.
     fn leave_too_long(&mut self, mirror: &mut Mirror, path: &str) -> Result<(), TransferFault> {
-        self.leave_out(Obstacle::BadName, path)?;
-        mirror.reports.report_once(Obstacle::BadName.text(), path)
+        self.leave_out(Obstacle::LongPath, path)?;
+        mirror.reports.report_once(Obstacle::LongPath.text(), path)
     }
 
     /// The time of the look.

@@ -13,10 +13,12 @@ use crate::mirror::Mirror;
 use ados_ram::{Body, Entry, FileBytes, Ram};
 use ados_text::{NoMemory, Text};
 use ados_transfer::{
-    Below, Kind, Last, Look, Record, Seen, ShareLines, Stamp, TransferFault, Watch, is_stand_in_of,
+    Below, Kind, Last, Look, Obstacle, Record, Seen, ShareLines, Stamp, TransferFault, Watch,
+    is_stand_in_of,
 };
 use std::alloc::Global;
 use std::collections::BTreeMap;
+use std::mem;
 use std::rt::Files;
 use std::time::Clock;
 
@@ -116,9 +118,10 @@ impl Mirror {
         self.reports.begin_look();
         let volumes = self.volumes.copy()?;
         let rt = &Below::new(rt, &volumes);
-        let look = Look::new(rt, self.options.all, &self.records)?;
-        self.report_look(&look)?;
+        let mut look = Look::new(rt, self.options.all, &self.records)?;
+        self.twice = mem::replace(&mut look.twice, Vec::new(self.alloc));
         let is_first = self.begins();
+        self.report_look(&look, is_first)?;
         if is_first {
             self.check_fit(&look, &[], files)?;
         }
@@ -137,13 +140,16 @@ impl Mirror {
         Ok(arrivals)
     }
 
-    // Reports what a look could not read, and what it left alone.
-    fn report_look(&mut self, look: &Look) -> Result<(), TransferFault> {
+    // Reports what a look could not read, and what it left alone; temporary files only at the first look, since others are those of this run.
+    fn report_look(&mut self, look: &Look, is_first: bool) -> Result<(), TransferFault> {
         for unread in &look.unread {
             self.reports
                 .report_unread(unread.key.as_str(), unread.path.as_str())?;
         }
         for one in &look.left_alone {
+            if one.obstacle == Obstacle::Temporary && !is_first {
+                continue;
+            }
             self.reports
                 .report_once(one.obstacle.text(), one.path.as_str())?;
         }

@@ -231,14 +231,22 @@ impl Mirror {
         self.keep_remainders(rt, remainders.as_slice())
     }
 
-    // Deletes backups.
+    // Deletes backups, unless what this update wrote could not be brought to the disk: then those that are there at the end are reported.
     fn let_go<R: AllocGlobal + Files>(
         &mut self,
         rt: &R,
         paths: &[String],
         account: &mut Account,
     ) -> Result<(), TransferFault> {
-        if paths.is_empty() || !self.is_synced(rt, account)? {
+        if paths.is_empty() {
+            return Ok(());
+        }
+        if !self.is_synced(rt, account)? {
+            if account.moment == Moment::End {
+                for path in paths {
+                    self.report_temporary(path.clone()?)?;
+                }
+            }
             return Ok(());
         }
         for path in paths {

@@ -9,8 +9,8 @@ ghost use Rattle.ados_share.specs.Records.{has_key};
 use crate::moves::Elsewhere;
 use ados_ram::Entry;
 use ados_transfer::{
-    Below, Draft, Here, Last, Manner, Record, Rights, Stamp, TransferFault, enter, is_descendant,
-    is_unshared, open_beside, path_of, place_whole,
+    Below, Draft, Here, Last, Owner, Record, Rights, Stamp, TransferFault, enter, is_descendant,
+    open_beside, path_of, place_whole,
 };
 use std::alloc::Global;
 use std::collections::BTreeMap;
@@ -150,11 +150,6 @@ impl<'a> Departures<'a> {
     }
 }
 
-/// A key is left out: a name in it is left out.
-pub fn is_key_left_out(key: &str, all: bool) -> bool {
-    key.split('/').any(|name| is_unshared(name, all))
-}
-
 /// Writes an object to this machine in place of what was looked at, and gives its new stamp; nothing if something else came to be
 /// there since.
 pub fn write_entry<R: AllocGlobal + Files>(
@@ -165,8 +160,11 @@ pub fn write_entry<R: AllocGlobal + Files>(
     let (folder, name) = way(rt, path)?;
     if draft.entry.is_directory() {
         let made = enter(rt, folder.as_str(), name)?;
-        if let (Here::Absent, Some(Manner::Mode(mode))) = (draft.here, draft.manner) {
-            fs::set_permissions(rt, made.as_str(), Permissions::from_mode(mode))?;
+        if let (Here::Absent, Some(manner)) = (draft.here, draft.manner) {
+            let own = Owner::of(&fs::symlink_metadata(rt, made.as_str())?);
+            if let Some(mode) = manner.folder_mode(own) {
+                fs::set_permissions(rt, made.as_str(), Permissions::from_mode(mode))?;
+            }
         }
         return Ok(Some(Stamp::of(&fs::symlink_metadata(rt, made.as_str())?)));
     }

@@ -6,7 +6,7 @@ ghost use Rattle.std.specs.BTreeMap.{get_by_text};
 ghost use Rattle.ados_share.specs.Records.{has_key, has_left, is_kept_there};
 
 use crate::account::{Account, Moment};
-use crate::departure::{Departure, Departures, Stage, is_key_left_out};
+use crate::departure::{Departure, Departures, Stage};
 use crate::mirror::Mirror;
 use ados_ram::{Entry, Place, Ram};
 use ados_transfer::{Below, TransferFault, Volume, own_entry, shell_path};
@@ -85,6 +85,7 @@ impl Mirror {
         account: &mut Account,
     ) -> Result<(), TransferFault> {
         self.note_permissions(rt, departures, account)?;
+        self.note_folders(rt, files, departures, account)?;
         self.write_stage(rt, files, departures, account, Stage::New)?;
         self.write_stage(rt, files, departures, account, Stage::Changed)?;
         self.change_kinds(rt, files, departures, account)
@@ -193,7 +194,7 @@ impl Mirror {
         record.is_kept(files.look(&record.place))
     }
 
-    // The objects whose state in the Shell's files differs from the last comparison. A file whose name is left out is never written: that
+    // The objects whose state in the Shell's files differs from the last comparison. What is left out for its name is never written: that
     // is noted.
     fn departures<'a>(
         &self,
@@ -241,10 +242,9 @@ impl Mirror {
             let Some(path) = self.path_of(&files.written(place)?)? else {
                 continue;
             };
-            if !is_key_left_out(key.as_str(), self.options.all) {
-                departures.add(key, Departure::new(path, entry))?;
-            } else {
-                account.add_left_out(path, entry)?;
+            match self.reason_left_out(key.as_str()) {
+                None => departures.add(key, Departure::new(path, entry))?,
+                Some(reason) => self.leave_out(files, (reason, path), entry, account)?,
             }
         }
         Ok(())
@@ -258,15 +258,9 @@ impl Mirror {
         self.is_holding = account.is_holding();
         self.is_lacking = account.has_unwritten() || !account.left_out.is_empty();
         if account.moment == Moment::End {
-            for path in &account.left_out {
+            for one in &account.left_out {
                 self.reports
-                    .report_once("not written, since its name is not shared", path.as_str())?;
-            }
-            for path in &account.copies {
-                self.reports.report_once(
-                    "not written, since the Shell can't hold it",
-                    path.as_str(),
-                )?;
+                    .report_once(one.reason.text(), one.path.as_str())?;
             }
         }
         match account.line(&self.volumes)? {

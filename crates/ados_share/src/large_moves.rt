@@ -1,7 +1,6 @@
 //! Large files whose stand-ins the script renamed: they are renamed in the folder of the share.
 
 use crate::account::{Account, Aside};
-use crate::departure::is_key_left_out;
 use crate::mirror::Mirror;
 use crate::renaming::{Renaming, renamed};
 use ados_ram::{Entry, Place, Ram};
@@ -193,7 +192,7 @@ impl Mirror {
 
     // A large file may get the name of this key: it is shared, and no object that is known has it.
     pub(crate) fn may_have(&self, key: &str) -> bool {
-        !is_key_left_out(key, self.options.all) && !self.records.contains_key(key)
+        self.reason_left_out(key).is_none() && !self.records.contains_key(key)
     }
 
     // The Shell has an object of its own under the old name of a large file, which stays: it is not written.

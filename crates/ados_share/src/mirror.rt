@@ -39,6 +39,8 @@ pub struct Mirror {
     // What could not be brought to the disk at the last update.
     pub(crate) unsynced: Vec<FreshFile>,
     pub(crate) reports: Reports,
+    // The keys of names that were taken twice in the folders at the last look.
+    pub(crate) twice: Vec<String>,
     // The folders were looked at.
     pub(crate) has_begun: bool,
     // At the last comparison something was not deleted, since not everything was written.
@@ -69,6 +71,7 @@ impl Mirror {
             backups: Backups::new(alloc),
             temporaries: Vec::new(alloc),
             unsynced: Vec::new(alloc),
+            twice: Vec::new(alloc),
             reports: Reports::new(alloc, volumes.copy()?),
             volumes,
             has_begun: false,

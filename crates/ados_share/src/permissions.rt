@@ -5,7 +5,9 @@ use crate::departure::{Departure, Departures};
 use crate::mirror::Mirror;
 use crate::moves::Destination;
 use ados_ram::{Entry, FileBytes, Ram};
-use ados_transfer::{Here, Manner, Record, Rights, TransferFault};
+use ados_transfer::{
+    Here, Manner, Rights, TransferFault, folder_of, is_descendant, lower, step_into,
+};
 use std::fs;
 use std::rt::Files;
 
@@ -31,33 +33,52 @@ impl Mirror {
         account: &mut Account,
     ) -> Result<(), TransferFault> {
         for (key, destination) in self.moves.all() {
-            let record = self.records.get(key.as_str());
-            if let Some(rights) = record.and_then(|record| rights_here(rt, record)) {
-                self.note_moved(destination, Manner::Kept(rights), account)?;
+            if let Some(record) = self.records.get(key.as_str())
+                && let Some(new) = self.destined_key(destination)?
+                && let Some(rights) = self.rights_at(rt, record.path.as_str(), new.as_str())?
+            {
+                account.moved.insert(new, Manner::Kept(rights))?;
             }
         }
         for backup in self.backups.by_path.values() {
-            if let Some(destination) = &backup.moved {
-                self.note_moved(destination, backup.manner, account)?;
+            if let Some(destination) = &backup.moved
+                && let Some(new) = self.destined_key(destination)?
+            {
+                account.moved.insert(new, backup.manner)?;
             }
         }
         account.is_private = self.loses_private(rt, departures);
         Ok(())
     }
 
-    // A file with these permissions was moved there.
-    fn note_moved(
-        &self,
-        destination: &Destination,
-        manner: Manner,
-        account: &mut Account,
-    ) -> Result<(), TransferFault> {
-        if let Destination::At(place) = destination
-            && let Some(key) = self.key_of(place)?
-        {
-            account.moved.insert(key, manner)?;
+    // The key of the place in a share to which a file was moved.
+    fn destined_key(&self, destination: &Destination) -> Result<Option<String>, TransferFault> {
+        match destination {
+            Destination::At(place) => self.key_of(place),
+            Destination::Replaced => Ok(None),
         }
-        Ok(())
+    }
+
+    // The permissions that a file or a folder at this path leaves to an object of this key: who can't enter a folder above it that is not
+    // above the object too has none.
+    pub(crate) fn rights_at<R: AllocGlobal + Files>(
+        &self,
+        rt: &R,
+        path: &str,
+        key: &str,
+    ) -> Result<Option<Rights>, TransferFault> {
+        let Some(mut rights) = rights_here(rt, path) else {
+            return Ok(None);
+        };
+        let mut folder = String::new(self.alloc);
+        for step in folder_of(path).split('/') {
+            folder = step_into(self.alloc, folder.as_str(), step)?;
+            if !is_descendant(lower(self.alloc, folder.as_str())?.as_str(), key) {
+                let around = rights_here(rt, folder.as_str());
+                rights = rights.within(around.unwrap_or(rights.closed()));
+            }
+        }
+        Ok(Some(rights))
     }
 
     // A file is gone that others could not read, or a folder that they could not enter, and it was not moved to a place of a share.
@@ -87,45 +108,47 @@ impl Mirror {
 
     // The permissions that an object of this key is to have, where these are not those of what is in its place, or of what is new: those of
     // the file that was moved there, or that has its bytes; or none for others.
-    pub(crate) fn manner_of<R: Files>(
+    pub(crate) fn manner_of<R: AllocGlobal + Files>(
         &self,
         rt: &R,
         files: &Ram,
         object: (&str, &Entry),
         here: &Here,
         account: &Account,
-    ) -> Option<Manner> {
+    ) -> Result<Option<Manner>, TransferFault> {
         let (key, entry) = object;
         if let Some(manner) = account.moved_manner(key) {
-            return Some(manner);
+            return Ok(Some(manner));
         }
         if here.rights().is_some() {
-            return None;
+            return Ok(None);
         }
         let known = match entry.bytes() {
-            Some(bytes) => self.manner_of_bytes(rt, files, bytes, account),
+            Some(bytes) => self.manner_of_bytes(rt, files, (key, bytes), account)?,
             None => None,
         };
         match known {
-            None if account.is_private => Some(Manner::Mode(own_mode(entry))),
-            _ => known,
+            None if account.is_private => Ok(Some(Manner::Mode(own_mode(entry)))),
+            _ => Ok(known),
         }
     }
 
-    // The permissions of the file of the folder that has these bytes: one that the Shell no longer has, since this may be its new place, or
-    // else one of which this may be a copy.
-    fn manner_of_bytes<R: Files>(
+    // The permissions that a file of this key gets from the file of the folder that has its bytes: one that the Shell no longer has, since
+    // this may be its new place, or else one of which this may be a copy.
+    fn manner_of_bytes<R: AllocGlobal + Files>(
         &self,
         rt: &R,
         files: &Ram,
-        bytes: &FileBytes,
+        object: (&str, &FileBytes),
         account: &Account,
-    ) -> Option<Manner> {
+    ) -> Result<Option<Manner>, TransferFault> {
+        let (key, bytes) = object;
         let original = self.original_of(files, bytes);
         if let Some(record) = original
             && !record.is_kept(files.look(&record.place))
         {
-            return rights_here(rt, record).map(Manner::Kept);
+            let rights = self.rights_at(rt, record.path.as_str(), key)?;
+            return Ok(rights.map(Manner::Kept));
         }
         let moved = match account.manner_of(bytes) {
             Some(manner) => Some(manner),
@@ -133,17 +156,18 @@ impl Mirror {
         };
         match (moved, original) {
             (None, Some(record)) if bytes.len() > 0 => {
-                rights_here(rt, record).map(Manner::Copied)
+                let rights = self.rights_at(rt, record.path.as_str(), key)?;
+                Ok(rights.map(Manner::Copied))
             }
-            (moved, _) => moved,
+            (moved, _) => Ok(moved),
         }
     }
 }
 
-// The permissions of a file of the folder.
-fn rights_here<R: Files>(rt: &R, record: &Record) -> Option<Rights> {
-    match fs::symlink_metadata(rt, record.path.as_str()) {
-        Ok(found) if found.is_file() => Some(Rights::of(&found)),
+// The permissions of a file or a folder of this machine.
+fn rights_here<R: Files>(rt: &R, path: &str) -> Option<Rights> {
+    match fs::symlink_metadata(rt, path) {
+        Ok(found) if found.is_file() || found.is_dir() => Some(Rights::of(&found)),
         _ => None,
     }
 }

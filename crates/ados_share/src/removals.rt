@@ -1,4 +1,8 @@
 //! How an object of the folder of a share that is gone in the Shell's files, or of another kind there, is deleted.
+ghost use Rattle.std.specs.Prelude.{◌≡◌, None, OnOk, true, false, string_bytes};
+ghost use Rattle.std.specs.Option.{option_map};
+ghost use Rattle.ados_share.specs.Account.{first_path, is_end};
+ghost use Rattle.ados_share.specs.Records.{Sets};
 
 use crate::account::{Account, Moment};
 use crate::departure::{Departure, remove};
@@ -70,7 +74,11 @@ impl Mirror {
 
     // Something that the script has is not written, so that an object is not deleted. It comes in again, unless the script goes on: later
     // its bytes may be nowhere else.
-    fn hold(&mut self, key: &str, path: &str, account: &mut Account) -> Result<(), TransferFault> {
+    fn hold(&mut self, key: &str, path: &str, account: &mut Account) -> Result<(), TransferFault>
+        ensures meanwhile { is_end account.old.moment ≡ false → (self.new ≡ self.old) × (account.new ≡ account.old) }
+        ensures forgotten { OnOk result (is_end account.old.moment ≡ true → Sets self.old.records self.new.records key.now None) }
+        ensures held { OnOk result (is_end account.old.moment ≡ true → option_map string_bytes account.new.held ≡ first_path (option_map string_bytes account.old.held) path.now) }
+    {
         if account.moment != Moment::End {
             return Ok(());
         }

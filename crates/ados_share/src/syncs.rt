@@ -9,7 +9,7 @@ use crate::account::Account;
 use crate::mirror::Mirror;
 use ados_ram::FileBytes;
 use ados_text::NoMemory;
-use ados_transfer::{Here, Manner, TransferFault, lower, write_beside};
+use ados_transfer::{Here, Manner, TransferFault, lower, no_memory, write_beside};
 use std::alloc::Global;
 use std::fs::OpenFile;
 use std::io::ErrorKind;
@@ -23,6 +23,18 @@ pub struct FreshFile {
     pub path: String,
     /// What it holds.
     pub bytes: FileBytes,
+}
+
+impl FreshFile {
+    // An equal value.
+    fn copy(&self) -> Result<FreshFile, NoMemory>
+        ensures { IfOk result (λ file. file ≡ self.now) }
+    {
+        Ok(FreshFile {
+            path: self.path.clone()?,
+            bytes: self.bytes.copy()?,
+        })
+    }
 }
 
 /// What came of bringing a file to the disk.
@@ -117,6 +129,32 @@ impl Account {
         }
         Ok(())
     }
+
+    /// Brings to the disk those files with these bytes that the update wrote. The first for which that fails counts as not written: the
+    /// system may not say so again.
+    pub fn sync_copies<R: AllocGlobal + Files>(
+        &mut self,
+        rt: &R,
+        bytes: &FileBytes,
+    ) -> io::Result<()>
+        ensures written { OnOk result (self.new ≡ self.old) }
+        ensures rest { self.new ≡ record self.old { unsynced = self.new.unsynced; bytes = self.new.bytes } }
+    {
+        let mut failed = Vec::new(self.alloc);
+        let mut outcome = Ok(());
+        for file in &self.fresh {
+            if outcome.is_ok() && file.bytes == *bytes {
+                outcome = sync(rt, file.path.as_str());
+                if outcome.is_err() {
+                    failed.push(file.copy()?)?;
+                }
+            }
+        }
+        if outcome.is_err() && self.add_unsynced(failed).is_err() {
+            return Err(no_memory());
+        }
+        outcome
+    }
 }
 
 // Tries to bring files to the disk, one after the other, whether or not that fails for those before.
@@ -142,20 +180,6 @@ fn failed_files(alloc: Global, attempts: Vec<Attempt>) -> Result<Vec<FreshFile>,
         }
     }
     Ok(failed)
-}
-
-// Brings to the disk those files with these bytes that the update wrote.
-pub(crate) fn sync_copies<R: AllocGlobal + Files>(
-    rt: &R,
-    account: &Account,
-    bytes: &FileBytes,
-) -> io::Result<()> {
-    for file in &account.fresh {
-        if file.bytes == *bytes {
-            sync(rt, file.path.as_str())?;
-        }
-    }
-    Ok(())
 }
 
 // Writes a temporary file in a folder, with these permissions, brings it to the disk, and gives its path.

@@ -7,7 +7,7 @@ use crate::account::Account;
 use crate::backups::needs_backup;
 use crate::departure::{Departure, Departures, write_entry};
 use crate::mirror::Mirror;
-use crate::syncs::{FreshFile, sync_copies};
+use crate::syncs::FreshFile;
 use ados_ram::{Entry, Ram};
 use ados_text::NoMemory;
 use ados_transfer::{
@@ -53,7 +53,7 @@ impl Mirror {
             }
             Decision::Write if self.options.dry => self.reports.report_once("would write", path),
             Decision::Write => {
-                let manner = self.manner_of(rt, files, (key, entry), &here, account);
+                let manner = self.manner_of(rt, files, (key, entry), &here, account)?;
                 let is_last = self.is_lost_below(rt, files, key, departure)?;
                 let draft = Draft::new(entry, &here, manner, is_last);
                 self.note_written_over(key, departure, &draft)?;
@@ -108,7 +108,7 @@ impl Mirror {
         rt: &R,
         object: (&str, &str),
         draft: &Draft<'_>,
-        account: &Account,
+        account: &mut Account,
     ) -> io::Result<Option<Stamp>> {
         let Ok(needs_backup) = needs_backup(rt.alloc(), draft) else {
             return Err(no_memory());
@@ -117,7 +117,7 @@ impl Mirror {
             self.back_up(rt, object, draft.here)?;
         }
         if let Here::File { bytes, .. } = draft.here {
-            sync_copies(rt, account, bytes)?;
+            account.sync_copies(rt, bytes)?;
         }
         write_entry(rt, object.1, draft)
     }

@@ -2,6 +2,7 @@ pub mod Words
 pub mod Planned
 pub mod Decisions
 pub mod Paths
+pub mod Rights
 pub mod Within
 pub mod StandIns
 pub mod Stamps

@@ -3,17 +3,16 @@ ghost use Rattle.std.specs.Prelude.{◌≡◌};
 ghost use Rattle.std.specs.List.{list_any};
 ghost use Rattle.std.specs.Option.{option_copied};
 ghost use Rattle.ados_transfer.specs.Folders.{hides, is_descendant, is_some_slash};
-ghost use Rattle.ados_transfer.specs.Paths.{is_unshared};
 
 use crate::below::Below;
 use crate::choice::{Named, chosen, order};
 use crate::faults::TransferFault;
 use crate::here::is_nothing;
 use crate::left_alone::{LeftAlone, Obstacle};
-use crate::paths::{name_of, step_into};
+use crate::paths::{is_unshared, name_of, step_into};
 use crate::records::Records;
 use crate::stamps::Stamp;
-use crate::writing::{BESIDE, no_memory};
+use crate::writing::{BESIDE, joined, no_memory};
 use std::alloc::{AllocError, Global};
 use std::collections::BTreeMap;
 use std::fs::Metadata;
@@ -70,8 +69,10 @@ pub struct Look {
     pub seen: BTreeMap<String, Seen>,
     /// The folders that could not be read, and the objects that could not be looked at.
     pub unread: Vec<Unread>,
-    /// What else is not shared, but for names that begin with a dot and temporary files.
+    /// What else is not shared, but for names that begin with a dot.
     pub left_alone: Vec<LeftAlone>,
+    /// The keys of names that are taken twice; one of the two may be known by a record.
+    pub twice: Vec<String>,
 }
 
 impl Look {
@@ -87,6 +88,7 @@ impl Look {
             seen: BTreeMap::new(alloc),
             unread: Vec::new(alloc),
             left_alone: Vec::new(alloc),
+            twice: Vec::new(alloc),
         };
         let mut left = Vec::new(alloc);
         for volume in rt.volumes().all().iter().rev() {
@@ -158,6 +160,7 @@ impl Look {
             if is_chosen {
                 self.add(rt, named, &mut folders)?;
             } else {
+                self.twice.push(named.key)?;
                 self.leave(Obstacle::Twice, named.path)?;
             }
         }
@@ -174,6 +177,10 @@ impl Look {
         let mut names = Vec::new(rt.alloc());
         for entry in fs::read_dir(rt, path)? {
             match entry {
+                Ok(entry) if entry.file_name().as_bytes().starts_with(BESIDE.as_bytes()) => {
+                    let path = joined(rt.alloc(), path, entry.file_name())?;
+                    self.leave(Obstacle::Temporary, path)?;
+                }
                 Ok(entry) if is_unshared(entry.file_name(), all) => {}
                 Ok(entry) => names.push(String::from_str(rt.alloc(), entry.file_name())?)?,
                 Err(error) if error.kind() == ErrorKind::InvalidFilename => {
@@ -205,7 +212,7 @@ impl Look {
                     path,
                 })?,
                 Err(TransferFault::NoMemory) => return Err(TransferFault::NoMemory),
-                Err(_) => self.leave(Obstacle::BadName, path)?,
+                Err(_) => self.leave(Obstacle::of_name(name.as_str()), path)?,
             }
         }
         below.sort_by(|a, b| order(a, b))?;
@@ -255,16 +262,6 @@ fn kind_of(found: &Metadata) -> Kind {
     Kind::File {
         is_executable: found.permissions().mode() & 0o111 != 0,
     }
-}
-
-/// The name is left out: it begins with a dot, is that of a temporary file that is written beside its place, or leads elsewhere.
-pub fn is_unshared(name: &str, all: bool) -> bool
-    ensures { result ≡ is_unshared name.now all }
-{
-    let bytes = name.as_bytes();
-    (bytes.starts_with(b".") && !all)
-        || bytes.starts_with(BESIDE.as_bytes())
-        || matches!(name, "." | "..")
 }
 
 /// A path in lower case.

@@ -2,19 +2,25 @@
 ghost use Rattle.std.specs.Prelude.{◌≡◌};
 ghost use Rattle.std.specs.List.{list_any};
 ghost use Rattle.ados_transfer.specs.Folders.{is_whole};
-ghost use Rattle.ados_transfer.specs.LeftAlone.{is_left_out};
+ghost use Rattle.ados_transfer.specs.LeftAlone.{is_left_out, obstacle_of};
 
 use crate::folders::Look;
 
 /// Why an object of a folder is not shared.
 #[derive(Clone, Copy, PartialEq, Eq)]
 pub enum Obstacle {
-    /// Its name is none of the Shell's files, or its path is too long for one.
+    /// Its name has bytes that no name of the Shell has.
     BadName,
+    /// Its name is longer than one of the Shell.
+    LongName,
+    /// Its path is longer than one of the Shell.
+    LongPath,
     /// Another name in its folder differs from its own in case alone.
     Twice,
     /// It is neither a file nor a folder.
     Foreign,
+    /// It is a temporary file of another run, which was killed or goes on.
+    Temporary,
     /// It can't be read.
     Unread,
 }
@@ -28,13 +34,30 @@ pub struct LeftAlone {
     pub path: String,
 }
 
+// No name of the Shell has more bytes.
+const NAME_LIMIT: usize = 30;
+
 impl Obstacle {
+    /// Why a name that is none of the Shell's is left alone.
+    pub fn of_name(name: &str) -> Obstacle
+        ensures { result ≡ obstacle_of name.now }
+    {
+        if name.len() > NAME_LIMIT {
+            Obstacle::LongName
+        } else {
+            Obstacle::BadName
+        }
+    }
+
     /// What a line says of the object.
     pub fn text(self) -> &'static str {
         match self {
             Obstacle::BadName => "bad name for the Shell, left alone",
+            Obstacle::LongName => "name of more than 30 bytes, left alone",
+            Obstacle::LongPath => "path of more than 255 bytes, left alone",
             Obstacle::Twice => "name is taken twice, left alone",
             Obstacle::Foreign => "no file or folder, left alone",
+            Obstacle::Temporary => "temporary file of another run, left alone",
             Obstacle::Unread => "cannot read",
         }
     }
@@ -45,7 +68,7 @@ impl LeftAlone {
     pub fn is_left_out(&self) -> bool
         ensures { result ≡ is_left_out self.now }
     {
-        self.obstacle != Obstacle::Foreign
+        !matches!(self.obstacle, Obstacle::Foreign | Obstacle::Temporary)
     }
 }
 

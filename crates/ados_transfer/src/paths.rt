@@ -1,8 +1,9 @@
 //! Paths of this machine, and places of the Shell's files.
 ghost use Rattle.std.specs.Prelude.{◌≡◌, IfOk, string_bytes};
-ghost use Rattle.ados_transfer.specs.Paths.{is_file_name, path_in, separator};
+ghost use Rattle.ados_transfer.specs.Paths.{is_file_name, is_unshared, path_in, separator};
 
 use crate::faults::{TransferFault, named};
+use crate::writing::BESIDE;
 use ados_names::{Path, Step, is_name};
 use ados_ram::{Place, Ram};
 use ados_text::{Name, Stop, Text, TextFault};
@@ -44,6 +45,16 @@ pub fn is_file_name(name: &str) -> bool
     ensures { result ≡ is_file_name name.now }
 {
     !matches!(name, "" | "." | "..") && !name.as_bytes().contains(&b'/')
+}
+
+/// The name is left out: it begins with a dot, is that of a temporary file that is written beside its place, or leads elsewhere.
+pub fn is_unshared(name: &str, all: bool) -> bool
+    ensures { result ≡ is_unshared name.now all }
+{
+    let bytes = name.as_bytes();
+    (bytes.starts_with(b".") && !all)
+        || bytes.starts_with(BESIDE.as_bytes())
+        || matches!(name, "." | "..")
 }
 
 /// The path of a name in a folder.

@@ -42,6 +42,16 @@ impl Manner {
         Ok(Manner::Kept(rights))
     }
 
+    /// The mode of a folder that was made with this owner, if it is not that of a new one.
+    pub fn folder_mode(self, own: Owner) -> Option<u32> {
+        match self {
+            Manner::Plain | Manner::Executable => None,
+            Manner::Mode(mode) => Some(mode),
+            Manner::Kept(rights) => Some(rights.folder_mode(own, false)),
+            Manner::Copied(rights) => Some(rights.folder_mode(own, true)),
+        }
+    }
+
     // The permissions that the file has until all of it is written: a file that others may not read must not be open to them.
     fn first_mode(self) -> u32 {
         match self {

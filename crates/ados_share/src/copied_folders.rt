@@ -1,0 +1,93 @@
+//! A new directory that the script made as a copy of a folder, or to which it renamed one, gets the permissions of that folder.
+
+use crate::account::Account;
+use crate::departure::Departures;
+use crate::mirror::Mirror;
+use ados_ram::{Entry, Ram};
+use ados_transfer::{Manner, Record, TransferFault, folder_of};
+use std::rt::Files;
+
+// A new file, and the file of the folder that has its bytes.
+#[derive(Clone, Copy)]
+struct Pair<'a> {
+    key: &'a str,
+    original: &'a Record,
+    // The Shell has the original too.
+    is_copy: bool,
+}
+
+impl Mirror {
+    // Before an update writes anything: notes the permissions of each folder for the new directory in which a file has the name and the bytes
+    // of one in that folder.
+    pub(crate) fn note_folders<R: AllocGlobal + Files>(
+        &self,
+        rt: &R,
+        files: &Ram,
+        departures: &Departures<'_>,
+        account: &mut Account,
+    ) -> Result<(), TransferFault> {
+        for (key, departure) in &departures.by_key {
+            let key = key.as_str();
+            let Some(bytes) = departure.entry.and_then(Entry::bytes) else {
+                continue;
+            };
+            if bytes.len() == 0 || !is_open(departures, account, folder_of(key)) {
+                continue;
+            }
+            if let Some(original) = self.original_of(files, bytes) {
+                let is_copy = original.is_kept(files.look(&original.place));
+                let pair = Pair {
+                    key,
+                    original,
+                    is_copy,
+                };
+                self.note_folders_above(rt, departures, pair, account)?;
+            }
+        }
+        Ok(())
+    }
+
+    // The folders above a file and those above its original belong together as long as the names below them are alike.
+    fn note_folders_above<R: AllocGlobal + Files>(
+        &self,
+        rt: &R,
+        departures: &Departures<'_>,
+        pair: Pair<'_>,
+        account: &mut Account,
+    ) -> Result<(), TransferFault> {
+        let (mut key, mut path) = (pair.key, pair.original.path.as_str());
+        for _ in 0..pair.key.len() {
+            let (Some((directory, name)), Some((folder, old_name))) = (
+                key.rsplit_once('/'),
+                path.rsplit_once('/'),
+            ) else {
+                return Ok(());
+            };
+            if !name.eq_ignore_ascii_case(old_name) || !is_open(departures, account, directory) {
+                return Ok(());
+            }
+            if let Some(rights) = self.rights_at(rt, folder, directory)? {
+                let manner = if pair.is_copy {
+                    Manner::Copied(rights)
+                } else {
+                    Manner::Kept(rights)
+                };
+                account
+                    .moved
+                    .insert(String::from_str(self.alloc, directory)?, manner)?;
+            }
+            (key, path) = (directory, folder);
+        }
+        Ok(())
+    }
+}
+
+// An object of this key is a new directory that is written, of whose permissions nothing is known yet.
+fn is_open(departures: &Departures<'_>, account: &Account, key: &str) -> bool {
+    let Some(departure) = departures.by_key.get(key) else {
+        return false;
+    };
+    departure.is_new
+        && departure.entry.is_some_and(Entry::is_directory)
+        && !account.moved.contains_key(key)
+}

@@ -1,0 +1,89 @@
+//! What the Shell has and an update never writes to the folder of a share, and why.
+ghost use Rattle.std.specs.Prelude.{◌≡◌};
+ghost use Rattle.std.specs.List.{list_any};
+ghost use Rattle.ados_share.specs.LeftOut.{is_taken, is_taken_twice};
+
+use crate::account::Account;
+use crate::mirror::Mirror;
+use ados_ram::{Entry, Ram};
+use ados_transfer::{Records, TransferFault, is_descendant, is_unshared};
+
+/// Why an object of the Shell is not written.
+#[derive(Clone, Copy, PartialEq, Eq)]
+pub enum Reason {
+    /// A name on its path is not shared.
+    Unshared,
+    /// Two names of the folder differ in case alone, and its name, or one on its path, would be that of both.
+    TakenTwice,
+    /// It is a copy of the stand-in of a file that the Shell can't hold.
+    StandIn,
+}
+
+/// An object of the Shell that is not written.
+#[derive(Drop)]
+pub struct LeftOut {
+    /// Why.
+    pub reason: Reason,
+    /// Its path below the folder.
+    pub path: String,
+}
+
+impl Reason {
+    /// What a line says of the object.
+    pub fn text(self) -> &'static str {
+        match self {
+            Reason::Unshared => "not written, since its name is not shared",
+            Reason::TakenTwice => "not written, since its name is taken twice",
+            Reason::StandIn => "not written, since the Shell can't hold it",
+        }
+    }
+}
+
+impl Mirror {
+    // Why an object of this key is not written, if it is left out for a name on its path.
+    pub(crate) fn reason_left_out(&self, key: &str) -> Option<Reason> {
+        if key
+            .split('/')
+            .any(|name| is_unshared(name, self.options.all))
+        {
+            Some(Reason::Unshared)
+        } else if self.is_taken_twice(key) {
+            Some(Reason::TakenTwice)
+        } else {
+            None
+        }
+    }
+
+    // Of an object of this key, or of one above it, there were two at the last look, and none of them is known.
+    fn is_taken_twice(&self, key: &str) -> bool
+        ensures { result ≡ is_taken_twice self.now.records self.now.twice.items key.now }
+    {
+        self.twice
+            .iter()
+            .any(|twice| is_taken(&self.records, twice.as_str(), key))
+    }
+
+    // Notes that an object is not written. While a file of the folder has the bytes of one, no program starts: it may delete the other.
+    pub(crate) fn leave_out(
+        &self,
+        files: &Ram,
+        (reason, path): (Reason, String),
+        entry: &Entry,
+        account: &mut Account,
+    ) -> Result<(), TransferFault> {
+        if let Some(bytes) = entry.bytes()
+            && bytes.len() > 0
+            && self.original_of(files, bytes).is_some()
+        {
+            account.refuse(path.as_str())?;
+        }
+        account.add_left_out(LeftOut { reason, path }, entry)
+    }
+}
+
+// An object of this key is one of two with the key `twice`, or below one, and none of those is known.
+fn is_taken(records: &Records, twice: &str, key: &str) -> bool
+    ensures { result ≡ is_taken «records».now twice.now key.now }
+{
+    (twice == key || is_descendant(twice, key)) && !records.contains_key(twice)
+}
