@@ -1,8 +1,10 @@
 -- What is left of a file's permissions elsewhere. A mode is a number whose bits are rights: 0o700 are the user's, 0o070 the group's and
 -- 0o007 those of others; of each the highest is to read, the next to write, and the lowest to execute a file or to enter a folder.
-use Rattle.std.specs.Prelude.{ℕ, Bool, not, ◌==◌, ◌*◌, ◌&&◌, if◌then◌else◌, bit_and, bit_or}
+use Rattle.std.specs.Prelude.{ℕ, Bool, true, false, Option, Some, None, not, ◌==◌, ◌*◌, ◌&&◌, if◌then◌else◌, bit_and, bit_or}
 use Rattle.ados_transfer.specs.declared.rights.Owner.{Owner}
 use Rattle.ados_transfer.specs.declared.rights.Rights.{Rights}
+use Rattle.ados_transfer.specs.declared.writing.Manner.{Manner}
+use Rattle.ados_transfer.specs.declared.writing.Manner.TheVariants.{Plain, Executable, Mode, Kept, Copied}
 
 -- a mode has a right
 abbrev pub has_right : ℕ → ℕ → Bool
@@ -33,3 +35,15 @@ mode_in rights group =
 -- the mode of a copy that has this group: nobody but its user may write it
 abbrev pub copy_mode : Rights → ℕ → ℕ
 copy_mode rights group = bit_and (mode_in rights group) 0o755
+
+-- the mode of a folder in place of one with these rights, or of its copy: its user may do all with it
+abbrev pub folder_mode : Rights → ℕ → Bool → ℕ
+folder_mode rights group is_copy = bit_or (if is_copy then copy_mode rights group else mode_in rights group) 0o700
+
+-- the mode of a folder that was made with this group, if it is not that of a new one
+abbrev pub mode_of_folder : Manner → ℕ → Option ℕ
+mode_of_folder Plain group = None
+mode_of_folder Executable group = None
+mode_of_folder (Mode mode) group = Some mode
+mode_of_folder (Kept rights) group = Some (folder_mode rights group false)
+mode_of_folder (Copied rights) group = Some (folder_mode rights group true)

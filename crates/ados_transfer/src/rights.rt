@@ -1,7 +1,7 @@
 //! The permissions of a file and whose it is: one that takes the place of another, or its name, gets those of that one as far as the system
 //! lets this user give them.
 ghost use Rattle.std.specs.Prelude.{◌≡◌, bit_and};
-ghost use Rattle.ados_transfer.specs.Rights.{copy_mode, has_right, left_within, mode_in};
+ghost use Rattle.ados_transfer.specs.Rights.{copy_mode, folder_mode, has_right, left_within, mode_in};
 
 use std::fs::{Metadata, OpenFile};
 use std::io;
@@ -126,7 +126,9 @@ impl Rights {
     }
 
     /// The mode of a folder in place of one with these, or of its copy: its user may do all with it.
-    pub fn folder_mode(self, own: Owner, is_copy: bool) -> u32 {
+    pub fn folder_mode(self, own: Owner, is_copy: bool) -> u32
+        ensures { result ≡ folder_mode self own.group is_copy }
+    {
         let mode = if is_copy {
             self.copy_mode(own)
         } else {

@@ -2,6 +2,7 @@
 //! name. No link is followed.
 ghost use Rattle.std.specs.Prelude.{◌≡◌, true, IfOk, IfSome, OnOk, string_bytes};
 ghost use Rattle.ados_transfer.specs.Paths.{IsBelow, is_file_name, path_in};
+ghost use Rattle.ados_transfer.specs.Rights.{mode_of_folder};
 
 use crate::paths::{is_file_name, step_into};
 use crate::rights::{Owner, Rights};
@@ -43,7 +44,9 @@ impl Manner {
     }
 
     /// The mode of a folder that was made with this owner, if it is not that of a new one.
-    pub fn folder_mode(self, own: Owner) -> Option<u32> {
+    pub fn folder_mode(self, own: Owner) -> Option<u32>
+        ensures { result ≡ mode_of_folder self own.group }
+    {
         match self {
             Manner::Plain | Manner::Executable => None,
             Manner::Mode(mode) => Some(mode),
