@@ -1,5 +1,6 @@
 //! What one update of the shared folder could not write, and what follows from that.
 ghost use Rattle.std.specs.Prelude.{◌≡◌, ◌++◌, ◌∷◌, ◌+◌, ◌-◌, ◌^◌, [], IfOk, OnErr, OnOk, if◌then◌else◌, min, string_bytes};
+ghost use Rattle.std.specs.BTreeMap.{get_by_text};
 ghost use Rattle.std.specs.List.{list_any};
 ghost use Rattle.std.specs.Option.{option_map, is_some};
 ghost use Rattle.ados_share.specs.Account.{first_path, is_in_unwritten, path_left_out, with_bytes_of, with_fresh};
@@ -249,7 +250,9 @@ impl Account {
     }
 
     /// The permissions of the file that the script moved to the place of this key, if it moved one there.
-    pub fn moved_manner(&self, key: &str) -> Option<Manner> {
+    pub fn moved_manner(&self, key: &str) -> Option<Manner>
+        ensures { result ≡ get_by_text self.now.moved key.now }
+    {
         self.moved.get(key).copied()
     }
 

@@ -7,6 +7,7 @@ ghost use Rattle.ados_share.specs.Records.{has_key, has_left, is_kept_there};
 
 use crate::account::{Account, Moment};
 use crate::departure::{Departure, Departures, Stage};
+use crate::left_out::LeftOut;
 use crate::mirror::Mirror;
 use ados_ram::{Entry, Place, Ram};
 use ados_transfer::{Below, TransferFault, Volume, own_entry, shell_path};
@@ -244,7 +245,7 @@ impl Mirror {
             };
             match self.reason_left_out(key.as_str()) {
                 None => departures.add(key, Departure::new(path, entry))?,
-                Some(reason) => self.leave_out(files, (reason, path), entry, account)?,
+                Some(reason) => { self.leave_out(files, LeftOut { reason, path }, entry, account)? }
             }
         }
         Ok(())

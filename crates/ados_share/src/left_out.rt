@@ -1,5 +1,5 @@
 //! What the Shell has and an update never writes to the folder of a share, and why.
-ghost use Rattle.std.specs.Prelude.{◌≡◌};
+ghost use Rattle.std.specs.Prelude.{◌≡◌, ◌++◌, ◌∷◌, [], None, OnOk, Some, true, false};
 ghost use Rattle.std.specs.List.{list_any};
 ghost use Rattle.ados_share.specs.LeftOut.{is_taken, is_taken_twice};
 
@@ -41,7 +41,10 @@ impl Reason {
 
 impl Mirror {
     // Why an object of this key is not written, if it is left out for a name on its path.
-    pub(crate) fn reason_left_out(&self, key: &str) -> Option<Reason> {
+    pub(crate) fn reason_left_out(&self, key: &str) -> Option<Reason>
+        ensures twice { result ≡ Some Reason.TakenTwice → is_taken_twice self.now.records self.now.twice.items key.now ≡ true }
+        ensures none { result ≡ None → is_taken_twice self.now.records self.now.twice.items key.now ≡ false }
+    {
         if key
             .split('/')
             .any(|name| is_unshared(name, self.options.all))
@@ -67,17 +70,19 @@ impl Mirror {
     pub(crate) fn leave_out(
         &self,
         files: &Ram,
-        (reason, path): (Reason, String),
+        one: LeftOut,
         entry: &Entry,
         account: &mut Account,
-    ) -> Result<(), TransferFault> {
+    ) -> Result<(), TransferFault>
+        ensures { OnOk result (account.new.left_out.items ≡ account.old.left_out.items ++ one ∷ []) }
+    {
         if let Some(bytes) = entry.bytes()
             && bytes.len() > 0
             && self.original_of(files, bytes).is_some()
         {
-            account.refuse(path.as_str())?;
+            account.refuse(one.path.as_str())?;
         }
-        account.add_left_out(LeftOut { reason, path }, entry)
+        account.add_left_out(one, entry)
     }
 }
 

@@ -1,4 +1,6 @@
 //! Which permissions what is written to the folder gets: nobody is to read or write afterwards what he could not before.
+ghost use Rattle.std.specs.Prelude.{◌≡◌, IfOk, IfSome, Some, bit_and};
+ghost use Rattle.std.specs.BTreeMap.{get_by_text};
 
 use crate::account::Account;
 use crate::departure::{Departure, Departures};
@@ -115,7 +117,9 @@ impl Mirror {
         object: (&str, &Entry),
         here: &Here,
         account: &Account,
-    ) -> Result<Option<Manner>, TransferFault> {
+    ) -> Result<Option<Manner>, TransferFault>
+        ensures moved { IfSome (get_by_text account.now.moved object.0.now) (λ manner. IfOk result (λ given. given ≡ Some manner)) }
+    {
         let (key, entry) = object;
         if let Some(manner) = account.moved_manner(key) {
             return Ok(Some(manner));
@@ -186,7 +190,9 @@ fn is_private<R: Files>(rt: &R, departure: &Departure<'_>) -> bool {
 }
 
 // What a new object gives to its user alone.
-fn own_mode(entry: &Entry) -> u32 {
+fn own_mode(entry: &Entry) -> u32
+    ensures { bit_and result 0o077 ≡ 0 }
+{
     if entry.is_directory() {
         OWN_FOLDER
     } else if entry.bits.script {
