@@ -260,8 +260,8 @@ impl Mirror {
         self.is_lacking = account.has_unwritten() || !account.left_out.is_empty();
         if account.moment == Moment::End {
             for one in &account.left_out {
-                self.reports
-                    .report_once(one.reason.text(), one.path.as_str())?;
+                let text = format!(in self.alloc; "not written, since {}", one.reason)?;
+                self.reports.report_once(text.as_str(), one.path.as_str())?;
             }
         }
         match account.line(&self.volumes)? {

@@ -7,6 +7,7 @@ use crate::account::Account;
 use crate::mirror::Mirror;
 use ados_ram::{Entry, Ram};
 use ados_transfer::{Records, TransferFault, is_descendant, is_unshared};
+use std::fmt;
 
 /// Why an object of the Shell is not written.
 #[derive(Clone, Copy, PartialEq, Eq)]
@@ -28,14 +29,13 @@ pub struct LeftOut {
     pub path: String,
 }
 
-impl Reason {
-    /// What a line says of the object.
-    pub fn text(self) -> &'static str {
-        match self {
-            Reason::Unshared => "not written, since its name is not shared",
-            Reason::TakenTwice => "not written, since its name is taken twice",
-            Reason::StandIn => "not written, since the Shell can't hold it",
-        }
+impl fmt::Display for Reason {
+    fn fmt<W: fmt::Write>(&self, f: &mut fmt::Formatter<W>) -> Result<(), fmt::Error> {
+        f.write_str(match self {
+            Reason::Unshared => "its name is not shared",
+            Reason::TakenTwice => "its name is taken twice",
+            Reason::StandIn => "the Shell can't hold it",
+        })
     }
 }
 

@@ -53,7 +53,7 @@ impl Mirror {
         Ok(StartPlace::Nowhere)
     }
 
-    // Where a program starts as far as the current directory matters.
+    // Where a program starts as far as the current directory matters: nowhere in one that is not written.
     fn own_place<R: AllocGlobal + Files>(
         &mut self,
         rt: &R,
@@ -61,9 +61,14 @@ impl Mirror {
     ) -> Result<StartPlace, TransferFault>
         ensures refused { self.new.refused ≡ self.old.refused }
     {
-        let Some(path) = self.path_of(place)? else {
+        let (Some(path), Some(key)) = (self.path_of(place)?, self.key_of(place)?) else {
             return Ok(StartPlace::Home);
         };
+        if let Some(reason) = self.reason_left_out(key.as_str()) {
+            let text = format!(in self.alloc; "no program starts there, since {reason}")?;
+            self.reports.report(text.as_str(), path.as_str())?;
+            return Ok(StartPlace::Nowhere);
+        }
         if let Some((volume, below)) = self.volumes.of_path(path.as_str())
             && self.has_folder(&Below::new(rt, &self.volumes), volume.label.as_str(), below)?
         {
