@@ -118,7 +118,7 @@ impl Mirror {
         here: &Here,
         account: &Account,
     ) -> Result<Option<Manner>, TransferFault>
-        ensures moved { IfSome (get_by_text account.now.moved object.0.now) (λ manner. IfOk result (λ given. given ≡ Some manner)) }
+        ensures moved { IfSome (get_by_text account.now.moved object.entry.0.now) (λ manner. IfOk result (λ given. given ≡ Some manner)) }
     {
         let (key, entry) = object;
         if let Some(manner) = account.moved_manner(key) {

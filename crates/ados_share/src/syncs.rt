@@ -28,7 +28,8 @@ pub struct FreshFile {
 impl FreshFile {
     // An equal value.
     fn copy(&self) -> Result<FreshFile, NoMemory>
-        ensures { IfOk result (λ file. file ≡ self.now) }
+        ensures path { IfOk result (λ file. string_bytes file.path ≡ string_bytes self.now.path) }
+        ensures bytes { IfOk result (λ file. file.bytes ≡ self.now.bytes) }
     {
         Ok(FreshFile {
             path: self.path.clone()?,
