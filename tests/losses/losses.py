@@ -26,6 +26,7 @@ A file NAME.losses has lines of comment, which begin with `#`, and cases. `== NA
     user UID:GID[:GROUP ..]  the user; needs root
     owner PATH UID:GID   the owner and the group before; `owner-after` afterwards; needs root
     no more PATH PATH    no group and no others may do more with the second afterwards than with the first before
+    readers PATH PATH    nobody can read the second afterwards who could not read the first before, counting the folders above each
     mount PATH PATH      the first folder is mounted at the second too; needs root
     disk PATH OPTIONS    the folder is a file system in memory, with these options of mount; needs root
     first LINE           a line of sh that runs before the program; may be repeated
@@ -75,7 +76,7 @@ class Case:
         self.anywhere, self.says, self.prints, self.signals, self.mounts = [], [], [], [], []
         self.status, self.most, self.waits, self.seconds, self.blocks, self.closed = "0", None, 0.0, 60.0, None, None
         self.user, self.fails, self.owners, self.owners_after, self.disks = None, None, {}, {}, []
-        self.first, self.outside, self.no_more = [], [], []
+        self.first, self.outside, self.no_more, self.readers = [], [], [], []
         self.is_silent = self.ignores_size = False
 
     def take(self, line, text):
@@ -96,6 +97,8 @@ class Case:
             self.after[path_of(rest)] = None
         elif key == "no":
             self.no_more.append(words[1:])
+        elif key == "readers":
+            self.readers.append(words)
         elif key in ("mode", "mode-after"):
             (self.modes if key == "mode" else self.modes_after)[words[0]] = int(words[1], 8)
         elif key in ("owner", "owner-after"):
