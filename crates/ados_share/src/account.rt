@@ -1,5 +1,5 @@
 //! What one update of the shared folder could not write, and what follows from that.
-ghost use Rattle.std.specs.Prelude.{◌≡◌, ◌++◌, ◌∷◌, ◌+◌, ◌-◌, ◌^◌, [], IfOk, OnErr, OnOk, if◌then◌else◌, min, string_bytes};
+ghost use Rattle.std.specs.Prelude.{◌≡◌, ◌++◌, ◌∷◌, ◌+◌, ◌-◌, ◌^◌, [], None, IfOk, OnErr, OnOk, if◌then◌else◌, min, string_bytes};
 ghost use Rattle.std.specs.BTreeMap.{get_by_text};
 ghost use Rattle.std.specs.List.{list_any};
 ghost use Rattle.std.specs.Option.{option_map, is_some};
@@ -117,12 +117,11 @@ impl Account {
     /// Notes that the Shell has a copy of a stand-in, which is not written.
     pub fn add_copy(&mut self, path: String) -> Result<(), TransferFault>
         ensures unwritten { OnOk result (option_map string_bytes self.new.unwritten ≡ first_path (option_map string_bytes self.old.unwritten) (string_bytes path)) }
-        ensures left_out { OnOk result (self.new.left_out.items ≡ self.old.left_out.items ++ record { reason = Reason.StandIn; path = path } ∷ []) }
+        ensures left_out { OnOk result (self.new.left_out.items ≡ self.old.left_out.items ++ record { reason = Reason.StandIn; path = path; bytes = None } ∷ []) }
         ensures rest { self.new ≡ record self.old { unwritten = self.new.unwritten; left_out = self.new.left_out } }
     {
         self.add_unwritten(path.as_str())?;
-        let reason = Reason::StandIn;
-        self.left_out.push(LeftOut { reason, path })?;
+        self.left_out.push(LeftOut::of_stand_in(path))?;
         Ok(())
     }
 

@@ -1,11 +1,12 @@
 //! What the Shell has and an update never writes to the folder of a share, and why.
-ghost use Rattle.std.specs.Prelude.{◌≡◌, ◌++◌, ◌∷◌, [], None, OnOk, Some, true, false};
+ghost use Rattle.std.specs.Prelude.{◌≡◌, IfOk, None, Some, true, false};
 ghost use Rattle.std.specs.List.{list_any};
-ghost use Rattle.ados_share.specs.LeftOut.{is_taken, is_taken_twice};
+ghost use Rattle.ados_share.specs.LeftOut.{bytes_in, is_taken, is_taken_twice};
 
 use crate::account::Account;
 use crate::mirror::Mirror;
-use ados_ram::{Entry, Ram};
+use ados_ram::{Body, Entry, FileBytes, Ram};
+use ados_text::NoMemory;
 use ados_transfer::{Records, TransferFault, is_descendant, is_unshared};
 use std::fmt;
 
@@ -27,6 +28,36 @@ pub struct LeftOut {
     pub reason: Reason,
     /// Its path below the folder.
     pub path: String,
+    /// What it holds, if it is a file that could be written but for its name.
+    pub bytes: Option<FileBytes>,
+}
+
+impl LeftOut {
+    /// An object that is left out for a name.
+    pub fn new(reason: Reason, path: String, entry: &Entry) -> Result<LeftOut, NoMemory>
+        ensures { IfOk result (λ one. one ≡ record { reason = reason; path = path; bytes = bytes_in entry.now.body }) }
+    {
+        let bytes = match &entry.body {
+            Body::File(bytes) => Some(bytes.copy()?),
+            Body::Directory => None,
+        };
+        Ok(LeftOut {
+            reason,
+            path,
+            bytes,
+        })
+    }
+
+    /// A copy of the stand-in of a file that the Shell can't hold.
+    pub fn of_stand_in(path: String) -> LeftOut
+        ensures { result ≡ record { reason = Reason.StandIn; path = path; bytes = None } }
+    {
+        LeftOut {
+            reason: Reason::StandIn,
+            path,
+            bytes: None,
+        }
+    }
 }
 
 impl fmt::Display for Reason {
@@ -66,23 +97,27 @@ impl Mirror {
             .any(|twice| is_taken(&self.records, twice.as_str(), key))
     }
 
-    // Notes that an object is not written. While a file of the folder has the bytes of one, no program starts: it may delete the other.
-    pub(crate) fn leave_out(
+    // After an update has written what it could: while a file of the folder has the bytes of one that is left out, no program starts, since
+    // it may delete the other.
+    pub(crate) fn bar_copies(
         &self,
         files: &Ram,
-        one: LeftOut,
-        entry: &Entry,
         account: &mut Account,
-    ) -> Result<(), TransferFault>
-        ensures { OnOk result (account.new.left_out.items ≡ account.old.left_out.items ++ one ∷ []) }
-    {
-        if let Some(bytes) = entry.bytes()
-            && bytes.len() > 0
-            && self.original_of(files, bytes).is_some()
-        {
-            account.refuse(one.path.as_str())?;
+    ) -> Result<(), TransferFault> {
+        let mut refused = None;
+        for one in &account.left_out {
+            if refused.is_none()
+                && let Some(bytes) = &one.bytes
+                && bytes.len() > 0
+                && self.original_of(files, bytes).is_some()
+            {
+                refused = Some(one.path.clone()?);
+            }
         }
-        account.add_left_out(one, entry)
+        match refused {
+            Some(path) => account.refuse(path.as_str()),
+            None => Ok(()),
+        }
     }
 }
 
