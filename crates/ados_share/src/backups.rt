@@ -10,11 +10,16 @@ use crate::remainders::Remainder;
 use crate::syncs::write_synced;
 use ados_ram::{Entry, FileBytes, Place, Ram};
 use ados_text::NoMemory;
-use ados_transfer::{Draft, Here, Last, Manner, TransferFault, is_beginning_of, no_memory};
+use ados_transfer::{
+    Draft, Here, Last, Manner, TransferFault, is_beginning_of, no_memory, path_of,
+};
 use std::alloc::Global;
 use std::collections::BTreeMap;
 use std::rt::Files;
 use std::{fs, io};
+
+// Stands for the name of any temporary file.
+const TEMPORARY: &str = "temporary";
 
 /// The backups of a share.
 #[derive(Drop)]
@@ -70,12 +75,9 @@ impl Backups {
         self.by_path.contains_key(path)
     }
 
-    /// The permissions of a file with these bytes that was written over.
-    pub fn manner_of(&self, bytes: &FileBytes) -> Option<Manner> {
-        self.by_path
-            .values()
-            .find(|backup| backup.bytes == *bytes)
-            .map(|backup| backup.manner)
+    /// The backup of a file with these bytes.
+    pub fn of_bytes(&self, bytes: &FileBytes) -> Option<&Backup> {
+        self.by_path.values().find(|backup| backup.bytes == *bytes)
     }
 
     /// What is at or below a place of the Shell's files gives way to what comes in: if it is the other copy of one of them, that is no
@@ -171,21 +173,34 @@ impl Mirror {
         let Ok(moved) = self.moves.copy(key) else {
             return Err(no_memory());
         };
-        let manner = Manner::Kept(*rights);
         let backup = Backup {
             original: String::from_str(self.alloc, path)?,
             bytes: bytes.clone()?,
-            manner,
+            manner: Manner::Kept(*rights),
             moved,
         };
-        let root = self.volumes.root_of(path);
-        let beside = write_synced(rt, root, bytes, manner)?;
+        let beside = self.write_backup(rt, &backup)?;
         match self.backups.add(beside.as_str(), backup) {
             Ok(()) => Ok(()),
             Err(_) => {
                 let _ = fs::remove_file(rt, beside.as_str());
                 Err(no_memory())
             }
+        }
+    }
+
+    // Writes a backup to a temporary file in the folder of its volume, and gives its path. Who can't enter a folder above the original has
+    // no rights to it.
+    pub(crate) fn write_backup<R: AllocGlobal + Files>(
+        &self,
+        rt: &R,
+        backup: &Backup,
+    ) -> io::Result<String> {
+        let root = self.volumes.root_of(backup.original.as_str());
+        let in_root = path_of(self.alloc, root, TEMPORARY)?;
+        match self.manner_at(rt, backup, in_root.as_str()) {
+            Ok(manner) => write_synced(rt, root, &backup.bytes, manner),
+            Err(_) => Err(no_memory()),
         }
     }
 

@@ -6,7 +6,6 @@ use crate::departure::Departure;
 use crate::holders::Holders;
 use crate::mirror::Mirror;
 use crate::moves::Elsewhere;
-use crate::syncs::write_synced;
 use ados_ram::{Entry, FileBytes, Ram};
 use ados_transfer::{Draft, Here, Last, Manner, TransferFault, holds, is_beginning_of, lower};
 use std::rt::Files;
@@ -169,7 +168,7 @@ impl Mirror {
             if moved.is_none() && !holders.has_outside(&backup.bytes) {
                 continue;
             }
-            if self.is_in_folder(rt, &backup)? || self.backups.manner_of(&backup.bytes).is_some() {
+            if self.is_in_folder(rt, &backup)? || self.backups.of_bytes(&backup.bytes).is_some() {
                 self.backups.deleted.push(backup)?;
             } else {
                 self.restore(rt, backup)?;
@@ -211,8 +210,7 @@ impl Mirror {
     ) -> Result<(), TransferFault> {
         let path = backup.original.as_str();
         let key = lower(self.alloc, path)?;
-        let root = self.volumes.root_of(path);
-        match write_synced(rt, root, &backup.bytes, backup.manner) {
+        match self.write_backup(rt, &backup) {
             Ok(beside) => self.backups.add(beside.as_str(), backup),
             Err(error) => {
                 self.not_done(&error, "cannot write", key.as_str(), path)?;

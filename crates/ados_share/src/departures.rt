@@ -74,6 +74,7 @@ impl Mirror {
         if account.moment == Moment::End {
             self.report_waiting(files)?;
         }
+        self.bar_copies(files, account)?;
         self.report_account(account)
     }
 
@@ -245,7 +246,7 @@ impl Mirror {
             };
             match self.reason_left_out(key.as_str()) {
                 None => departures.add(key, Departure::new(path, entry))?,
-                Some(reason) => { self.leave_out(files, LeftOut { reason, path }, entry, account)? }
+                Some(reason) => account.add_left_out(LeftOut::new(reason, path, entry)?, entry)?,
             }
         }
         Ok(())

@@ -98,7 +98,7 @@ impl Mirror {
             account.refuse(path.as_str())?;
         }
         if !account.is_meanwhile() {
-            self.report_blocked(files)?;
+            self.report_blocked(files, account)?;
         }
         Ok(first.is_any || is_aside || last.is_any)
     }
@@ -215,10 +215,14 @@ impl Mirror {
     }
 
     // Reports the large files that could not be renamed as their stand-ins were. One whose stand-in is outside of the directory has no
-    // name to get.
-    fn report_blocked(&mut self, files: &Ram) -> Result<(), TransferFault> {
+    // name to get. While the new name of one is left out no program starts: it may delete the file under the old one.
+    fn report_blocked(&mut self, files: &Ram, account: &mut Account) -> Result<(), TransferFault> {
         for moved in &self.moved(files)? {
             if let Some(new) = &moved.new_path {
+                let key = lower(self.alloc, new.as_str())?;
+                if self.reason_left_out(key.as_str()).is_some() {
+                    account.refuse(new.as_str())?;
+                }
                 self.stand_ins.is_blocked = true;
                 let new = self.volumes.shown(new.as_str())?;
                 let text = format!(in self.alloc; "cannot rename to {new}")?;

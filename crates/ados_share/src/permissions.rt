@@ -3,6 +3,7 @@ ghost use Rattle.std.specs.Prelude.{◌≡◌, IfOk, IfSome, Some, bit_and};
 ghost use Rattle.std.specs.BTreeMap.{get_by_text};
 
 use crate::account::Account;
+use crate::backups::Backup;
 use crate::departure::{Departure, Departures};
 use crate::mirror::Mirror;
 use crate::moves::Destination;
@@ -46,7 +47,8 @@ impl Mirror {
             if let Some(destination) = &backup.moved
                 && let Some(new) = self.destined_key(destination)?
             {
-                account.moved.insert(new, backup.manner)?;
+                let manner = self.manner_at(rt, backup, new.as_str())?;
+                account.moved.insert(new, manner)?;
             }
         }
         account.is_private = self.loses_private(rt, departures);
@@ -69,9 +71,37 @@ impl Mirror {
         path: &str,
         key: &str,
     ) -> Result<Option<Rights>, TransferFault> {
-        let Some(mut rights) = rights_here(rt, path) else {
-            return Ok(None);
-        };
+        match rights_here(rt, path) {
+            Some(rights) => Ok(Some(self.rights_out_of(rt, rights, path, key)?)),
+            None => Ok(None),
+        }
+    }
+
+    // The permissions that a file leaves to an object of this key whose backup this is.
+    pub(crate) fn manner_at<R: AllocGlobal + Files>(
+        &self,
+        rt: &R,
+        backup: &Backup,
+        key: &str,
+    ) -> Result<Manner, TransferFault> {
+        match backup.manner {
+            Manner::Kept(rights) => {
+                let path = backup.original.as_str();
+                Ok(Manner::Kept(self.rights_out_of(rt, rights, path, key)?))
+            }
+            manner => Ok(manner),
+        }
+    }
+
+    // What these permissions of an object at this path leave to one of this key.
+    fn rights_out_of<R: AllocGlobal + Files>(
+        &self,
+        rt: &R,
+        rights: Rights,
+        path: &str,
+        key: &str,
+    ) -> Result<Rights, TransferFault> {
+        let mut rights = rights;
         let mut folder = String::new(self.alloc);
         for step in folder_of(path).split('/') {
             folder = step_into(self.alloc, folder.as_str(), step)?;
@@ -80,7 +110,7 @@ impl Mirror {
                 rights = rights.within(around.unwrap_or(rights.closed()));
             }
         }
-        Ok(Some(rights))
+        Ok(rights)
     }
 
     // A file is gone that others could not read, or a folder that they could not enter, and it was not moved to a place of a share.
@@ -154,16 +184,18 @@ impl Mirror {
             let rights = self.rights_at(rt, record.path.as_str(), key)?;
             return Ok(rights.map(Manner::Kept));
         }
-        let moved = match account.manner_of(bytes) {
-            Some(manner) => Some(manner),
-            None => self.backups.manner_of(bytes),
-        };
-        match (moved, original) {
-            (None, Some(record)) if bytes.len() > 0 => {
+        if let Some(manner) = account.manner_of(bytes) {
+            return Ok(Some(manner));
+        }
+        if let Some(backup) = self.backups.of_bytes(bytes) {
+            return Ok(Some(self.manner_at(rt, backup, key)?));
+        }
+        match original {
+            Some(record) if bytes.len() > 0 => {
                 let rights = self.rights_at(rt, record.path.as_str(), key)?;
                 Ok(rights.map(Manner::Copied))
             }
-            (moved, _) => Ok(moved),
+            _ => Ok(None),
         }
     }
 }
