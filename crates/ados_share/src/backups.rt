@@ -7,19 +7,13 @@ use crate::account::{Account, Moment};
 use crate::mirror::Mirror;
 use crate::moves::Destination;
 use crate::remainders::Remainder;
-use crate::syncs::write_synced;
 use ados_ram::{Entry, FileBytes, Place, Ram};
 use ados_text::NoMemory;
-use ados_transfer::{
-    Draft, Here, Last, Manner, TransferFault, is_beginning_of, no_memory, path_of,
-};
+use ados_transfer::{Draft, Here, Last, Manner, TransferFault, is_beginning_of, no_memory};
 use std::alloc::Global;
 use std::collections::BTreeMap;
 use std::rt::Files;
 use std::{fs, io};
-
-// Stands for the name of any temporary file.
-const TEMPORARY: &str = "temporary";
 
 /// The backups of a share.
 #[derive(Drop)]
@@ -186,21 +180,6 @@ impl Mirror {
                 let _ = fs::remove_file(rt, beside.as_str());
                 Err(no_memory())
             }
-        }
-    }
-
-    // Writes a backup to a temporary file in the folder of its volume, and gives its path. Who can't enter a folder above the original has
-    // no rights to it.
-    pub(crate) fn write_backup<R: AllocGlobal + Files>(
-        &self,
-        rt: &R,
-        backup: &Backup,
-    ) -> io::Result<String> {
-        let root = self.volumes.root_of(backup.original.as_str());
-        let in_root = path_of(self.alloc, root, TEMPORARY)?;
-        match self.manner_at(rt, backup, in_root.as_str()) {
-            Ok(manner) => write_synced(rt, root, &backup.bytes, manner),
-            Err(_) => Err(no_memory()),
         }
     }
 

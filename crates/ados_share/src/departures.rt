@@ -62,6 +62,7 @@ impl Mirror {
         let asides = self.begin_moves(rt, files, account)?;
         let mut departures = self.departures(files, account)?;
         departures.leave_out(away.as_slice());
+        self.bar_copies(files, account)?;
         self.find_copies(files, &mut departures)?;
         self.write_all(rt, files, &departures, account)?;
         self.delete_gone(rt, files, &departures, account)?;
@@ -74,6 +75,7 @@ impl Mirror {
         if account.moment == Moment::End {
             self.report_waiting(files)?;
         }
+        // By now what the script made has its record too.
         self.bar_copies(files, account)?;
         self.report_account(account)
     }

@@ -97,8 +97,7 @@ impl Mirror {
             .any(|twice| is_taken(&self.records, twice.as_str(), key))
     }
 
-    // After an update has written what it could: while a file of the folder has the bytes of one that is left out, no program starts, since
-    // it may delete the other.
+    // While a file of the folder has the bytes of one that is left out, no program starts, since it may delete the other.
     pub(crate) fn bar_copies(
         &self,
         files: &Ram,

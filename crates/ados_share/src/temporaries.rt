@@ -1,12 +1,32 @@
-//! Temporary files that could not be removed from the folders of a share.
+//! Temporary files in the folders of a share: how a backup is written to one, and those that could not be removed.
 
 use crate::account::Account;
+use crate::backups::Backup;
 use crate::mirror::Mirror;
-use ados_transfer::{Below, TransferFault};
+use crate::syncs::write_synced;
+use ados_transfer::{Below, TransferFault, no_memory, path_of};
 use std::rt::Files;
-use std::{fs, mem};
+use std::{fs, io, mem};
+
+// Stands for the name of any temporary file.
+const TEMPORARY: &str = "temporary";
 
 impl Mirror {
+    // Writes a backup to a temporary file in the folder of its volume, and gives its path. Who can't enter a folder above the original has
+    // no rights to it.
+    pub(crate) fn write_backup<R: AllocGlobal + Files>(
+        &self,
+        rt: &R,
+        backup: &Backup,
+    ) -> io::Result<String> {
+        let root = self.volumes.root_of(backup.original.as_str());
+        let in_root = path_of(self.alloc, root, TEMPORARY)?;
+        match self.manner_at(rt, backup, in_root.as_str()) {
+            Ok(manner) => write_synced(rt, root, &backup.bytes, manner),
+            Err(_) => Err(no_memory()),
+        }
+    }
+
     // After an update reports each temporary file that it left, unless that is told in another way. Those are kept in mind that are still
     // there: another program may have removed one of an update before.
     pub(crate) fn report_temporaries<R: AllocGlobal + Files>(
