@@ -62,7 +62,6 @@ impl Mirror {
         let asides = self.begin_moves(rt, files, account)?;
         let mut departures = self.departures(files, account)?;
         departures.leave_out(away.as_slice());
-        self.bar_copies(files, account)?;
         self.find_copies(files, &mut departures)?;
         self.write_all(rt, files, &departures, account)?;
         self.delete_gone(rt, files, &departures, account)?;
@@ -72,10 +71,14 @@ impl Mirror {
         if self.finish_moves(rt, files, asides, account)? {
             self.delete_gone(rt, files, &departures, account)?;
         }
+        self.end_update(files, account)
+    }
+
+    // Reports what waits and what is not deleted. By now what the script made has its record too.
+    fn end_update(&mut self, files: &Ram, account: &mut Account) -> Result<(), TransferFault> {
         if account.moment == Moment::End {
             self.report_waiting(files)?;
         }
-        // By now what the script made has its record too.
         self.bar_copies(files, account)?;
         self.report_account(account)
     }
@@ -210,6 +213,7 @@ impl Mirror {
             let places = files.contents(&volume.place)?;
             self.add_new(files, &places, &mut departures, account)?;
         }
+        self.bar_copies(files, account)?;
         Ok(departures)
     }
 
