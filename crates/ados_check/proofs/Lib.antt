@@ -5,6 +5,7 @@ mod DirectiveLemmas
 mod ErrorLemmas
 mod LeftOutLemmas
 mod LookLemmas
+mod MarkLemmas
 mod PhraseLemmas
 mod ReadingLemmas
 mod ReturnLemmas

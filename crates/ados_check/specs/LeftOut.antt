@@ -1,6 +1,7 @@
 -- The commands of a line that are given an option of Release 2 which the Shell leaves out; what is told of them, and struck.
-use Rattle.std.specs.Prelude.{ℕ, ◌≡◌, ◌<◌, ◌==◌, ◌&&◌, ◌||◌, Bool, true, false, List, [], ◌∷◌, ◌++◌, Option, Some, None, flat_map, length, slice_index}
+use Rattle.std.specs.Prelude.{ℕ, ◌+◌, ◌≡◌, ◌<◌, ◌==◌, ◌&&◌, ◌||◌, Bool, true, false, List, [], ◌∷◌, ◌++◌, Option, Some, None, flat_map, length, nat_le, nat_lt, slice_index, if◌then◌else◌}
 use Rattle.std.specs.List.{list_any}
+use Rattle.ados_text.specs.Lines.{lines_of}
 use Rattle.ados_text.specs.Text.{Bytes, Text}
 use Rattle.ados_items.specs.Items.{bytes_between}
 use Rattle.ados_line.specs.Comment.{without_comment}
@@ -110,3 +111,36 @@ ToldTheSame old new = (number : ℕ) → is_told number new ≡ is_told number o
 -- as long as before, and each byte is unchanged or a blank
 abbrev pub IsBlanked : Bytes → Bytes → Type 0
 IsBlanked old new = (length new ≡ length old) × ((k : ℕ) → k < length old → (slice_index new k == slice_index old k || slice_index new k == 32) ≡ true)
+
+-- a byte, or the blank in its place
+abbrev pub struck : Bool → ℕ → ℕ
+struck is byte = if is then 32 else byte
+
+-- as long as before, and each byte is a blank if this holds of its place, and otherwise unchanged
+abbrev pub IsStruck : (ℕ → Bool) → Bytes → Bytes → Type 0
+IsStruck test old new = (length new ≡ length old) × ((k : ℕ) → k < length old → slice_index new k ≡ struck (test k) (slice_index old k))
+
+abbrev pub is_between : ℕ → ℕ → ℕ → Bool
+is_between from to k = nat_le from k && nat_lt k to
+
+-- a place lies in an option that has no effect, in a text that begins at another
+abbrev pub is_in : ℕ → ℕ → Given → Bool
+is_in from k given = given.option.is_idle && is_between (from + given.from) (from + given.to) k
+
+-- in one of some
+abbrev pub is_in_idle : ℕ → List Given → ℕ → Bool
+is_in_idle from options k = list_any (is_in from k) options
+
+-- in one that the commands of a line are given
+abbrev pub is_idle_in_line : List Command → Dialect → Pairs → ℕ → Bytes → ℕ → Bool
+is_idle_in_line commands dialect aliases from line k = list_any (λ part. is_in_idle (from + part.0) part.1 k) (left_out_in commands dialect aliases line)
+
+-- in one of lines, the first of which begins at a place
+abbrev pub is_idle_in_lines : List Command → Dialect → ℕ → List Text → ℕ → Bool
+is_idle_in_lines commands dialect from [] k = false
+is_idle_in_lines commands dialect from (line ∷ lines) k =
+    is_idle_in_line commands dialect [] from line k || is_idle_in_lines commands dialect (from + length line + 1) lines k
+
+-- each byte of a script that lies in an option without effect which one of its lines gives is made a blank, and no other is changed
+abbrev pub IsRidOfIdle : Dialect → Bytes → Bytes → Type 0
+IsRidOfIdle dialect old new = (commands : List Command) × AreReleaseTwo commands × IsStruck (is_idle_in_lines commands dialect 0 (lines_of old)) old new

@@ -1,6 +1,6 @@
 //! The commands of a line that are given an option of Release 2 which the Shell leaves out, and so takes for a plain word.
 ghost use Rattle.std.specs.Prelude.{◌≡◌, ◌++◌, map, IfOk, IfSome, OnOk};
-ghost use Rattle.ados_check.specs.LeftOut.{IsBlanked, given_in, given_of, left_out_in, part_of, shown};
+ghost use Rattle.ados_check.specs.LeftOut.{IsBlanked, IsRidOfIdle, IsStruck, given_in, given_of, is_between, is_idle_in_line, is_in_idle, left_out_in, part_of, shown};
 ghost use Rattle.ados_check.specs.Table.{AreReleaseTwo};
 
 use crate::arguments::argument_words;
@@ -49,52 +49,52 @@ impl fmt::Display for LeftOut {
 
 /// Writes blanks over those options in a script that the Shell leaves out in a dialect and that have no effect which matters here.
 ///
-/// The script keeps its length, and each byte is unchanged or a blank.
-#[tactic(auto, using(crate::proofs::StrikeLemmas::blanked_itself, crate::proofs::StrikeLemmas::blanked_again))]
+/// The script keeps its length. Each byte is a blank if it lies in such an option of one of the lines, and otherwise unchanged.
 pub fn strike(alloc: Global, dialect: Dialect, script: &mut [u8]) -> Result<(), NoMemory>
-    ensures { IsBlanked script.old script.new }
+    ensures blanked { IsBlanked script.old script.new }
+    ensures struck { OnOk result (IsRidOfIdle dialect script.old script.new) }
 {
-    let mut from = 0;
+    let aliases = Aliases::new(alloc);
+    let reader = Reader::new(alloc, dialect, &aliases);
+    let mut from: usize = 0;
     let lines = lines_of(alloc, script)?;
     for line in lines.as_slice() {
-        strike_line(alloc, dialect, script, from, line.as_bytes())?;
+        strike_line(reader, script, from, line.as_bytes())?;
         from = from.saturating_add(line.as_bytes().len()).saturating_add(1);
     }
     Ok(())
 }
 
 // The same in a line that begins at a place of the script.
-#[tactic(auto, using(crate::proofs::StrikeLemmas::blanked_itself, crate::proofs::StrikeLemmas::blanked_again))]
-fn strike_line(
-    alloc: Global,
-    dialect: Dialect,
-    script: &mut [u8],
-    from: usize,
-    line: &[u8],
-) -> Result<(), NoMemory>
-    ensures { IsBlanked script.old script.new }
+fn strike_line(reader: Reader, script: &mut [u8], from: usize, line: &[u8]) -> Result<(), NoMemory>
+    ensures blanked { IsBlanked script.old script.new }
+    ensures struck { OnOk result (IsStruck (is_idle_in_line reader.entry.commands.now reader.entry.dialect reader.entry.aliases.now from line.now) script.old script.new) }
 {
-    let aliases = Aliases::new(alloc);
-    let found = Reader::new(alloc, dialect, &aliases).options_left_out(line)?;
+    let found = reader.options_left_out(line)?;
     for one in &found {
-        let from = from.saturating_add(one.from);
-        for given in &one.options {
-            if given.option.is_idle {
-                blank(
-                    script,
-                    from.saturating_add(given.from),
-                    from.saturating_add(given.to),
-                );
-            }
-        }
+        strike_options(script, from.saturating_add(one.from), &one.options);
     }
     Ok(())
 }
 
+// Writes blanks over the options without effect among those of a text that begins at a place.
+fn strike_options(script: &mut [u8], from: usize, options: &[Given])
+    ensures { IsStruck (is_in_idle from options.now) script.old script.new }
+{
+    for given in options {
+        if given.option.is_idle {
+            blank(
+                script,
+                from.saturating_add(given.from),
+                from.saturating_add(given.to),
+            );
+        }
+    }
+}
+
 // Writes blanks over the bytes from one place up to another.
-#[tactic(auto, using(crate::proofs::StrikeLemmas::blanked_itself, crate::proofs::StrikeLemmas::blanked_set))]
 fn blank(script: &mut [u8], from: usize, to: usize)
-    ensures { IsBlanked script.old script.new }
+    ensures { IsStruck (is_between from to) script.old script.new }
 {
     for place in from..to.min(script.len()) {
         script[place] = b' ';

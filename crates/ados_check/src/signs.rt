@@ -1,13 +1,13 @@
 //! Signs in a script that the Shell takes for something else: a byte above 127 is read as `?`, which in a name is a pattern that other
 //! names fit, and a carriage return at the end of a line is a byte of its last word.
-ghost use Rattle.std.specs.Prelude.{◌≡◌, ◌&&◌, true, false, is_some, Some};
+ghost use Rattle.std.specs.Prelude.{◌≡◌, ◌&&◌, true, false, is_some, map, Some};
 ghost use Rattle.std.specs.List.{find, list_any};
 ghost use Rattle.std.specs.Str.{IsAscii};
 ghost use Rattle.ados_text.specs.Text.{is_past_ascii};
 ghost use Rattle.ados_line.specs.Comment.{without_comment};
 ghost use Rattle.ados_check.specs.Printing.{only_prints};
 ghost use Rattle.ados_check.specs.Problems.{is_harmless};
-ghost use Rattle.ados_check.specs.Signs.{end_return, first_sign, is_dotted, is_remark, is_return, sign_of, told_sign};
+ghost use Rattle.ados_check.specs.Signs.{end_return, first_sign, is_dotted, is_remark, is_return, marked, sign_of, told_sign};
 
 use crate::arguments::has_redirection;
 use crate::findings::{Finding, Problem};
@@ -28,8 +28,10 @@ pub const RETURN: u8 = b'\r';
 const ORDER_MARK: [u8; 3] = [0xef, 0xbb, 0xbf];
 
 /// Writes `_` in the place of each byte above 127.
-pub fn mark(script: &mut [u8]) {
-    for byte in script {
+pub fn mark(script: &mut [u8])
+    ensures { script.new ≡ map marked script.old }
+{
+    for byte in script.iter_mut() {
         if !byte.is_ascii() {
             *byte = MARK;
         }

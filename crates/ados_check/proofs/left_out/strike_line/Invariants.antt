@@ -1,8 +1,8 @@
-use Rattle.ados_check.specs.LeftOut.{IsBlanked}
+use Rattle.std.proofs.Common.{drop, map}
+use Rattle.ados_check.specs.LeftOut.{shown}
+use Rattle.ados_check.proofs.StrikeLemmas.{Leaves, is_in_parts}
 use Rattle.ados_check.proofs.left_out.strike_line.Given as goal
 
 abbrev pub invariant-loop-one : goal.invariant-loop-one
-invariant-loop-one l = IsBlanked l.initial.script l.script
-
-abbrev pub invariant-loop-given : goal.invariant-loop-given
-invariant-loop-given l = IsBlanked l.initial.script l.script
+invariant-loop-one l =
+    Leaves (is_in_parts l.from (map shown (drop l.one-index l.one-items))) (is_in_parts l.from (map shown l.one-items)) l.initial.script l.script
