@@ -3,12 +3,14 @@ ghost use Rattle.std.specs.Prelude.{◌≡◌, None, IfErr};
 ghost use Rattle.amishell_execute.specs.Playing.{drive_fault_of};
 
 use crate::faults::{Fault, report, unread_script};
+use crate::origins::Origins;
 use ados_check::{Finding, bad_directive, check, mark, mark_printed, merge_returns, strike};
 use ados_flow::{Frame, FrameKind};
 use ados_launch::Next;
 use ados_ram::Place;
 use ados_shell::Shell;
 use ados_text::{Name, NoMemory, Text, lines_of};
+use ados_trace::ScriptNames;
 use ados_transfer::read_script;
 use ados_vars::Aliases;
 use ados_world::World;
@@ -21,9 +23,8 @@ use std::rt::Files;
 #[derive(Drop)]
 pub struct Checks<'a> {
     is_lenient: bool,
-    // The script of the command line: its file on this machine, and its full path in the Shell's files.
-    file: &'a str,
-    path: Text,
+    // By which paths the scripts are named.
+    origins: &'a Origins<'a>,
     // The full paths of the scripts of which a harmless problem was reported, or with `--lenient` any.
     reported: Vec<Text>,
     // The shells in which a frame began, and which had no turn since.
@@ -64,22 +65,21 @@ pub fn read_checked<R: AllocGlobal + Files + Eprint>(
 }
 
 impl<'a> Checks<'a> {
-    /// The checks that the options ask for; the script of the command line is at this place.
+    /// The checks of scripts with these names; the script of the command line is at this place.
     pub fn new(
-        alloc: Global,
-        options: &Options<'a>,
+        is_lenient: bool,
+        origins: &'a Origins<'a>,
         script: &Place,
     ) -> Result<Checks<'a>, NoMemory> {
-        let path = script.path(alloc)?;
+        let alloc = origins.alloc;
         let mut reported = Vec::new(alloc);
-        if options.lenient {
+        if is_lenient {
             // What is found in it was reported before anything ran.
-            reported.push(path.copy()?)?;
+            reported.push(script.path(alloc)?)?;
         }
         Ok(Checks {
-            is_lenient: options.lenient,
-            file: options.script,
-            path,
+            is_lenient,
+            origins,
             reported,
             begun: Vec::new(alloc),
         })
@@ -99,8 +99,7 @@ impl<'a> Checks<'a> {
     /// Before an event, while checks are due: if a shell is to take the first line of a script, all lines of that script are checked,
     /// with its arguments in them.
     ///
-    /// `NotRun` if one of them must not be run as it is; with `--lenient` a carriage return at the end of a line is only reported, once for
-    /// each script.
+    /// `NotRun` if one of them must not be run as it is; with `--lenient` they are only reported, once for each script.
     pub fn attend<R: AllocGlobal + Eprint>(
         &mut self,
         rt: &R,
@@ -144,35 +143,25 @@ impl<'a> Checks<'a> {
                 one.problem.refuse();
             }
         }
-        if self.is_lenient {
-            found.retain(|one| one.problem.is_return());
-        }
         merge_returns(&mut found);
         let is_new = self.is_first_report(name)?;
         if self.is_lenient && !is_new {
             return Ok(());
         }
-        if report_all(rt, self.shown(name), &found, is_new)? && !self.is_lenient {
-            return Err(not_run(alloc, self.shown(name)));
+        let shown = self.origins.name(name)?;
+        if report_all(rt, shown.as_str(), &found, is_new)? && !self.is_lenient {
+            return Err(Fault::NotRun(shown));
         }
         Ok(())
     }
 
-    // Harmless problems of this script were not reported yet; from now on they were.
+    // Problems of this script were not reported yet; from now on they were.
     fn is_first_report(&mut self, name: &Text) -> Result<bool, NoMemory> {
         if self.reported.contains(name) {
             return Ok(false);
         }
         self.reported.push(name.copy()?)?;
         Ok(true)
-    }
-
-    // What a script is called in a report: that of the command line by its file, any other by its path in the Shell's files.
-    fn shown<'n>(&'n self, name: &'n Text) -> &'n str {
-        if self.path == *name {
-            return self.file;
-        }
-        std::str::from_utf8(name.as_bytes()).unwrap_or("")
     }
 }
 
@@ -236,14 +225,4 @@ fn report_all<R: AllocGlobal + Eprint>(
         is_refused = is_refused || !is_harmless;
     }
     Ok(is_refused)
-}
-
-// The fault of a script that is not run.
-fn not_run(alloc: Global, name: &str) -> Fault
-    ensures { drive_fault_of result ≡ None }
-{
-    match String::from_str(alloc, name) {
-        Ok(name) => Fault::NotRun(name),
-        Err(_) => Fault::Memory,
-    }
 }

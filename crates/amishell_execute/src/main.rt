@@ -161,8 +161,9 @@ fn run_script<
         at_end: options.at_end,
         deadline: Deadline::after(rt, options.seconds),
         errors,
-        checks: Checks::new(rt.alloc(), options, &place)?,
+        checks: Checks::new(options.lenient, &origins, &place)?,
         teller: Teller::new(&origins, options.quiet),
+        origins: &origins,
     };
     let traced = options.trace.then_some(&origins);
     let ended = play_watched(rt, world, script, share.as_mut(), traced);

@@ -12,6 +12,7 @@ use crate::deadline::Deadline;
 use crate::error_codes::ErrorCode;
 use crate::faults::Fault;
 use crate::launcher::Bringer;
+use crate::origins::Origins;
 use crate::reader::Prompter;
 use crate::share::Share;
 use crate::teller::Teller;
@@ -47,6 +48,8 @@ pub struct Script<'a> {
     pub checks: Checks<'a>,
     /// Who tells where they end.
     pub teller: Teller<'a>,
+    /// By which paths they are named.
+    pub origins: &'a Origins<'a>,
 }
 
 /// Runs a script in a new world, with standard input for what asks, and writes what it prints.
@@ -95,7 +98,7 @@ pub fn play<R: AllocGlobal + Files + Input + Eprint + Processes + Clone + Drop +
     }
     if run.reader.is_unanswered() {
         // Without memory to say which question it was, it is not named.
-        let asked = match question_asked(rt.alloc(), world, run.reader.last_line()) {
+        let asked = match question_asked(script.origins, world, run.reader.last_line()) {
             Ok(asked) => asked,
             Err(_) => String::new(rt.alloc()),
         };
