@@ -7,15 +7,19 @@ A script changes files and directories, starts a program, which changes some too
 model says what must stand: what one side changed comes to the other; where both changed this machine's stands; what the Shell
 changed and this machine deleted is written again; what is not as it was at the last time is never deleted; and nothing is deleted
 while something that the Shell has is not written, or after it gave way. What changed is written before a question too. What the script
-moves to T: stays here until it comes in again elsewhere, or is kept if a program deletes it. share_losses.py tries what the model leaves out.
+moves to T: stays here until it comes in again elsewhere, or is kept if a program deletes it. Of names that differ in case alone, which programs
+make, the one that the Shell knew is shared, and otherwise none. share_losses.py tries what the model leaves out.
 The last line is 'N changes, M starts: ok'.
 """
-import os, random, re, shutil, subprocess, sys, time
+import copy, os, random, re, shutil, subprocess, sys, time
 
 os.environ['XDG_CONFIG_HOME'] = '/dev/null'
 STEPS = 120
-FILES = ['a', 'b', 'c', 'd', 'p/a', 'p/b', 'q/a', 'q/b', 'r/a']
-FOLDERS = ['p', 'q', 'r', 's']
+MOST_TRIES = 20
+FILES = ['a', 'b', 'c', 'd', 'p/a', 'p/b', 'q/a', 'q/b', 'r/a', 'v/a', 'v/b', 'w', 'x']
+FOLDERS = ['p', 'q', 'r', 's', 'v']
+# What only programs make: beside these of the same name.
+CAPITALS, CAPITAL_FOLDERS = ['W', 'X', 'V/a', 'V/c'], ['V']
 GONE, FOLDER = 'gone', 'folder'
 KEPT = re.compile(r'\.kept\d*$')
 
@@ -28,15 +32,61 @@ class Unsure(Exception):
     """The model does not say what comes now: the plan is made anew."""
 
 
+def has_capital(path):
+    """Whether a path or its small form may have another beside it."""
+    return path.split('/')[0].upper() in ('V', 'W', 'X')
+
+
 class Model:
-    """What stands in the Shell, on this machine, and at the last time on both; and what stands in T:."""
+    """What stands in the Shell, on this machine, and at the last time on both; and what stands in T:. All that this machine has are the
+    `names`; `machine` is what the Shell sees of it, by small letters, and `known` says how that is spelled. Of names `twice`, which the
+    last look found without one that was known, the Shell sees none."""
 
     def __init__(self):
         self.shell, self.machine, self.last, self.out = {}, {}, {}, {}
+        self.names, self.known, self.twice = {}, {}, set()
         self.told, self.let_go, self.copied, self.origins = set(), set(), set(), {}
 
     def of(self, path):
         return (side.get(path, GONE) for side in (self.shell, self.machine, self.last))
+
+    def look(self):
+        """What the Shell sees of this machine."""
+        spelled = {}
+        for name in self.names:
+            if '/' not in name:
+                spelled.setdefault(name.lower(), []).append(name)
+        tops = {path: each[0] if len(each) == 1 else self.known.get(path) if path in self.last else None for path, each in spelled.items()}
+        twice = {path for path, top in tops.items() if top not in self.names}
+        seen = {name: path for path, name in tops.items() if path not in twice}
+        self.known = {name.lower(): name for name in self.names if name.split('/')[0] in seen}
+        self.machine = {path: self.names[name] for path, name in self.known.items()}
+        return twice
+
+    def is_twice(self, path):
+        return path.split('/')[0] in self.twice
+
+    def spell(self):
+        """Brings what was written to this machine."""
+        for path in [path for path in self.known if path not in self.machine]:
+            del self.names[self.known.pop(path)]
+        for path in sorted(self.machine):
+            if path not in self.known:
+                above, _, name = path.rpartition('/')
+                self.known[path] = f'{self.known[above]}/{name}' if above else name
+            self.names[self.known[path]] = self.machine[path]
+
+    def check_twice(self):
+        """Whether the model says what comes of names that differ in case alone."""
+        if self.look() != self.twice:
+            raise Unsure
+        for path, text in self.shell.items():
+            if has_capital(path) and path not in self.last and path in self.machine and not self.is_twice(path):
+                # it was deleted beside another, which the Shell does not know yet
+                raise Unsure
+            if self.is_twice(path) and text in self.names.values() and text != FOLDER:
+                # no program starts
+                raise Unsure
 
     @staticmethod
     def put(side, path, value):
@@ -84,6 +134,7 @@ class Model:
     def write_out(self, meanwhile=False):
         """What is new is written first, then what changed, unless it writes over what was moved to one that could not be written; then
         what is gone is deleted, the deepest first, unless something could not be written: then it waits."""
+        self.check_twice()
         self.note_copied()
         paths = sorted(set(self.shell) | set(self.last))
         new, owes, unwritten = set(self.shell) - set(self.last), False, []
@@ -91,6 +142,10 @@ class Model:
                      + [p for p in reversed(paths) if p not in self.shell]):
             shell, machine, last = self.of(path)
             if shell == last:
+                continue
+            if self.is_twice(path):
+                owes = owes or shell not in (FOLDER, GONE)
+                unwritten.append(shell)
                 continue
             if self.is_held(path):
                 if shell != GONE or owes:
@@ -124,6 +179,8 @@ class Model:
             # it is written back under a name of its own
             raise Unsure
         self.note_copied()
+        self.spell()
+        self.check_twice()
 
     def keep_moved(self):
         """At the end what only T: has, since a program deleted or wrote over it, stands under a name of its own beside where it was."""
@@ -136,8 +193,15 @@ class Model:
             if path in self.machine or folder and self.machine.get(folder) != FOLDER:
                 raise Unsure
             self.machine[path] = text
+        self.spell()
 
     def come_in(self):
+        known = set(self.known)
+        self.twice = self.look()
+        others = {name.lower() for name in self.names if name not in self.known.values()}
+        if any(path in known and path not in self.last or path in self.last and path not in self.shell for path in others):
+            # the Shell deleted one of two: it does not know the other yet, or has still to delete the one
+            raise Unsure
         paths = sorted(set(self.machine) | set(self.last))
         deleted = [path for path in self.last if path not in self.shell]
         overrules = False
@@ -163,37 +227,37 @@ class Model:
                     self.put(self.last, path, GONE)
 
 
-def change(random_, side, number):
+def change(random_, side, number, all_files, all_folders):
     """A change of a side: its line for the Shell and its line for sh."""
     kind = random_.random()
     if kind < 0.5:
-        path = random_.choice(FILES)
+        path = random_.choice(all_files)
         if '/' in path and path.split('/')[0] not in side:
             return None
         text = f'{number}' if random_.random() < 0.5 else f'{number % 10}'
         side[path] = text + '\n'
         return f'Echo >{path} {text}', f'echo {text} >{path}'
     if kind < 0.7:
-        files = [path for path in side if path not in FOLDERS]
+        files = [path for path in side if path in all_files]
         if not files:
             return None
         path = random_.choice(files)
         del side[path]
         return f'Delete {path} QUIET', f'rm {path}'
     if kind < 0.8:
-        files = [path for path in side if path not in FOLDERS]
-        free = [path for path in FILES if path not in side and ('/' not in path or path.split('/')[0] in side)]
+        files = [path for path in side if path in all_files]
+        free = [path for path in all_files if path not in side and ('/' not in path or path.split('/')[0] in side)]
         if not files or not free:
             return None
         path, new = random_.choice(files), random_.choice(free)
         side[new] = side.pop(path)
         return f'Rename {path} {new}', f'mv {path} {new}'
-    path = random_.choice(FOLDERS)
+    path = random_.choice(all_folders)
     if path not in side:
         side[path] = FOLDER
         return f'MakeDir {path}', f'mkdir {path}'
     if kind < 0.86:
-        free = [other for other in FOLDERS if other not in side]
+        free = [other for other in all_folders if other not in side]
         if not free:
             return None
         other = random_.choice(free)
@@ -208,9 +272,32 @@ def change(random_, side, number):
     return f'Delete {path} ALL QUIET', f'rm -r {path}'
 
 
-def changes(random_, side, most, count):
-    lines = [change(random_, side, next(count)) for _ in range(random_.randint(0, most))]
+def changes(random_, side, most, count, files=FILES, folders=FOLDERS):
+    lines = [change(random_, side, next(count), files, folders) for _ in range(random_.randint(0, most))]
     return [line for line in lines if line]
+
+
+def two_at_a_time(random_, side, number):
+    """Two changes of a program that makes names which differ in case alone, or none."""
+    name = random_.choice('vwx')
+    if name in side or name.upper() in side:
+        return []
+    if name == 'v':
+        side.update({'v': FOLDER, 'V': FOLDER, 'v/b': f'{number}\n'})
+        return [('', 'mkdir v V'), ('', f'echo {number} >v/b')]
+    side.update({name: f'{number}\n', name.upper(): f'{number % 10}\n'})
+    return [('', f'echo {number} >{name}'), ('', f'echo {number % 10} >{name.upper()}')]
+
+
+def changes_here(random_, model, most, count):
+    """Those of a program on this machine."""
+    lines = changes(random_, model.names, most, count, FILES + CAPITALS, FOLDERS + CAPITAL_FOLDERS)
+    return lines + (two_at_a_time(random_, model.names, next(count)) if random_.random() < 0.2 else [])
+
+
+def changes_meanwhile(random_, model, most, count):
+    """Those on this machine that no look follows."""
+    return changes(random_, model.names, most, count, [path for path in FILES if not has_capital(path)], [path for path in FOLDERS if not has_capital(path)])
 
 
 def tree(folder):
@@ -224,35 +311,48 @@ def tree(folder):
     return stands
 
 
-def plan(random_, count):
+class Plan:
     """The script, what each program does, what is done at each question, and what must stand at each start and at the end."""
-    model, script, acts, asks, wanted = Model(), ['FailAt 100'], [], [], []
-    done = 0
-    first = changes(random_, model.machine, 12, count)
-    model.come_in()
-    for _ in range(STEPS):
+
+    def __init__(self, random_, count):
+        self.model, self.script, self.acts, self.asks, self.wanted = Model(), ['FailAt 100'], [], [], []
+        self.first = changes_here(random_, self.model, 12, count)
+        self.done = 0
+        self.model.come_in()
+
+    def copied(self):
+        """Another plan that goes on from here."""
+        plan = copy.copy(self)
+        plan.model = copy.deepcopy(self.model)
+        for name in ('script', 'acts', 'asks', 'wanted'):
+            setattr(plan, name, list(getattr(self, name)))
+        return plan
+
+    def step(self, random_, count):
+        model = self.model
         lines = changes(random_, model.shell, 3, count)
-        script += [line for line, _ in lines]
+        self.script += [line for line, _ in lines]
         move = model.move(random_) if random_.random() < 0.2 else None
-        script += [move] if move else []
-        done += len(lines)
+        self.script += [move] if move else []
+        self.done += len(lines)
         if random_.random() < 0.4:
             model.write_out(meanwhile=True)
-            lines = changes(random_, model.machine, 2, count)
-            script.append(f'Ask {len(asks)}?')
-            asks.append([line for _, line in lines])
+            lines = changes_meanwhile(random_, model, 2, count)
+            self.script.append(f'Ask {len(self.asks)}?')
+            self.asks.append([line for _, line in lines])
         else:
             model.write_out()
-            wanted.append(dict(model.machine))
-            lines = changes(random_, model.machine, 3, count)
-            script.append(f'act {len(acts)}')
-            acts.append([line for _, line in lines])
+            self.wanted.append(dict(model.names))
+            lines = changes_here(random_, model, 3, count)
+            self.script.append(f'act {len(self.acts)}')
+            self.acts.append([line for _, line in lines])
             model.come_in()
-        done += len(lines)
-    model.write_out()
-    model.keep_moved()
-    wanted.append(dict(model.machine))
-    return [line for _, line in first], script, acts, asks, wanted, model.told, done
+        self.done += len(lines)
+
+    def end(self):
+        self.model.write_out()
+        self.model.keep_moved()
+        self.wanted.append(dict(self.model.names))
 
 
 def sh(lines, folder):
@@ -273,11 +373,20 @@ def await_prompt(pipe, number):
 
 def sure_plan(random_, count):
     """A plan of which the model knows all."""
+    plan, tries = Plan(random_, count), 0
     while True:
+        next_plan = plan.copied()
         try:
-            return plan(random_, count)
+            next_plan.step(random_, count)
+            plan, tries = next_plan, 0
+            if len(plan.acts) + len(plan.asks) >= STEPS:
+                next_plan = plan.copied()
+                next_plan.end()
+                return next_plan
         except Unsure:
-            pass
+            tries += 1
+            if tries == MOST_TRIES:
+                plan, tries = Plan(random_, count), 0
 
 
 def await_input(pid):
@@ -290,14 +399,15 @@ def await_input(pid):
 
 
 def run(program, room, random_, count):
-    first, script, acts, asks, wanted, told, done = sure_plan(random_, count)
+    plan = sure_plan(random_, count)
+    acts, asks, wanted, told = plan.acts, plan.asks, plan.wanted, plan.model.told
     shutil.rmtree(room, ignore_errors=True)
     for name in ('shared', 'acts', 'seen'):
         os.makedirs(os.path.join(room, name))
     folder = os.path.join(room, 'shared')
-    sh(first, folder)
+    sh([line for _, line in plan.first], folder)
     with open(os.path.join(room, 'script'), 'w') as file:
-        file.write('\n'.join(script) + '\n')
+        file.write('\n'.join(plan.script) + '\n')
     for number, lines in enumerate(acts):
         with open(os.path.join(room, 'acts', str(number)), 'w') as file:
             file.write('\n'.join(['set -e', *lines]) + '\n')
@@ -306,7 +416,7 @@ def run(program, room, random_, count):
         file.write(f'#!/bin/sh\ncp -R . {room}/seen/$1\n. {room}/acts/$1\n')
     os.chmod(act, 0o755)
     with open(os.path.join(room, 'faults'), 'w') as faults:
-        child = subprocess.Popen([program, '--host', f'act={act}', '--share', folder, os.path.join(room, 'script')],
+        child = subprocess.Popen([program, '--part', '--host', f'act={act}', '--share', folder, os.path.join(room, 'script')],
                                  stdin=subprocess.PIPE, stdout=subprocess.PIPE, stderr=faults, bufsize=0)
         for number, lines in enumerate(asks):
             await_prompt(child.stdout, number)
@@ -338,13 +448,13 @@ def run(program, room, random_, count):
             raise SystemExit(f'start {number} of {len(acts)} in {room}: FAILED')
     with open(os.path.join(room, 'faults')) as file:
         lines = [line.rstrip('\n') for line in file]
-    named = {line.rsplit(': ', 1)[-1] for line in lines if 'both changed' in line}
+    named = {line.rsplit(': ', 1)[-1].lower() for line in lines if 'both changed' in line}
     if not named <= told:
         raise SystemExit(f'{room}: told of {sorted(named - told)}, where not both sides changed')
     missing = {path for path in told if path not in FOLDERS} - named
     if missing:
         raise SystemExit(f'{room}: not told of {sorted(missing)}, where both sides changed')
-    return done, len(wanted)
+    return plan.done, len(wanted)
 
 
 def main():
