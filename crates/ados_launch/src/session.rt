@@ -155,9 +155,11 @@ impl<'a> Session<'a> {
         Ok(true)
     }
 
-    // Takes the event that comes next, or a long line, and gathers what it prints; `false` if nothing comes. What was gathered is
-    // written before anything that may wait, before each event if the writer tells of them, before a fault is returned, and if nothing
-    // comes.
+    /// Takes the event that comes next, or a long line, and gathers what it prints; `false` if nothing comes. What was gathered is
+    /// written before anything that may wait, before each event if the writer tells of them, before a fault is returned, and if nothing
+    /// comes.
+    ///
+    /// Its errors are those of [`take`](Session::take).
     pub fn advance<L: Launcher, S: Source, K: Sink>(
         &mut self,
         world: &mut World,
@@ -203,7 +205,7 @@ impl<'a> Session<'a> {
         Ok(true)
     }
 
-    // Writes what is gathered.
+    /// Writes what is gathered.
     pub fn release<K: Sink>(&mut self, writer: &mut K) -> Result<(), WriteFault>
         requires writer { K.faults writer.old < 2 ^ 64 - 1 }
         ensures none { self.new ≡ record self.old { gathered = [] } }
@@ -222,6 +224,7 @@ impl<'a> Session<'a> {
         ensures schedule { self.new.schedule ≡ self.old.schedule }
         ensures held { self.new.held ≡ self.old.held }
         ensures reports { self.new.reports ≡ self.old.reports }
+        ensures gathered { self.new.gathered ≡ self.old.gathered }
     {
         self.intake.children = children_after_line(world, ran);
     }

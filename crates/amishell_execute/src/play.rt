@@ -5,7 +5,7 @@ ghost use Rattle.ados_launch.specs.Agreement.{Agrees, AreOver, IsOpenTable};
 ghost use Rattle.ados_launch.specs.Deeds.{Does, DoesByRule, RunsLines};
 ghost use Rattle.ados_launch.specs.Drives.{Drives, HasDriveResult};
 ghost use Rattle.ados_launch.specs.Schedule.{first_schedule_state};
-ghost use Rattle.amishell_execute.specs.Playing.{IfDriven, PlaysAlone, drive_fault_of, may_be_cut, playing_moment};
+ghost use Rattle.amishell_execute.specs.Playing.{EndsGathering, GathersOn, IfDriven, PlaysAlone, drive_fault_of, may_be_cut, playing_moment, writer_view};
 
 use crate::checks::Checks;
 use crate::deadline::Deadline;
@@ -162,6 +162,7 @@ impl<R: AllocGlobal + Files + Eprint + Processes + Clone + Drop + Clock, I: Read
         requires children { IsOpenTable session.old.children self.old.launcher.calls }
         requires begins { session.old.schedule ≡ first_schedule_state [] }
         requires held { session.old.held ≡ [] }
+        requires gathered { session.old.gathered ≡ [] }
         ensures does { Does world.old world.new (may_be_cut result) (K.contents writer.old.inner) (K.contents writer.new.inner) }
         ensures children { IsOpenTable session.new.children self.new.launcher.calls }
         ensures agrees { OnOk result (Agrees world.new self.new.launcher.calls) }
@@ -190,6 +191,7 @@ impl<R: AllocGlobal + Files + Eprint + Processes + Clone + Drop + Clock, I: Read
     }
 
     // Takes events until nothing comes; a shared folder is attended to before each. What the last one renamed is still to be followed.
+    // What events print is gathered. At each end all of it was written, or a write failed.
     fn drive_session<K: Sink>(
         &mut self,
         world: &mut World,
@@ -203,6 +205,7 @@ impl<R: AllocGlobal + Files + Eprint + Processes + Clone + Drop + Clock, I: Read
         requires children { IsOpenTable session.old.children self.old.launcher.calls }
         requires begins { session.old.schedule ≡ first_schedule_state [] }
         requires held { session.old.held ≡ [] }
+        requires gathered { session.old.gathered ≡ [] }
         ensures does { Does world.old world.new (may_be_cut result) (K.contents writer.old.inner) (K.contents writer.new.inner) }
         ensures children { IsOpenTable session.new.children self.new.launcher.calls }
         ensures agrees { OnOk result (Agrees world.new self.new.launcher.calls) }
@@ -213,19 +216,42 @@ impl<R: AllocGlobal + Files + Eprint + Processes + Clone + Drop + Clock, I: Read
             (playing_moment K.contents K.faults K.stalls world.new self.new.reader writer.new.inner self.new.launcher)) }
     {
         for _ in 0..self.turns {
-            self.attend(world, session, share)?;
-            if !session.take(world, &mut self.launcher, &mut self.reader, writer)? {
+            self.attend(world, session, share, writer)?;
+            if !session.advance(world, &mut self.launcher, &mut self.reader, writer)? {
                 return Ok(session.end(world));
             }
-            self.follow(world, session, &mut writer.trail)?;
+            self.follow(world, session, writer)?;
         }
+        session.release(writer)?;
         Ok(session.finish(world)?)
     }
 
-    // Follows the shell that had the last event: the scripts that ended are told, what began is to be checked, and once shell 1 has
-    // ended it is told which others run. Mostly nothing changed.
+    // Follows the shell that had the last event. Mostly nothing changed; otherwise what was printed stands before what is told.
     #[inline(always)]
-    fn follow(
+    fn follow<K: Sink>(
+        &mut self,
+        world: &World,
+        session: &mut Session<'_>,
+        writer: &mut Watched<K>,
+    ) -> Result<(), Fault>
+        requires writer { K.faults writer.old.inner < 2 ^ 64 - 1 }
+        ensures launcher { self.new.launcher ≡ self.old.launcher }
+        ensures reader { self.new.reader ≡ self.old.reader }
+        ensures session { session.new ≡ record session.old { gathered = session.new.gathered } }
+        ensures gathers { OnOk result (GathersOn session.old.gathered session.new.gathered
+            (writer_view K.contents K.faults K.stalls writer.old.inner) (writer_view K.contents K.faults K.stalls writer.new.inner)) }
+        ensures ends { IfErr result (λ why. EndsGathering true why session.old.gathered
+            (writer_view K.contents K.faults K.stalls writer.old.inner) (writer_view K.contents K.faults K.stalls writer.new.inner)) }
+    {
+        if writer.trail.is_as_kept(world) {
+            return Ok(());
+        }
+        session.release(writer)?;
+        Ok(self.tell(world, session, &mut writer.trail)?)
+    }
+
+    // The scripts that ended are told, what began is to be checked, and once shell 1 has ended it is told which others run.
+    fn tell(
         &mut self,
         world: &World,
         session: &Session<'_>,
@@ -235,9 +261,6 @@ impl<R: AllocGlobal + Files + Eprint + Processes + Clone + Drop + Clock, I: Read
         ensures reader { self.new.reader ≡ self.old.reader }
     {
         // A script that ended early or broken left one frame fewer: in such an event none begins.
-        if trail.is_as_kept(world) {
-            return Ok(());
-        }
         self.teller
             .tell_ends(self.rt, world, trail, session.reports())?;
         match trail.follow(world)? {
@@ -247,10 +270,64 @@ impl<R: AllocGlobal + Files + Eprint + Processes + Clone + Drop + Clock, I: Read
         }
     }
 
+    // Attends to what comes before an event. What was printed stands before what that may tell, or write to a folder; and it is
+    // written if no event is taken.
+    #[inline(always)]
+    fn attend<K: Sink>(
+        &mut self,
+        world: &mut World,
+        session: &mut Session<'_>,
+        share: &mut Option<&mut Share>,
+        writer: &mut Watched<K>,
+    ) -> Result<(), Fault>
+        requires writer { K.faults writer.old.inner < 2 ^ 64 - 1 }
+        requires count { session.old.schedule.taken < 2 ^ 64 - 1 }
+        requires agrees { Agrees world.old self.old.launcher.calls }
+        requires children { IsOpenTable session.old.children self.old.launcher.calls }
+        ensures agrees { OnOk result (Agrees world.new self.new.launcher.calls) }
+        ensures children { IsOpenTable session.new.children self.new.launcher.calls }
+        ensures schedule { session.new.schedule ≡ session.old.schedule }
+        ensures reader { self.new.reader ≡ self.old.reader }
+        ensures ran { RunsLines world.old world.new }
+        ensures share { is_none share.new ≡ is_none share.old }
+        ensures gathers { OnOk result (GathersOn session.old.gathered session.new.gathered
+            (writer_view K.contents K.faults K.stalls writer.old.inner) (writer_view K.contents K.faults K.stalls writer.new.inner)) }
+        ensures ends { IfErr result (λ why. EndsGathering (is_none share.old) why session.old.gathered
+            (writer_view K.contents K.faults K.stalls writer.old.inner) (writer_view K.contents K.faults K.stalls writer.new.inner)) }
+        // Without a shared folder nothing happens but that.
+        ensures alone { is_none share.old ≡ true → (world.new ≡ world.old) × (session.new ≡ record session.old { gathered = session.new.gathered })
+            × (self.new.launcher ≡ self.old.launcher) }
+    {
+        if self.may_act(world, session, share) {
+            session.release(writer)?;
+        }
+        match self.act(world, session, share) {
+            Ok(()) => Ok(()),
+            Err(fault) => {
+                session.release(writer)?;
+                Err(fault)
+            }
+        }
+    }
+
+    // Before the next event something may be told, or written to a shared folder or read from it.
+    #[inline(always)]
+    fn may_act(&self, world: &World, session: &Session<'_>, share: &Option<&mut Share>) -> bool
+        requires count { session.now.schedule.taken < 2 ^ 64 - 1 }
+    {
+        if self.checks.are_due() {
+            return true;
+        }
+        match share {
+            Some(share) => share.may_act(session, world, self.reader.has_brought()),
+            None => false,
+        }
+    }
+
     // Attends to the time, to a script that begins, and to the shared folder, if there is one.
     #[inline(always)]
     #[tactic(auto, using(crate::proofs::Pairs::lines_stay))]
-    fn attend(
+    fn act(
         &mut self,
         world: &mut World,
         session: &mut Session<'_>,
@@ -262,6 +339,7 @@ impl<R: AllocGlobal + Files + Eprint + Processes + Clone + Drop + Clock, I: Read
         ensures agrees { OnOk result (Agrees world.new self.new.launcher.calls) }
         ensures children { IsOpenTable session.new.children self.new.launcher.calls }
         ensures schedule { session.new.schedule ≡ session.old.schedule }
+        ensures gathered { session.new.gathered ≡ session.old.gathered }
         ensures reader { self.new.reader ≡ self.old.reader }
         ensures ran { RunsLines world.old world.new }
         ensures share { is_none share.new ≡ is_none share.old }
