@@ -84,7 +84,7 @@ class Model:
             if has_capital(path) and path not in self.last and path in self.machine and not self.is_twice(path):
                 # it was deleted beside another, which the Shell does not know yet
                 raise Unsure
-            if self.is_twice(path) and text in self.names.values() and text != FOLDER:
+            if self.is_twice(path) and text != FOLDER and text in [*self.names.values(), *self.last.values()]:
                 # no program starts
                 raise Unsure
 
@@ -190,7 +190,7 @@ class Model:
                 raise Unsure
             path = self.origins[text] + '.kept'
             folder = os.path.dirname(path)
-            if path in self.machine or folder and self.machine.get(folder) != FOLDER:
+            if path in self.machine or folder and self.machine.get(folder) != FOLDER or has_capital(path):
                 raise Unsure
             self.machine[path] = text
         self.spell()
