@@ -84,7 +84,7 @@ class Model:
             if has_capital(path) and path not in self.last and path in self.machine and not self.is_twice(path):
                 # it was deleted beside another, which the Shell does not know yet
                 raise Unsure
-            if self.is_twice(path) and text in self.names.values() and text != FOLDER:
+            if self.is_twice(path) and text != FOLDER and text in [*self.names.values(), *self.last.values()]:
                 # no program starts
                 raise Unsure
 
@@ -131,9 +131,9 @@ class Model:
             if any(value == text for path, value in self.machine.items() if path != self.origins[text]):
                 self.copied.add(text)
 
-    def write_out(self, meanwhile=False):
-        """What is new is written first, then what changed, unless it writes over what was moved to one that could not be written; then
-        what is gone is deleted, the deepest first, unless something could not be written: then it waits."""
+    def write_out(self, moment='start'):
+        """At a question, a start or the end: what is new is written first, then what changed, unless it writes over what was moved to one
+        that could not be written; then what is gone is deleted, the deepest first, unless something could not be written: then it waits."""
         self.check_twice()
         self.note_copied()
         paths = sorted(set(self.shell) | set(self.last))
@@ -159,8 +159,11 @@ class Model:
             elif shell == GONE and machine == FOLDER and below(self.machine, path):
                 self.put(self.last, path, GONE)
             elif machine == last and machine != FOLDER and not shell.startswith(machine) and any(machine in text for text in unwritten):
-                # it comes in again
-                if not meanwhile:
+                if moment == 'start':
+                    # no program starts
+                    raise Unsure
+                if moment == 'end':
+                    # it comes in again
                     self.put(self.last, path, GONE)
                 unwritten.append(shell)
             elif machine in (last, shell, GONE):
@@ -190,7 +193,7 @@ class Model:
                 raise Unsure
             path = self.origins[text] + '.kept'
             folder = os.path.dirname(path)
-            if path in self.machine or folder and self.machine.get(folder) != FOLDER:
+            if path in self.machine or folder and self.machine.get(folder) != FOLDER or has_capital(path):
                 raise Unsure
             self.machine[path] = text
         self.spell()
@@ -336,7 +339,7 @@ class Plan:
         self.script += [move] if move else []
         self.done += len(lines)
         if random_.random() < 0.4:
-            model.write_out(meanwhile=True)
+            model.write_out('question')
             lines = changes_meanwhile(random_, model, 2, count)
             self.script.append(f'Ask {len(self.asks)}?')
             self.asks.append([line for _, line in lines])
@@ -350,7 +353,7 @@ class Plan:
         self.done += len(lines)
 
     def end(self):
-        self.model.write_out()
+        self.model.write_out('end')
         self.model.keep_moved()
         self.wanted.append(dict(self.model.names))
 

@@ -28,6 +28,20 @@ def create_twice(plan, path, _):
     return f"free {other} && echo {token} >{other} && log {token}"
 
 
+def create_two(plan, path, _):
+    """Two files that the Shell takes for one, and knows none of."""
+    token, second, name = plan.token(), plan.token(), path.split("/")[-1]
+    other = path.removesuffix(name) + name.upper()
+    return f"free {path} && free {other} && echo {token} >{path} && log {token} && echo {second} >{other} && log {second}"
+
+
+def make_two_folders(plan, _, __):
+    """Two folders that the Shell takes for one, and knows none of."""
+    token, second, folder = plan.token(), plan.token(), plan.numbers.choice(FOLDERS)
+    other = folder.upper()
+    return (f"free {folder} && free {other} && mkdir {folder} {other} && echo {token} >{folder}/a && log {token} && echo {second} >{other}/b && log {second}")
+
+
 def create_large(plan, path, other):
     if not plan.has_large:
         return create(plan, path, other)
@@ -87,7 +101,7 @@ def delete(_, path, __):
 ADDS = [append, append, create, create_large, hide]
 MOVES = [move, move_folder, copy, second_name]
 LINKS = [link, link, link_folder, unlink_link]
-OTHERS = [mark, make_folder, create_twice]
+OTHERS = [mark, make_folder, create_twice, create_two, make_two_folders]
 # Two programs at a time could lose by these what they do to each other's files.
 ALONE = [delete]
 

@@ -6,6 +6,7 @@ pub mod Directives
 pub mod Errors
 pub mod Jumps
 pub mod LeftOut
+pub mod Marks
 pub mod Phrases
 pub mod Printing
 pub mod Problems

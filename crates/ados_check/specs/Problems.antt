@@ -9,7 +9,12 @@ is_harmless (problem.PrintedByte byte) = true
 is_harmless (problem.PrintedReturn others) = true
 is_harmless other = false
 
--- the same where Echo or Ask is another command: then nothing of it is harmless
+-- its byte above 127 is only printed
+abbrev pub is_printed_byte : Problem → Bool
+is_printed_byte (problem.PrintedByte byte) = true
+is_printed_byte other = false
+
+-- a problem where Echo or Ask is another command: then nothing of it is harmless
 abbrev pub refused : Problem → Problem
 refused (problem.PrintedByte byte) = problem.NotAscii byte
 refused (problem.PrintedReturn others) = problem.EndReturn others

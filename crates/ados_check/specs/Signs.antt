@@ -74,7 +74,3 @@ signs_told number found = flat_map (λ one. listed (told_sign one.problem)) (fil
 -- of signs the same is said
 abbrev pub SaysTheSame : List Finding → List Finding → Type 0
 SaysTheSame old new = (number : ℕ) → signs_told number new ≡ signs_told number old
-
--- a byte, or `_` in the place of one above 127
-abbrev pub marked : ℕ → ℕ
-marked byte = if is_past_ascii byte then 95 else byte

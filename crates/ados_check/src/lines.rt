@@ -99,15 +99,15 @@ fn other_returns(is_dotted: bool, lines: &[&[u8]]) -> usize {
     count.saturating_sub(1)
 }
 
-// The lines of a file's bytes.
-fn lines_in(alloc: Global, bytes: &[u8]) -> Result<Vec<&[u8]>, AllocError>
+/// The lines of a file's bytes.
+pub fn lines_in(alloc: Global, bytes: &[u8]) -> Result<Vec<&[u8]>, AllocError>
     ensures { IfOk result (λ lines. map (λ line. line.now) lines.items ≡ slice_split is_newline bytes.now) }
 {
     bytes.split(|byte| *byte == b'\n').collect(alloc)
 }
 
-// The line of a number, from 0; empty past the last.
-fn line_at<'a>(lines: &[&'a [u8]], place: usize) -> &'a [u8]
+/// The line of a number, from 0; empty past the last.
+pub fn line_at<'a>(lines: &[&'a [u8]], place: usize) -> &'a [u8]
     ensures { result.now ≡ get_or (map (λ line. line.now) lines.now) place [] }
 {
     match lines.get(place) {
@@ -116,8 +116,8 @@ fn line_at<'a>(lines: &[&'a [u8]], place: usize) -> &'a [u8]
     }
 }
 
-// Adds a problem of a line.
-fn push_problem(found: &mut Vec<Finding>, line: usize, problem: Problem) -> Result<(), NoMemory>
+/// Adds a problem of a line.
+pub fn push_problem(found: &mut Vec<Finding>, line: usize, problem: Problem) -> Result<(), NoMemory>
     ensures { OnOk result (found.new.items ≡ found.old.items ++ record { line = line; problem = problem } ∷ []) }
 {
     found.push(Finding { line, problem })?;

@@ -1,72 +1,25 @@
 //! Signs in a script that the Shell takes for something else: a byte above 127 is read as `?`, which in a name is a pattern that other
 //! names fit, and a carriage return at the end of a line is a byte of its last word.
-ghost use Rattle.std.specs.Prelude.{◌≡◌, ◌&&◌, true, false, is_some, map, Some};
+ghost use Rattle.std.specs.Prelude.{◌≡◌, ◌==◌, ◌&&◌, true, false, is_some, not, Some};
 ghost use Rattle.std.specs.List.{find, list_any};
 ghost use Rattle.std.specs.Str.{IsAscii};
 ghost use Rattle.ados_text.specs.Text.{is_past_ascii};
 ghost use Rattle.ados_line.specs.Comment.{without_comment};
 ghost use Rattle.ados_check.specs.Printing.{only_prints};
-ghost use Rattle.ados_check.specs.Problems.{is_harmless};
-ghost use Rattle.ados_check.specs.Signs.{end_return, first_sign, is_dotted, is_remark, is_return, marked, sign_of, told_sign};
+ghost use Rattle.ados_check.specs.Problems.{is_harmless, is_printed_byte};
+ghost use Rattle.ados_check.specs.Marks.{is_order_mark};
+ghost use Rattle.ados_check.specs.Signs.{end_return, first_sign, is_dotted, is_remark, is_return, sign_of, told_sign};
 
 use crate::arguments::has_redirection;
-use crate::findings::{Finding, Problem};
-use crate::renames::renames_printers;
+use crate::findings::Problem;
 use ados_items::{first_word, is_blank, rest_of, trimmed};
 use ados_line::without_comment;
-use ados_text::{NoMemory, lines_of};
-use ados_vars::Aliases;
-use std::alloc::Global;
-
-// What is written in the place of such a byte: no pattern has it.
-const MARK: u8 = b'_';
 
 // What a line that was written on another system ends in, before its newline.
 pub const RETURN: u8 = b'\r';
 
 // The byte order mark of UTF-8, which editors write at the beginning of a file.
 const ORDER_MARK: [u8; 3] = [0xef, 0xbb, 0xbf];
-
-/// Writes `_` in the place of each byte above 127.
-pub fn mark(script: &mut [u8])
-    ensures { script.new ≡ map marked script.old }
-{
-    for byte in script.iter_mut() {
-        if !byte.is_ascii() {
-            *byte = MARK;
-        }
-    }
-}
-
-/// Writes `_` in the place of each byte above 127 in the lines of a script that only print their words, and gives the problem of each
-/// of these lines: none if Echo or Ask may be another command in it.
-pub fn mark_printed(alloc: Global, script: &mut [u8]) -> Result<Vec<Finding>, NoMemory> {
-    let mut found = Vec::new(alloc);
-    if script.is_ascii() {
-        return Ok(found);
-    }
-    let lines = lines_of(alloc, script)?;
-    if renames_printers(alloc, &Aliases::new(alloc), lines.as_slice())? {
-        return Ok(found);
-    }
-    let is_dotted = is_dotted(script);
-    let mut from: usize = 0;
-    for (place, line) in lines.as_slice().iter().enumerate() {
-        let to = from.saturating_add(line.as_bytes().len());
-        let Some(bytes) = script.get_mut(from..to) else {
-            break;
-        };
-        if let Some(byte) = sign_in(is_dotted, bytes)
-            && let problem @ Problem::PrintedByte(_) = sign_problem(place, true, bytes, byte, 0)
-        {
-            mark(bytes);
-            let line = place.saturating_add(1);
-            found.push(Finding { line, problem })?;
-        }
-        from = to.saturating_add(1);
-    }
-    Ok(found)
-}
 
 /// The file has directives: its first byte is a dot.
 pub fn is_dotted(bytes: &[u8]) -> bool
@@ -116,6 +69,7 @@ pub fn sign_problem(
     ensures told { told_sign result ≡ Some byte }
     // Harmless is only what the line prints, if its script lets it do only that.
     ensures harmless { is_harmless result ≡ true → (is_told_only && only_prints (without_comment line.now)) ≡ true }
+    ensures printed { is_printed_byte result ≡ (is_told_only && only_prints (without_comment line.now) && not (is_return byte) && not (is_order_mark place byte line.now)) }
 {
     if place == 0 && byte == 0xef && line.starts_with(&ORDER_MARK) {
         return Problem::ByteOrderMark;

@@ -18,7 +18,6 @@ use ados_transfer::{
 };
 use std::alloc::Global;
 use std::collections::BTreeMap;
-use std::mem;
 use std::rt::Files;
 use std::time::Clock;
 
@@ -119,7 +118,7 @@ impl Mirror {
         let volumes = self.volumes.copy()?;
         let rt = &Below::new(rt, &volumes);
         let mut look = Look::new(rt, self.options.all, &self.records)?;
-        self.twice = mem::replace(&mut look.twice, Vec::new(self.alloc));
+        self.note_twice(&mut look)?;
         let is_first = self.begins();
         self.report_look(&look, is_first)?;
         if is_first {
@@ -147,11 +146,13 @@ impl Mirror {
                 .report_unread(unread.key.as_str(), unread.path.as_str())?;
         }
         for one in &look.left_alone {
-            if one.obstacle == Obstacle::Temporary && !is_first {
-                continue;
+            if one.obstacle != Obstacle::Temporary {
+                self.reports
+                    .report_once(one.obstacle.text(), one.path.as_str())?;
             }
-            self.reports
-                .report_once(one.obstacle.text(), one.path.as_str())?;
+        }
+        if is_first {
+            self.report_others(look)?;
         }
         Ok(())
     }

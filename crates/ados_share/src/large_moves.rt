@@ -2,7 +2,7 @@
 
 use crate::account::{Account, Aside};
 use crate::mirror::Mirror;
-use crate::renaming::{Renaming, renamed};
+use crate::renaming::{Renaming, renamed, restrict};
 use ados_ram::{Entry, Place, Ram};
 use ados_transfer::{Last, Record, Stamp, TransferFault, is_descendant, lower, own_entry};
 use std::rt::Files;
@@ -170,9 +170,14 @@ impl Mirror {
         if !self.may_have(new_key.as_str()) {
             return Ok(Renaming::Left);
         }
+        let rights = self.rights_at(rt, moved.path.as_str(), new_key.as_str())?;
         let renaming = renamed(rt, moved.path.as_str(), path.as_str(), &moved.stamp)?;
         let Renaming::Done(stamp) = renaming else {
             return Ok(renaming);
+        };
+        let stamp = match rights {
+            Some(rights) => restrict(rt, path.as_str(), rights, stamp),
+            None => stamp,
         };
         let Some((_, record)) = self.records.remove_entry(moved.key.as_str()) else {
             return Ok(Renaming::Left);

@@ -7,8 +7,8 @@ use crate::account::Account;
 use crate::mirror::Mirror;
 use ados_ram::{Body, Entry, FileBytes, Ram};
 use ados_text::NoMemory;
-use ados_transfer::{Records, TransferFault, is_descendant, is_unshared};
-use std::fmt;
+use ados_transfer::{Look, Records, TransferFault, is_descendant, is_unshared};
+use std::{fmt, mem};
 
 /// Why an object of the Shell is not written.
 #[derive(Clone, Copy, PartialEq, Eq)]
@@ -95,6 +95,18 @@ impl Mirror {
         self.twice
             .iter()
             .any(|twice| is_taken(&self.records, twice.as_str(), key))
+    }
+
+    // Keeps which names are taken twice. Where a look could not see, that is so as it was before.
+    pub(crate) fn note_twice(&mut self, look: &mut Look) -> Result<(), TransferFault> {
+        let mut twice = mem::replace(&mut look.twice, Vec::new(self.alloc));
+        for key in mem::replace(&mut self.twice, Vec::new(self.alloc)) {
+            if look.is_hidden(key.as_str()) {
+                twice.push(key)?;
+            }
+        }
+        self.twice = twice;
+        Ok(())
     }
 
     // While a file of the folder has the bytes of one that is left out, no program starts, since it may delete the other.

@@ -74,7 +74,12 @@ impl Mirror {
 
     // Something that the script has is not written, so that an object is not deleted. It comes in again, unless the script goes on: later
     // its bytes may be nowhere else.
-    fn hold(&mut self, key: &str, path: &str, account: &mut Account) -> Result<(), TransferFault>
+    pub(crate) fn hold(
+        &mut self,
+        key: &str,
+        path: &str,
+        account: &mut Account,
+    ) -> Result<(), TransferFault>
         ensures meanwhile { is_end account.old.moment ≡ false → (self.new ≡ self.old) × (account.new ≡ account.old) }
         ensures forgotten { OnOk result (is_end account.old.moment ≡ true → Sets self.old.records self.new.records key.now None) }
         ensures held { OnOk result (is_end account.old.moment ≡ true → option_map string_bytes account.new.held ≡ first_path (option_map string_bytes account.old.held) path.now) }

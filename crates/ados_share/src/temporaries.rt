@@ -4,7 +4,7 @@ use crate::account::Account;
 use crate::backups::Backup;
 use crate::mirror::Mirror;
 use crate::syncs::write_synced;
-use ados_transfer::{Below, TransferFault, no_memory, path_of};
+use ados_transfer::{Below, Look, Obstacle, TransferFault, no_memory, path_of};
 use std::rt::Files;
 use std::{fs, io, mem};
 
@@ -50,6 +50,31 @@ impl Mirror {
             }
         }
         Ok(())
+    }
+
+    // Reports in one line the temporary files that other runs left, or that they use now.
+    pub(crate) fn report_others(&mut self, look: &Look) -> Result<(), TransferFault> {
+        let mut first = None;
+        let mut more = 0usize;
+        for one in &look.left_alone {
+            if one.obstacle == Obstacle::Temporary {
+                if first.is_none() {
+                    first = Some(one);
+                } else {
+                    more = more.saturating_add(1);
+                }
+            }
+        }
+        let Some(first) = first else {
+            return Ok(());
+        };
+        let text = first.obstacle.text();
+        if more == 0 {
+            return self.reports.report_once(text, first.path.as_str());
+        }
+        let path = self.volumes.shown(first.path.as_str())?;
+        self.reports
+            .report_line(format!(in self.alloc; "{text}: {path} and {more} more")?)
     }
 
     // Reports a temporary file that is left.

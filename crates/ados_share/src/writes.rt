@@ -73,12 +73,8 @@ impl Mirror {
         let (key, path) = object;
         if is_moved_away(draft, account)? {
             account.add_unwritten_entry(path, draft.entry)?;
-            if account.is_meanwhile() {
-                return Ok(());
-            }
-            // It comes in again.
-            self.forget(key);
-            return account.hold(path);
+            account.refuse(path)?;
+            return self.hold(key, path, account);
         }
         match self.replace(rt, object, draft, account) {
             Ok(Some(stamp)) => {

@@ -1,12 +1,13 @@
 //! The files and folders of this machine that are brought in.
 
+use crate::contents::contents_of;
 use crate::faults::{Excess, TransferFault, exceeded, named};
 use crate::paths::{base_name, name_of, place_in, step_into};
-use crate::plan::{Plan, file_of};
+use crate::plan::Plan;
+use crate::planned::Content;
 use crate::script::shell_script;
-use ados_ram::{Limits, Place, Ram};
+use ados_ram::{FileBytes, Limits, Place, Ram};
 use std::alloc::Global;
-use std::io::Read;
 use std::os::unix::fs::PermissionsExt;
 use std::rt::Files;
 use std::{fs, io};
@@ -40,7 +41,7 @@ pub fn read_script<R: AllocGlobal + Files>(
     limits: Limits,
     path: &str,
 ) -> Result<Vec<u8>, TransferFault> {
-    let bytes = read_file(rt, limits, path)?;
+    let bytes = read_file(rt, limits, path)?.to_vec(rt.alloc())?;
     Ok(shell_script(rt.alloc(), bytes.as_slice())?)
 }
 
@@ -57,7 +58,10 @@ pub fn bring_script<R: AllocGlobal + Files>(
     let own = base_name(rt, path)?;
     let name = similar_name(alloc, own.as_str())?;
     let place = place_in(alloc, "S:")?.with(name_of(alloc, name.as_str(), path)?)?;
-    let content = file_of(alloc, script, false)?;
+    let content = Content::File {
+        bytes: FileBytes::from_slice(alloc, script)?,
+        is_script: false,
+    };
     plan.add_file(files, place.copy()?, content, path)?;
     Ok(place)
 }
@@ -151,7 +155,7 @@ fn add_one<R: AllocGlobal + Files + Clone + Drop>(
     }
     let is_script = found.permissions().mode() & 0o111 != 0;
     let bytes = read_file(rt, plan.limits(), path.as_str())?;
-    let content = file_of(rt.alloc(), &bytes, is_script)?;
+    let content = Content::File { bytes, is_script };
     plan.add_file(files, place, content, path.as_str())
 }
 
@@ -192,20 +196,12 @@ fn read_file<R: AllocGlobal + Files>(
     rt: &R,
     limits: Limits,
     path: &str,
-) -> Result<Vec<u8>, TransferFault> {
-    match bytes_of(rt, path, limits.file()) {
+) -> Result<FileBytes, TransferFault> {
+    match contents_of(rt, path, limits.file()) {
         Ok(bytes) if bytes.len() <= limits.file() => Ok(bytes),
         Ok(_) => Err(exceeded(rt.alloc(), path, Excess::File, limits)),
         Err(error) => Err(not_read(rt.alloc(), path, &error)),
     }
-}
-
-/// The bytes of a file, or one more than the limit if it is longer.
-pub fn bytes_of<R: AllocGlobal + Files>(rt: &R, path: &str, limit: usize) -> io::Result<Vec<u8>> {
-    let mut bytes = Vec::new(rt.alloc());
-    let most = (limit as u64).saturating_add(1);
-    fs::open(rt, path)?.take(most).read_to_end(&mut bytes)?;
-    Ok(bytes)
 }
 
 // The fault of a file that cannot be read.

@@ -2,7 +2,7 @@
 ghost use Rattle.std.specs.Prelude.{◌≡◌};
 ghost use Rattle.ados_transfer.specs.Here.{has_stamp, stamp_of};
 
-use crate::bringing::bytes_of;
+use crate::contents::contents_of;
 use crate::decision::{Decision, State, decide};
 use crate::faults::TransferFault;
 use crate::records::{Record, state_there};
@@ -59,9 +59,9 @@ impl Here {
         if found.len() > limits.file() as u64 {
             return Ok(Here::Large(stamp));
         }
-        match bytes_of(rt, path, limits.file()) {
+        match contents_of(rt, path, limits.file()) {
             Ok(bytes) if bytes.len() <= limits.file() => Ok(Here::File {
-                bytes: FileBytes::from_slice(rt.alloc(), &bytes)?,
+                bytes,
                 stamp,
                 rights: Rights::of(&found),
             }),

@@ -5,6 +5,7 @@
 mod below;
 mod bringing;
 mod choice;
+mod contents;
 mod decision;
 mod faults;
 mod folders;
@@ -35,7 +36,8 @@ mod words;
 mod writing;
 
 pub use below::Below;
-pub use bringing::{bring, bring_script, bytes_of, parted, read_script};
+pub use bringing::{bring, bring_script, parted, read_script};
+pub use contents::contents_of;
 pub use decision::{Decision, Removal, State, Terms, decide, decide_removal};
 pub use faults::TransferFault;
 pub use folders::{Kind, Look, Seen, Unread, is_descendant, lower};

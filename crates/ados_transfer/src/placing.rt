@@ -3,7 +3,7 @@
 //! No call of this machine changes a name only if its file is unchanged. So the old file keeps a second name until the new one is
 //! in its place: what was written to it meanwhile is found there, and it gets its place back.
 
-use crate::bringing::bytes_of;
+use crate::contents::contents_of;
 use crate::here::{Here, is_nothing};
 use crate::paths::{folder_of, last_piece};
 use crate::writing::{Manner, link_beside, open_beside, place_new, write_beside};
@@ -192,8 +192,7 @@ fn try_holds<R: AllocGlobal + Files>(rt: &R, path: &str, bytes: &FileBytes) -> i
     if !fs::symlink_metadata(rt, path)?.is_file() {
         return Ok(false);
     }
-    let found = bytes_of(rt, path, bytes.len())?;
-    Ok(bytes.is(&found))
+    Ok(contents_of(rt, path, bytes.len())? == *bytes)
 }
 
 /// Two paths are those of one name of a file, as in a folder that is mounted twice: it is deleted with either. A second name of

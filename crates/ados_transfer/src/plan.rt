@@ -129,11 +129,3 @@ fn size_of(content: &Content) -> usize {
         Content::File { bytes, .. } => bytes.len(),
     }
 }
-
-/// A file of these bytes.
-pub fn file_of(alloc: Global, bytes: &[u8], is_script: bool) -> Result<Content, TransferFault> {
-    Ok(Content::File {
-        bytes: FileBytes::from_slice(alloc, bytes)?,
-        is_script,
-    })
-}
