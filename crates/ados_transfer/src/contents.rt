@@ -10,6 +10,14 @@ use std::{fs, io};
 const PART: u64 = 262_144;
 
 /// The bytes of a file, or one more than the limit if it is longer.
+pub fn bytes_of<R: AllocGlobal + Files>(rt: &R, path: &str, limit: usize) -> io::Result<Vec<u8>> {
+    let mut bytes = Vec::new(rt.alloc());
+    let most = (limit as u64).saturating_add(1);
+    fs::open(rt, path)?.take(most).read_to_end(&mut bytes)?;
+    Ok(bytes)
+}
+
+/// The same, as a file of the Shell holds them.
 pub fn contents_of<R: AllocGlobal + Files>(
     rt: &R,
     path: &str,

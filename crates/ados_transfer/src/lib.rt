@@ -37,7 +37,7 @@ mod writing;
 
 pub use below::Below;
 pub use bringing::{bring, bring_script, parted, read_script};
-pub use contents::contents_of;
+pub use contents::{bytes_of, contents_of};
 pub use decision::{Decision, Removal, State, Terms, decide, decide_removal};
 pub use faults::TransferFault;
 pub use folders::{Kind, Look, Seen, Unread, is_descendant, lower};

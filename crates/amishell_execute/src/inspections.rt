@@ -7,7 +7,7 @@ use ados_check::{Finding, Problem, inspect, mark, mark_printed, merge_returns, n
 use ados_resident::{DiskCommand, HostEntry};
 use ados_text::{NoMemory, Text};
 use ados_trace::escaped;
-use ados_transfer::{contents_of, last_piece, parted, read_script, step_into};
+use ados_transfer::{bytes_of, last_piece, parted, read_script, step_into};
 use execute_options::Options;
 use std::alloc::Global;
 use std::io::Write;
@@ -115,10 +115,7 @@ impl Inspector<'_> {
         if self.is_given(path) {
             return Ok(script);
         }
-        match contents_of(rt, path, limits.file()) {
-            Ok(found) => Ok(found.to_vec(rt.alloc())?),
-            Err(_) => Ok(script),
-        }
+        Ok(bytes_of(rt, path, limits.file()).unwrap_or(script))
     }
 
     // It is a script of the command line.
