@@ -16,7 +16,8 @@ use execute_options::Options;
 use std::fmt::Display;
 use std::io::Eprint;
 
-/// The exit status of a run. At a limit the lines say where the scripts stand; `Memory` if there was none for them.
+/// The exit status of a run. At a limit, and if a script is not run, the lines say where the scripts stand; `Memory` if there was none for
+/// them.
 pub fn status_after<R: AllocGlobal + Eprint>(
     rt: &R,
     options: &Options<'_>,
@@ -29,30 +30,32 @@ pub fn status_after<R: AllocGlobal + Eprint>(
 {
     match ended {
         Ok(end) => Ok(Status::of_code(end.code, options.least)),
-        Err(fault) => match fault.status() {
-            Status::Limit => {
-                tell_limit(rt, options, world, origins, fault)?;
-                Ok(Status::Limit)
+        Err(fault) => {
+            let status = fault.status();
+            if matches!(status, Status::Limit) || matches!(fault, Fault::NotRun(_)) {
+                tell_stop(rt, options, world, origins, fault)?;
+                Ok(status)
+            } else {
+                Err(fault)
             }
-            _ => Err(fault),
-        },
+        }
     }
 }
 
-// Tells that a limit was reached, and where the scripts stand.
-fn tell_limit<R: AllocGlobal + Eprint>(
+// Tells why the scripts go no further, and where they stand.
+fn tell_stop<R: AllocGlobal + Eprint>(
     rt: &R,
     options: &Options<'_>,
     world: &World,
     origins: &Origins<'_>,
-    limit: Fault,
+    why: Fault,
 ) -> Result<(), NoMemory> {
-    let limit = match &limit {
+    let why = match &why {
         Fault::Drive(_) => Fault::Turns(options.turns),
-        _ => limit,
+        _ => why,
     };
-    if options.quiet || !tell_stands(rt, world, origins, &limit)? {
-        report(rt, &limit);
+    if options.quiet || !tell_stands(rt, world, origins, &why)? {
+        report(rt, &why);
     }
     Ok(())
 }
@@ -78,7 +81,7 @@ fn tell_stands<R: AllocGlobal + Eprint, T: Display>(
     Ok(is_told)
 }
 
-// Tells in which line a frame stands, if it is a script; gives whether it is.
+// Tells in which line a frame stands, if it is a script that has begun; gives whether it is.
 fn tell_stand<R: AllocGlobal + Eprint, T: Display>(
     rt: &R,
     frame: &Frame,
@@ -88,6 +91,9 @@ fn tell_stand<R: AllocGlobal + Eprint, T: Display>(
     let (Some(name), Some((script, line))) = (script_name(frame), frame.script_line()) else {
         return Ok(false);
     };
+    if line == 0 {
+        return Ok(false);
+    }
     let name = origins.name(name)?;
     let told = format!(in rt.alloc(); "{name}: line {line}: {why}")?;
     report(rt, &with_text(rt.alloc(), told, script.line(line))?);
