@@ -4,7 +4,7 @@ use crate::account::Account;
 use crate::departure::Departures;
 use crate::mirror::Mirror;
 use ados_ram::{Entry, Ram};
-use ados_transfer::{Manner, Record, TransferFault, folder_of};
+use ados_transfer::{Manner, Record, TransferFault, folder_of, lower};
 use std::rt::Files;
 
 // A new file, and the file of the folder that has its bytes.
@@ -43,6 +43,32 @@ impl Mirror {
                 };
                 self.note_folders_above(rt, departures, pair, account)?;
             }
+        }
+        self.note_folders_of_large(rt, files, departures, account)
+    }
+
+    // The same, for the new directories in which a large file has the name that it had in a folder.
+    fn note_folders_of_large<R: AllocGlobal + Files>(
+        &self,
+        rt: &R,
+        files: &Ram,
+        departures: &Departures<'_>,
+        account: &mut Account,
+    ) -> Result<(), TransferFault> {
+        for moved in self.moved(files)? {
+            let (Some(path), Some(original)) = (
+                &moved.new_path,
+                self.records.get(moved.key.as_str()),
+            ) else {
+                continue;
+            };
+            let key = lower(self.alloc, path.as_str())?;
+            let pair = Pair {
+                key: key.as_str(),
+                original,
+                is_copy: false,
+            };
+            self.note_folders_above(rt, departures, pair, account)?;
         }
         Ok(())
     }

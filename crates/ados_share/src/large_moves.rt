@@ -104,7 +104,7 @@ impl Mirror {
     }
 
     // The large files whose stand-ins are no longer in their own places.
-    fn moved(&self, files: &Ram) -> Result<Vec<Moved>, TransferFault> {
+    pub(crate) fn moved(&self, files: &Ram) -> Result<Vec<Moved>, TransferFault> {
         let mut all = Vec::new(self.alloc);
         for key in &self.stand_ins.keys {
             if let Some(record) = self.records.get(key.as_str())

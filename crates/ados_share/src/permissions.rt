@@ -223,7 +223,8 @@ fn is_private<R: Files>(rt: &R, departure: &Departure<'_>) -> bool {
 
 // What a new object gives to its user alone.
 fn own_mode(entry: &Entry) -> u32
-    ensures { bit_and result 0o077 ≡ 0 }
+    ensures others { bit_and result 0o077 ≡ 0 }
+    ensures user { bit_and result 0o600 ≡ 0o600 }
 {
     if entry.is_directory() {
         OWN_FOLDER
