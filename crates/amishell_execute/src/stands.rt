@@ -32,7 +32,7 @@ pub fn status_after<R: AllocGlobal + Eprint>(
         Ok(end) => Ok(Status::of_code(end.code, options.least)),
         Err(fault) => {
             let status = fault.status();
-            if matches!(status, Status::Limit) || matches!(fault, Fault::NotRun(_)) {
+            if matches!(status, Status::Limit) || matches!(fault, Fault::NotRun(..)) {
                 tell_stop(rt, options, world, origins, fault)?;
                 Ok(status)
             } else {
