@@ -4,7 +4,9 @@ use crate::account::{Account, Aside};
 use crate::mirror::Mirror;
 use crate::renaming::{Renaming, renamed, restrict};
 use ados_ram::{Entry, Place, Ram};
-use ados_transfer::{Last, Record, Stamp, TransferFault, is_descendant, lower, own_entry};
+use ados_transfer::{
+    Last, Record, Stamp, TransferFault, folder_of, is_descendant, lower, own_entry,
+};
 use std::rt::Files;
 
 /// A large file whose stand-in is no longer in its own place.
@@ -167,7 +169,7 @@ impl Mirror {
             return Ok(Renaming::Left);
         };
         let new_key = lower(self.alloc, path.as_str())?;
-        if !self.may_have(new_key.as_str()) {
+        if !self.may_have(new_key.as_str()) || !self.has_folder(folder_of(new_key.as_str())) {
             return Ok(Renaming::Left);
         }
         let rights = self.rights_at(rt, moved.path.as_str(), new_key.as_str())?;
@@ -198,6 +200,15 @@ impl Mirror {
     // A large file may get the name of this key: it is shared, and no object that is known has it.
     pub(crate) fn may_have(&self, key: &str) -> bool {
         self.reason_left_out(key).is_none() && !self.records.contains_key(key)
+    }
+
+    // A folder of this key is known: one that is still to be made gets its permissions when it is.
+    fn has_folder(&self, key: &str) -> bool {
+        self.volumes.is_root(key)
+            || self
+                .records
+                .get(key)
+                .is_some_and(|record| matches!(record.last, Last::Directory))
     }
 
     // The Shell has an object of its own under the old name of a large file, which stays: it is not written.
