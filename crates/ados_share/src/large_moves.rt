@@ -169,7 +169,7 @@ impl Mirror {
             return Ok(Renaming::Left);
         };
         let new_key = lower(self.alloc, path.as_str())?;
-        if !self.may_have(new_key.as_str()) || !self.has_folder(folder_of(new_key.as_str())) {
+        if !self.may_have(new_key.as_str()) || !self.knows_folder(folder_of(new_key.as_str())) {
             return Ok(Renaming::Left);
         }
         let rights = self.rights_at(rt, moved.path.as_str(), new_key.as_str())?;
@@ -203,7 +203,7 @@ impl Mirror {
     }
 
     // A folder of this key is known: one that is still to be made gets its permissions when it is.
-    fn has_folder(&self, key: &str) -> bool {
+    fn knows_folder(&self, key: &str) -> bool {
         self.volumes.is_root(key)
             || self
                 .records
