@@ -65,7 +65,7 @@ impl Mirror {
         self.find_copies(files, &mut departures)?;
         self.write_all(rt, files, &departures, account)?;
         self.delete_gone(rt, files, &departures, account)?;
-        if self.rename_all(rt, files)?.is_any {
+        if self.rename_all(rt, files)? {
             self.delete_gone(rt, files, &departures, account)?;
         }
         if self.finish_moves(rt, files, asides, account)? {

@@ -22,15 +22,6 @@ pub struct Moved {
     pub stamp: Stamp,
 }
 
-/// What came of renaming all large files.
-#[derive(Drop)]
-pub struct Renames {
-    /// One was renamed.
-    pub is_any: bool,
-    /// The new path of the first that the system refused to rename the last time.
-    pub refused: Option<String>,
-}
-
 impl Mirror {
     // Renames those large files whose new names are free. At a program's start and at the end those of the others are moved aside whose
     // old names the script gave to other objects, or whose new ones are those of folders in which large files were. What cannot be
@@ -82,7 +73,7 @@ impl Mirror {
     }
 
     // Renames those whose names are free by now, and reports the others. One that was moved aside gets its old name back if its new one
-    // is not free. Gives whether anything was renamed; that the system refused it is noted.
+    // is not free. Gives whether anything was renamed. While one has not the name that it is to have, no program starts.
     pub(crate) fn finish_moves<R: AllocGlobal + Files>(
         &mut self,
         rt: &R,
@@ -96,13 +87,15 @@ impl Mirror {
         let first = self.rename_all(rt, files)?;
         let is_aside = self.rename_asides(rt, files, asides, account)?;
         let last = self.rename_all(rt, files)?;
-        if let Some(path) = &last.refused {
-            account.refuse(path.as_str())?;
+        for moved in self.moved(files)? {
+            if let Some(path) = &moved.new_path {
+                account.refuse(path.as_str())?;
+            }
         }
         if !account.is_meanwhile() {
             self.report_blocked(files, account)?;
         }
-        Ok(first.is_any || is_aside || last.is_any)
+        Ok(first || is_aside || last)
     }
 
     // The large files whose stand-ins are no longer in their own places.
@@ -132,31 +125,27 @@ impl Mirror {
         self.path_of(&files.written(place)?)
     }
 
-    // Renames as many as possible, but none with `dry`.
+    // Renames as many as possible, but none with `dry`. Gives whether one was renamed.
     pub(crate) fn rename_all<R: AllocGlobal + Files>(
         &mut self,
         rt: &R,
         files: &Ram,
-    ) -> Result<Renames, TransferFault> {
+    ) -> Result<bool, TransferFault> {
         let count = if self.options.dry {
             0
         } else {
             self.moved(files)?.len()
         };
         let mut is_any = false;
-        let mut refused = None;
         // One may free the name of another one.
         for _ in 0..count {
-            refused = None;
             for moved in self.moved(files)? {
-                match self.rename_one(rt, &moved)? {
-                    Renaming::Done(_) => is_any = true,
-                    Renaming::Refused if refused.is_none() => refused = moved.new_path,
-                    Renaming::Refused | Renaming::Left => {}
+                if let Renaming::Done(_) = self.rename_one(rt, &moved)? {
+                    is_any = true;
                 }
             }
         }
-        Ok(Renames { is_any, refused })
+        Ok(is_any)
     }
 
     // Renames a large file, if it is still the same and its new name is free.

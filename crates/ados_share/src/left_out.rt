@@ -113,7 +113,7 @@ impl Mirror {
         Ok(())
     }
 
-    // While a file of the folder has the bytes of one that is left out, no program starts, since it may delete the other.
+    // While a file of the folder has the bytes of one that is not written, no program starts, since it may delete the other.
     pub(crate) fn bar_copies(
         &self,
         files: &Ram,
@@ -123,16 +123,27 @@ impl Mirror {
         for one in &account.left_out {
             if refused.is_none()
                 && let Some(bytes) = &one.bytes
-                && bytes.len() > 0
-                && self.original_of(files, bytes).is_some()
+                && self.has_copy(files, bytes)
             {
                 refused = Some(one.path.clone()?);
+            }
+        }
+        if let Some(unwritten) = &account.unwritten {
+            for bytes in &account.bytes {
+                if refused.is_none() && self.has_copy(files, bytes) {
+                    refused = Some(unwritten.clone()?);
+                }
             }
         }
         match refused {
             Some(path) => account.refuse(path.as_str()),
             None => Ok(()),
         }
+    }
+
+    // A file of the folder had these bytes, which are some.
+    fn has_copy(&self, files: &Ram, bytes: &FileBytes) -> bool {
+        bytes.len() > 0 && self.original_of(files, bytes).is_some()
     }
 }
 
