@@ -178,6 +178,9 @@ class Model:
                 self.told.add(path)
                 owes = owes or shell != GONE
                 unwritten.append(shell)
+        if moment == 'start' and any(text in [*self.names.values(), *self.last.values()] for text in unwritten if text not in (FOLDER, GONE)):
+            # no program starts
+            raise Unsure
         if any(text in self.let_go and text not in self.machine.values() for text in self.out.values()):
             # it is written back under a name of its own
             raise Unsure
