@@ -195,8 +195,12 @@ fn note_in_the_way(
     if !departure.is_within_kind_change {
         return Ok(());
     }
+    let path = departure.path.as_str();
     if is_refused {
-        account.refuse(departure.path.as_str())?;
+        account.refuse(path)?;
     }
-    account.add_unwritten(departure.path.as_str())
+    match departure.entry {
+        Some(entry) => account.add_unwritten_entry(path, entry),
+        None => account.add_unwritten(path),
+    }
 }
