@@ -1,5 +1,5 @@
 // The options of a template, with what is asked of them for each line.
-ghost use Rattle.std.specs.Prelude.{◌≡◌, ◌<◌, ℕ, true, false, length, get_or, IfSome};
+ghost use Rattle.std.specs.Prelude.{◌≡◌, ◌==◌, ◌<◌, ℕ, true, false, length, get_or, IfSome};
 ghost use Rattle.std.specs.List.{list_any};
 ghost use Rattle.ados_readargs.specs.NameLengths.{has_as_long, one_is_as_long};
 ghost use Rattle.ados_readargs.specs.Options.{is_required, is_rest, takes_number};
@@ -109,27 +109,29 @@ impl OptionList {
 fn name_lengths(options: &[TemplateOption]) -> [bool; 32]
     ensures { (size : ℕ) → get_or result size true ≡ false → one_is_as_long size options.now ≡ false }
 {
-    let mut lengths = [true; 32];
-    for size in 0..32 {
-        lengths[size] = one_is_as_long(options, size);
+    let mut lengths = [false; 32];
+    for option in options {
+        mark_lengths(option, &mut lengths);
     }
     lengths
 }
 
-fn one_is_as_long(options: &[TemplateOption], size: usize) -> bool
-    ensures { result ≡ one_is_as_long size options.now }
+// Marks the lengths of an option's names.
+fn mark_lengths(option: &TemplateOption, lengths: &mut [bool; 32])
+    ensures { (size : ℕ) → get_or lengths.new size true ≡ false → (get_or lengths.old size true ≡ false) × (has_as_long size option.now ≡ false) }
 {
-    options.iter().any(|option| has_as_long(option, size))
+    for name in option.names.as_slice() {
+        mark_length(name.as_bytes().len(), lengths);
+    }
 }
 
-fn has_as_long(option: &TemplateOption, size: usize) -> bool
-    ensures { result ≡ has_as_long size option.now }
+// Marks one length, if it is short enough.
+fn mark_length(length: usize, lengths: &mut [bool; 32])
+    ensures { (size : ℕ) → get_or lengths.new size true ≡ false → (get_or lengths.old size true ≡ false) × ((length == size) ≡ false) }
 {
-    option
-        .names
-        .as_slice()
-        .iter()
-        .any(|name| name.as_bytes().len() == size)
+    if length < 32 {
+        lengths[length] = true;
+    }
 }
 
 fn has_required(options: &[TemplateOption]) -> bool
