@@ -59,7 +59,7 @@ pub use share_lines::ShareLines;
 pub use share_words::volumes_of;
 pub use stamps::{Stamp, Time};
 pub use stand_ins::{StandIns, is_stand_in, is_stand_in_of, own_entry};
-pub use taking::{take, taken_place};
+pub use taking::{Taker, taken_place};
 pub use volumes::{Volume, Volumes};
 pub use watch::Watch;
 pub use within::{is_beginning_of, is_part};

@@ -4,48 +4,188 @@ use crate::faults::{TransferFault, named};
 use crate::paths::{ascii, last_piece};
 use crate::reasons::with_reason;
 use crate::stand_ins::own_entry;
-use crate::writing::{enter, no_memory, spelled, write_whole};
+use crate::writing::{enter, no_memory, path_of, spelled, write_whole};
 use ados_assign::Assigns;
 use ados_names::Path;
 use ados_ram::{Entry, Place, Ram};
 use ados_text::Name;
-use std::alloc::Global;
+use std::alloc::{AllocFailed, Global};
+use std::collections::BTreeSet;
+use std::fs::Metadata;
 use std::io::ErrorKind;
+use std::os::unix::fs::MetadataExt;
 use std::rt::Files;
 use std::{fs, io};
 
-/// Writes what words of `--take` name, as `NAME` or `NAME=PATH`.
-///
-/// A file is written whole or not at all. Nothing is written outside the folder that is given. `StandIn` if an object is the
-/// stand-in of a file that is too large for the Shell, which is never written; `CannotTake` if one could not be written. All others
-/// are.
-pub fn take<R: AllocGlobal + Files>(
-    rt: &R,
-    files: &Ram,
-    assigns: &Assigns,
-    words: &str,
-) -> Result<(), TransferFault> {
-    let (name, path) = parted(rt.alloc(), files, assigns, words)?;
-    let Some(place) = place_of(rt.alloc(), files, assigns, name)? else {
-        return Err(not_taken(rt.alloc(), words, ErrorKind::NotFound));
-    };
-    let Some(entry) = files.look(&place) else {
-        return Err(not_taken(rt.alloc(), words, ErrorKind::NotFound));
-    };
-    let own = own_name(rt.alloc(), entry)?;
-    let taken = if entry.is_directory() {
-        take_directory(rt, files, &place, path, own.as_str())
-    } else {
-        take_file(rt, entry, path, own.as_str())
-    };
-    match taken {
-        Ok(()) => Ok(()),
-        Err(error) if error.kind() == ErrorKind::OutOfMemory => Err(TransferFault::NoMemory),
-        Err(error) if error.kind() == ErrorKind::InvalidData => {
-            Err(named(rt.alloc(), words, TransferFault::StandIn))
-        }
-        Err(error) => Err(not_taken(rt.alloc(), words, error.kind())),
+/// Writes out what words of `--take` name. What some words wrote no others replace.
+#[derive(Drop)]
+pub struct Taker<'a, R> {
+    rt: &'a R,
+    files: &'a Ram,
+    assigns: &'a Assigns,
+    // The files that were written.
+    written: BTreeSet<FileNumber>,
+}
+
+// The numbers of a device and of an inode, which tell a file by whatever path it is found.
+type FileNumber = (u64, u64);
+
+// Why an object is not taken.
+#[derive(Drop)]
+enum Refusal {
+    // It is the stand-in of a file that is too large for the Shell, and holds nothing of it.
+    StandIn,
+    // Other words have written a file of that name.
+    Written,
+    // The system refused.
+    Failure(io::Error),
+}
+
+impl From<io::Error> for Refusal {
+    fn from(error: io::Error) -> Refusal {
+        Refusal::Failure(error)
     }
+}
+
+impl<T: Drop> From<AllocFailed<T>> for Refusal {
+    fn from(_error: AllocFailed<T>) -> Refusal {
+        Refusal::Failure(no_memory())
+    }
+}
+
+impl<'a, R: AllocGlobal + Files> Taker<'a, R> {
+    /// Nothing was written yet.
+    pub fn new(rt: &'a R, files: &'a Ram, assigns: &'a Assigns) -> Taker<'a, R> {
+        Taker {
+            rt,
+            files,
+            assigns,
+            written: BTreeSet::new(rt.alloc()),
+        }
+    }
+
+    /// Writes what words of `--take` name, as `NAME` or `NAME=PATH`.
+    ///
+    /// A file is written whole or not at all. Nothing is written outside the folder that is given. `StandIn` if an object is the
+    /// stand-in of a file that is too large for the Shell, which is never written; `CannotTake` if one could not be written, or words
+    /// before these wrote a file of its name. All others are.
+    pub fn take(&mut self, words: &str) -> Result<(), TransferFault> {
+        let alloc = self.rt.alloc();
+        let (name, path) = parted(alloc, self.files, self.assigns, words)?;
+        let Some(place) = place_of(alloc, self.files, self.assigns, name)? else {
+            return Err(not_taken(alloc, words, ErrorKind::NotFound));
+        };
+        let Some(entry) = self.files.look(&place) else {
+            return Err(not_taken(alloc, words, ErrorKind::NotFound));
+        };
+        let own = own_name(alloc, entry)?;
+        let taken = if entry.is_directory() {
+            self.take_directory(&place, path, own.as_str())
+        } else {
+            self.take_file(entry, path, own.as_str())
+        };
+        match taken {
+            Ok(()) => Ok(()),
+            Err(refusal) => Err(refusal.into_fault(alloc, words)),
+        }
+    }
+
+    // Writes a file to a path, or into the folder that is there, or into this folder.
+    fn take_file(&mut self, entry: &Entry, path: Option<&str>, own: &str) -> Result<(), Refusal> {
+        let Some(path) = path else {
+            return self.write(".", own, entry);
+        };
+        if path.ends_with('/') || is_folder(self.rt, path) {
+            let folder = folder_at(self.rt, path)?;
+            return self.write(folder.as_str(), own, entry);
+        }
+        let name = last_piece(path);
+        let folder = folder_at(self.rt, path.strip_suffix(name).unwrap_or(""))?;
+        self.write(folder.as_str(), name, entry)
+    }
+
+    // Writes what is in a directory to a path or under its own name. What cannot be written is left out, and the last fault is reported.
+    fn take_directory(
+        &mut self,
+        directory: &Place,
+        path: Option<&str>,
+        own: &str,
+    ) -> Result<(), Refusal> {
+        let folder = folder_for(self.rt, path, own)?;
+        let Ok(places) = self.files.contents(directory) else {
+            return Err(Refusal::Failure(no_memory()));
+        };
+        let mut taken = Ok(());
+        for place in &places {
+            if let Err(refusal) = self.take_one(directory, place, folder.as_str()) {
+                taken = Err(refusal);
+            }
+        }
+        taken
+    }
+
+    // Writes an object that is below a directory into the directory's folder.
+    fn take_one(&mut self, directory: &Place, place: &Place, folder: &str) -> Result<(), Refusal> {
+        match (self.files.look(place), self.files.written(place)) {
+            (Some(entry), Ok(place)) => {
+                self.take_below(folder, place.relative_names(directory), entry)
+            }
+            (None, _) => Ok(()),
+            (_, Err(_)) => Err(Refusal::Failure(no_memory())),
+        }
+    }
+
+    // Writes an object that is below a directory, by the names that lead down to it.
+    fn take_below(&mut self, folder: &str, names: &[Name], entry: &Entry) -> Result<(), Refusal> {
+        let [above @ .., last] = names else {
+            return Ok(());
+        };
+        let path = folder_below(self.rt, folder, above)?;
+        if entry.is_directory() {
+            enter(self.rt, path.as_str(), spelled(last)?)?;
+            return Ok(());
+        }
+        self.write(path.as_str(), spelled(last)?, entry)
+    }
+
+    // Writes a file.
+    fn write(&mut self, folder: &str, name: &str, entry: &Entry) -> Result<(), Refusal> {
+        let Some(bytes) = own_entry(Some(entry)).and_then(Entry::bytes) else {
+            return Err(Refusal::StandIn);
+        };
+        let target = path_of(self.rt.alloc(), folder, name)?;
+        if let Ok(found) = fs::symlink_metadata(self.rt, target.as_str())
+            && self.written.contains(&number_of(&found))
+        {
+            return Err(Refusal::Written);
+        }
+        write_whole(self.rt, folder, name, bytes)?;
+        let found = fs::symlink_metadata(self.rt, target.as_str())?;
+        self.written.insert(number_of(&found))?;
+        Ok(())
+    }
+}
+
+impl Refusal {
+    // The fault of words that name what is not taken.
+    fn into_fault(self, alloc: Global, words: &str) -> TransferFault {
+        match self {
+            Refusal::StandIn => named(alloc, words, TransferFault::StandIn),
+            Refusal::Written => match format!(in alloc; "{words}: another --take wrote it") {
+                Ok(words) => TransferFault::CannotTake(words),
+                Err(_) => TransferFault::NoMemory,
+            },
+            Refusal::Failure(error) if error.kind() == ErrorKind::OutOfMemory => {
+                TransferFault::NoMemory
+            }
+            Refusal::Failure(error) => not_taken(alloc, words, error.kind()),
+        }
+    }
+}
+
+// The numbers of a file.
+fn number_of(found: &Metadata) -> FileNumber {
+    (found.dev(), found.ino())
 }
 
 /// The place of what words of `--take` name, as `NAME` or `NAME=PATH`, if they name one.
@@ -111,24 +251,6 @@ fn own_name(alloc: Global, entry: &Entry) -> Result<String, TransferFault> {
     }
 }
 
-// Writes a file to a path, or into the folder that is there, or into this folder.
-fn take_file<R: AllocGlobal + Files>(
-    rt: &R,
-    entry: &Entry,
-    path: Option<&str>,
-    own: &str,
-) -> io::Result<()> {
-    let Some(path) = path else {
-        return write(rt, ".", own, entry);
-    };
-    if path.ends_with('/') || is_folder(rt, path) {
-        return write(rt, folder_at(rt, path)?.as_str(), own, entry);
-    }
-    let name = last_piece(path);
-    let folder = path.strip_suffix(name).unwrap_or("");
-    write(rt, folder_at(rt, folder)?.as_str(), name, entry)
-}
-
 // The folder at a path, which is made if it is not there. A name that leads elsewhere is refused, and so is a link.
 fn folder_at<R: AllocGlobal + Files>(rt: &R, path: &str) -> io::Result<String> {
     let first = if path.starts_with('/') { "/" } else { "." };
@@ -141,17 +263,17 @@ fn folder_at<R: AllocGlobal + Files>(rt: &R, path: &str) -> io::Result<String> {
     Ok(folder)
 }
 
-// Writes a file; `InvalidData` if it is a stand-in, which holds nothing of its file.
-fn write<R: AllocGlobal + Files>(
+// The folder to which names lead down from one; folders are made as needed.
+fn folder_below<R: AllocGlobal + Files>(
     rt: &R,
     folder: &str,
-    name: &str,
-    entry: &Entry,
-) -> io::Result<()> {
-    match own_entry(Some(entry)).and_then(Entry::bytes) {
-        Some(bytes) => write_whole(rt, folder, name, bytes),
-        None => Err(io::Error::from(ErrorKind::InvalidData)),
+    names: &[Name],
+) -> io::Result<String> {
+    let mut path = String::from_str(rt.alloc(), folder)?;
+    for name in names {
+        path = enter(rt, path.as_str(), spelled(name)?)?;
     }
+    Ok(path)
 }
 
 fn is_folder<R: Files>(rt: &R, path: &str) -> bool {
@@ -168,63 +290,4 @@ fn folder_for<R: AllocGlobal + Files>(rt: &R, path: Option<&str>, own: &str) -> 
         Some(path) => folder_at(rt, path),
         None => folder_at(rt, own),
     }
-}
-
-// Writes what is in a directory to a path or under its own name. What cannot be written is left out, and the last fault is reported.
-fn take_directory<R: AllocGlobal + Files>(
-    rt: &R,
-    files: &Ram,
-    directory: &Place,
-    path: Option<&str>,
-    own: &str,
-) -> io::Result<()> {
-    let folder = folder_for(rt, path, own)?;
-    let Ok(places) = files.contents(directory) else {
-        return Err(no_memory());
-    };
-    let mut taken = Ok(());
-    for place in &places {
-        if let Err(error) = take_one(rt, files, directory, place, folder.as_str()) {
-            taken = Err(error);
-        }
-    }
-    taken
-}
-
-// Writes an object that is below a directory into the directory's folder.
-fn take_one<R: AllocGlobal + Files>(
-    rt: &R,
-    files: &Ram,
-    directory: &Place,
-    place: &Place,
-    folder: &str,
-) -> io::Result<()> {
-    match (files.look(place), files.written(place)) {
-        (Some(entry), Ok(place)) => {
-            take_below(rt, folder, place.relative_names(directory), entry)
-        }
-        (None, _) => Ok(()),
-        (_, Err(_)) => Err(no_memory()),
-    }
-}
-
-// Writes an object that is below a directory, by the names that lead down to it.
-fn take_below<R: AllocGlobal + Files>(
-    rt: &R,
-    folder: &str,
-    names: &[Name],
-    entry: &Entry,
-) -> io::Result<()> {
-    let [above @ .., last] = names else {
-        return Ok(());
-    };
-    let mut path = String::from_str(rt.alloc(), folder)?;
-    for name in above {
-        path = enter(rt, path.as_str(), spelled(name)?)?;
-    }
-    if entry.is_directory() {
-        enter(rt, path.as_str(), spelled(last)?)?;
-        return Ok(());
-    }
-    write(rt, path.as_str(), spelled(last)?, entry)
 }

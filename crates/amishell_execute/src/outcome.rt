@@ -6,7 +6,7 @@ use crate::faults::{Fault, report};
 use crate::share::Share;
 use crate::status::Status;
 use ados_text::{Code, NoMemory};
-use ados_transfer::take;
+use ados_transfer::Taker;
 use ados_world::World;
 use execute_options::Options;
 use std::fmt::Write;
@@ -70,9 +70,10 @@ pub fn hand_out<R: AllocGlobal + Files + Eprint + Clone + Drop + Clock>(
 
 // Takes what is asked for; gives whether all was taken.
 fn take_all<R: AllocGlobal + Files + Eprint>(rt: &R, options: &Options<'_>, world: &World) -> bool {
+    let mut taker = Taker::new(rt, world.files(), world.assigns());
     let mut is_taken = true;
     for words in &options.take {
-        if let Err(fault) = take(rt, world.files(), world.assigns(), words) {
+        if let Err(fault) = taker.take(words) {
             report(rt, &fault);
             is_taken = false;
         }

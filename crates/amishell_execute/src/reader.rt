@@ -224,14 +224,18 @@ fn copy_front(bytes: &[u8], buffer: &mut [u8]) -> usize
     length
 }
 
-// Reads up to a newline, the end, or as much as there is room for. No byte after the newline is read. In the place of a byte above 127
-// stands `_`, which no pattern has.
+// Reads up to a newline, the end, or as much as there is room for. No byte after the newline is read. A line that the end cuts off gets
+// its newline. In the place of a byte above 127 stands `_`, which no pattern has.
 fn read_line<I: Read>(input: &mut I, buffer: &mut [u8]) -> io::Result<usize>
     ensures { ReadsAtMost result buffer.new }
 {
     for place in 0..buffer.len() {
         if input.read(&mut buffer[place..place + 1])? == 0 {
-            return Ok(place);
+            if place == 0 {
+                return Ok(0);
+            }
+            buffer[place] = b'\n';
+            return Ok(place + 1);
         }
         if buffer[place] == b'\n' {
             return Ok(place + 1);
