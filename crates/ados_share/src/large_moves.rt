@@ -2,7 +2,8 @@
 
 use crate::account::{Account, Aside};
 use crate::mirror::Mirror;
-use crate::renaming::{Renaming, renamed, restrict};
+use crate::modes::restrict;
+use crate::renaming::{Renaming, renamed};
 use ados_ram::{Entry, Place, Ram};
 use ados_transfer::{
     Last, Record, Stamp, TransferFault, folder_of, is_descendant, lower, own_entry,

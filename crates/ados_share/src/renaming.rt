@@ -1,15 +1,10 @@
 //! How a large file is given another path.
 
 use crate::departure::own_path;
-use ados_transfer::{Rights, Stamp, TransferFault, is_immovable, place_new};
-use std::fs::Permissions;
+use ados_transfer::{Stamp, TransferFault, is_immovable, place_new};
 use std::io::ErrorKind;
-use std::os::unix::fs::PermissionsExt;
 use std::rt::Files;
 use std::{fs, io};
-
-// The rights of the user, the group and others.
-const ALL: u32 = 0o777;
 
 /// What comes of giving a file another path.
 #[derive(Clone, Copy)]
@@ -35,22 +30,6 @@ pub fn renamed<R: AllocGlobal + Files>(
         Ok(None) => Ok(Renaming::Left),
         Err(error) if error.kind() == ErrorKind::OutOfMemory => Err(TransferFault::NoMemory),
         Err(_) => Ok(Renaming::Refused),
-    }
-}
-
-/// Leaves a file that was renamed no more than these rights, and gives the stamp that it has then. If it was changed before, it keeps the
-/// old stamp.
-pub fn restrict<R: Files>(rt: &R, path: &str, rights: Rights, stamp: Stamp) -> Stamp {
-    let Ok(found) = fs::symlink_metadata(rt, path) else {
-        return stamp;
-    };
-    if Rights::of(&found).mode & ALL == rights.mode & ALL || !Stamp::of(&found).is_same(&stamp) {
-        return stamp;
-    }
-    let permissions = Permissions::from_mode(rights.mode & ALL);
-    match fs::set_permissions(rt, path, permissions).and_then(|_| fs::symlink_metadata(rt, path)) {
-        Ok(found) => Stamp::of(&found),
-        Err(_) => stamp,
     }
 }
 
