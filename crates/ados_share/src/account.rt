@@ -8,6 +8,7 @@ ghost use Rattle.ados_transfer.specs.Within.{is_substring};
 
 use crate::left_out::{LeftOut, Reason};
 use crate::moves::Destination;
+use crate::reports::with_more;
 use crate::syncs::FreshFile;
 use ados_ram::{Body, Entry, FileBytes};
 use ados_text::NoMemory;
@@ -37,7 +38,7 @@ pub struct Account {
     pub left_out: Vec<LeftOut>,
     /// The path of the first object that could not be written.
     pub unwritten: Option<String>,
-    /// The path of the first object that the system refused to write.
+    /// The path of the first object because of which no program starts.
     pub refused: Option<String>,
     /// The contents of the files that could not be written.
     pub bytes: Vec<FileBytes>,
@@ -151,7 +152,7 @@ impl Account {
         Ok(())
     }
 
-    /// Notes that the system refused to write an object: no program starts after the update.
+    /// Notes that an object is not written, for whatever reason, so that a program could do harm: none starts after the update.
     pub fn refuse(&mut self, path: &str) -> Result<(), TransferFault>
         ensures refused { OnOk result (option_map string_bytes self.new.refused ≡ first_path (option_map string_bytes self.old.refused) path.now) }
         ensures unchanged { OnErr result (self.new ≡ self.old) }
@@ -262,15 +263,8 @@ impl Account {
         };
         let unwritten = volumes.shown(unwritten.as_str())?;
         let held = volumes.shown(held.as_str())?;
-        if self.more == 0 {
-            return Ok(Some(format!(in self.alloc;
-                "not deleted, since {unwritten} is not written: {held}"
-            )?));
-        }
-        let more = self.more;
-        Ok(Some(format!(in self.alloc;
-            "not deleted, since {unwritten} is not written: {held} and {more} more"
-        )?))
+        let line = format!(in self.alloc; "not deleted, since {unwritten} is not written: {held}")?;
+        Ok(Some(with_more(self.alloc, line, self.more)?))
     }
 }
 

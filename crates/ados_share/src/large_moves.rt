@@ -3,7 +3,7 @@
 use crate::account::{Account, Aside};
 use crate::mirror::Mirror;
 use crate::modes::restrict;
-use crate::renaming::{Renaming, renamed};
+use crate::renaming::renamed;
 use ados_ram::{Entry, Place, Ram};
 use ados_transfer::{
     Last, Record, Stamp, TransferFault, folder_of, is_descendant, lower, own_entry,
@@ -141,7 +141,7 @@ impl Mirror {
         // One may free the name of another one.
         for _ in 0..count {
             for moved in self.moved(files)? {
-                if let Renaming::Done(_) = self.rename_one(rt, &moved)? {
+                if self.rename_one(rt, &moved)? {
                     is_any = true;
                 }
             }
@@ -149,30 +149,29 @@ impl Mirror {
         Ok(is_any)
     }
 
-    // Renames a large file, if it is still the same and its new name is free.
+    // Renames a large file, if it is still the same and its new name is free. Gives whether that was done.
     fn rename_one<R: AllocGlobal + Files>(
         &mut self,
         rt: &R,
         moved: &Moved,
-    ) -> Result<Renaming, TransferFault> {
+    ) -> Result<bool, TransferFault> {
         let Some(path) = &moved.new_path else {
-            return Ok(Renaming::Left);
+            return Ok(false);
         };
         let new_key = lower(self.alloc, path.as_str())?;
         if !self.may_have(new_key.as_str()) || !self.knows_folder(folder_of(new_key.as_str())) {
-            return Ok(Renaming::Left);
+            return Ok(false);
         }
         let rights = self.rights_at(rt, moved.path.as_str(), new_key.as_str())?;
-        let renaming = renamed(rt, moved.path.as_str(), path.as_str(), &moved.stamp)?;
-        let Renaming::Done(stamp) = renaming else {
-            return Ok(renaming);
+        let Some(stamp) = renamed(rt, moved.path.as_str(), path.as_str(), &moved.stamp)? else {
+            return Ok(false);
         };
         let stamp = match rights {
             Some(rights) => restrict(rt, path.as_str(), rights, stamp),
             None => stamp,
         };
         let Some((_, record)) = self.records.remove_entry(moved.key.as_str()) else {
-            return Ok(Renaming::Left);
+            return Ok(false);
         };
         self.forget(moved.key.as_str());
         let path = path.clone()?;
@@ -184,7 +183,7 @@ impl Mirror {
                 ..record
             },
         )?;
-        Ok(Renaming::Done(stamp))
+        Ok(true)
     }
 
     // A large file may get the name of this key: it is shared, and no object that is known has it.

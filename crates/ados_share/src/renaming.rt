@@ -6,34 +6,23 @@ use std::io::ErrorKind;
 use std::rt::Files;
 use std::{fs, io};
 
-/// What comes of giving a file another path.
-#[derive(Clone, Copy)]
-pub enum Renaming {
-    /// It has it, with this stamp.
-    Done(Stamp),
-    /// It is another file by now, or something has the path.
-    Left,
-    /// The system refused it.
-    Refused,
-}
-
-/// Gives a file a path below the folder that nothing has, if it is the file of this stamp. If it was changed since, it keeps the old
-/// stamp, so that the change is seen.
+/// Gives a file a path below the folder that nothing has, if it is the file of this stamp, and gives the stamp that it has there. If it was
+/// changed since, it keeps the old stamp, so that the change is seen. Nothing if it is another file by now, something has the path, or the
+/// system refused it.
 pub fn renamed<R: AllocGlobal + Files>(
     rt: &R,
     from: &str,
     path: &str,
     stamp: &Stamp,
-) -> Result<Renaming, TransferFault> {
+) -> Result<Option<Stamp>, TransferFault> {
     match try_rename(rt, from, path, stamp) {
-        Ok(Some(stamp)) => Ok(Renaming::Done(stamp)),
-        Ok(None) => Ok(Renaming::Left),
+        Ok(renamed) => Ok(renamed),
         Err(error) if error.kind() == ErrorKind::OutOfMemory => Err(TransferFault::NoMemory),
-        Err(_) => Ok(Renaming::Refused),
+        Err(_) => Ok(None),
     }
 }
 
-// The same, with the error, and with the stamp if it was done.
+// The same, with the error.
 fn try_rename<R: AllocGlobal + Files>(
     rt: &R,
     from: &str,

@@ -218,3 +218,11 @@ impl Reports {
         self.report("cannot read", path)
     }
 }
+
+/// A line that names the first of several objects, and tells how many more there are.
+pub fn with_more(alloc: Global, line: String, more: usize) -> Result<String, TransferFault> {
+    match more {
+        0 => Ok(line),
+        more => Ok(format!(in alloc; "{line} and {more} more")?),
+    }
+}
