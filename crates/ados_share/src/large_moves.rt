@@ -3,7 +3,7 @@
 use crate::account::{Account, Aside};
 use crate::mirror::Mirror;
 use crate::modes::restrict;
-use crate::renaming::renamed;
+use crate::renaming::{blocked_text, renamed};
 use ados_ram::{Entry, Place, Ram};
 use ados_transfer::{
     Last, Record, Stamp, TransferFault, folder_of, is_descendant, lower, own_entry,
@@ -94,7 +94,7 @@ impl Mirror {
             }
         }
         if !account.is_meanwhile() {
-            self.report_blocked(files, account)?;
+            self.report_blocked(rt, files, account)?;
         }
         Ok(first || is_aside || last)
     }
@@ -221,16 +221,21 @@ impl Mirror {
 
     // Reports the large files that could not be renamed as their stand-ins were. One whose stand-in is outside of the directory has no
     // name to get. While the new name of one is left out no program starts: it may delete the file under the old one.
-    fn report_blocked(&mut self, files: &Ram, account: &mut Account) -> Result<(), TransferFault> {
+    fn report_blocked<R: AllocGlobal + Files>(
+        &mut self,
+        rt: &R,
+        files: &Ram,
+        account: &mut Account,
+    ) -> Result<(), TransferFault> {
         for moved in &self.moved(files)? {
             if let Some(new) = &moved.new_path {
                 let key = lower(self.alloc, new.as_str())?;
-                if self.reason_left_out(key.as_str()).is_some() {
+                let reason = self.reason_left_out(key.as_str());
+                if reason.is_some() {
                     account.refuse(new.as_str())?;
                 }
                 self.stand_ins.is_blocked = true;
-                let new = self.volumes.shown(new.as_str())?;
-                let text = format!(in self.alloc; "cannot rename to {new}")?;
+                let text = blocked_text(rt, &self.volumes, new.as_str(), reason)?;
                 self.reports
                     .report_once(text.as_str(), moved.path.as_str())?;
             }

@@ -1,7 +1,9 @@
 //! How a large file is given another path.
 
 use crate::departure::own_path;
-use ados_transfer::{Stamp, TransferFault, is_immovable, place_new};
+use crate::left_out::Reason;
+use ados_transfer::{Stamp, TransferFault, Volumes, is_immovable, place_new};
+use std::fs::Metadata;
 use std::io::ErrorKind;
 use std::rt::Files;
 use std::{fs, io};
@@ -19,6 +21,40 @@ pub fn renamed<R: AllocGlobal + Files>(
         Ok(renamed) => Ok(renamed),
         Err(error) if error.kind() == ErrorKind::OutOfMemory => Err(TransferFault::NoMemory),
         Err(_) => Ok(None),
+    }
+}
+
+/// What a line says of a file that could not be given a path: which one, and why, if it is left out for this reason or something has it.
+pub fn blocked_text<R: AllocGlobal + Files>(
+    rt: &R,
+    volumes: &Volumes,
+    path: &str,
+    reason: Option<Reason>,
+) -> Result<String, TransferFault> {
+    let shown = volumes.shown(path)?;
+    let alloc = rt.alloc();
+    if let Some(reason) = reason {
+        return Ok(format!(in alloc; "cannot rename to {shown}, since {reason}")?);
+    }
+    match fs::symlink_metadata(rt, path) {
+        Ok(found) => {
+            let holder = kind_of(&found);
+            Ok(format!(in alloc; "cannot rename to {shown}, since {holder} has that name")?)
+        }
+        Err(_) => Ok(format!(in alloc; "cannot rename to {shown}")?),
+    }
+}
+
+// What was looked at, for a line.
+fn kind_of(found: &Metadata) -> &'static str {
+    if found.is_dir() {
+        "a folder"
+    } else if found.is_file() {
+        "a file"
+    } else if found.is_symlink() {
+        "a link"
+    } else {
+        "a pipe or a device"
     }
 }
 

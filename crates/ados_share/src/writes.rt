@@ -129,6 +129,9 @@ impl Mirror {
         let (key, path) = object;
         if !here.is_unread() {
             let is_large = self.records.get(key).is_some_and(Record::is_stand_in);
+            if !is_large && matches!(here, Here::Foreign) {
+                return self.reports.report_foreign(key, path);
+            }
             return self.reports.report_kept(key, path, is_large);
         }
         match check_readable(rt, path) {
