@@ -124,11 +124,9 @@ impl Mirror {
                 refused = Some(one.path.clone()?);
             }
         }
-        if let Some(unwritten) = &account.unwritten {
-            for bytes in &account.bytes {
-                if refused.is_none() && self.has_copy(files, bytes) {
-                    refused = Some(unwritten.clone()?);
-                }
+        for file in &account.unwritten_files {
+            if refused.is_none() && self.has_copy(files, &file.bytes) {
+                refused = Some(file.path.clone()?);
             }
         }
         match refused {
