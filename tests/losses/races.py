@@ -2,7 +2,7 @@
 from dataclasses import dataclass, field
 from typing import Callable
 
-from rooms import FOLDER, Link, filled
+from rooms import FOLDER, filled
 
 LINE = "a line of another program"
 # with --core a file of more than 65,536 bytes is a stand-in
@@ -245,9 +245,6 @@ MODES = [
          "[ -f f/a ] && rm f/a && ln -s ../other f/a", mode_stays, prepare="chmod 700 f/d; chmod 755 other"),
     Race("a folder that is renamed becomes a link to another one", {"f/d/a": b"a\n", "other": FOLDER}, started("Rename d e"),
          "[ -d f/e ] && rmdir f/e && ln -s ../other f/e", mode_stays, prepare="chmod 700 f/d; chmod 755 other"),
-    Race("a folder that is moved aside and back becomes a link to another one", {"f/d/a": b"a\n", "f/l": Link("nowhere"), "other": FOLDER},
-         started("Rename d t", "Echo >d new", "Rename t d2", "Rename d2 l"), "[ -d f/d ] && rmdir f/d && ln -s ../other f/d", mode_stays,
-         prepare="chmod 700 f/d; chmod 755 other"),
 ]
 
 RACES = EXCHANGED + BOTH + CHANGED + MOVED + PIPES + TAKEN + MODES
