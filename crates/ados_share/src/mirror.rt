@@ -47,7 +47,7 @@ pub struct Mirror {
     pub(crate) is_holding: bool,
     // At the last comparison the Shell had something that was not written.
     pub(crate) is_lacking: bool,
-    // The first object that the system refused to write at the last update: no program starts.
+    // The first object because of which no program starts after the last update.
     pub(crate) refused: Option<String>,
     // The first object of the Shell that gave way to this machine's at this look.
     pub(crate) overruled: Option<String>,
