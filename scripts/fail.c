@@ -1,7 +1,7 @@
 /* Makes system calls fail in a program, or runs another program before them, but not in those that it starts. It is put before the
    C library by LD_PRELOAD. FAIL_CALL names the kind of the calls: `read`, of standard input; `write`, to standard output;
    `piece`, a read of a pipe that is not standard input; `wait`, for a process; `pipe`, the making of one; `start`, of a process;
-   `open`, `rename`, `link`, `unlink` (of a folder too), `mkdir`, `look`, of a path; `path`, any of these six; `store`, a write to a
+   `open`, `rename`, `link`, `unlink` (of a folder too), `mkdir`, `mode`, `look`, of a path; `path`, any of these seven; `store`, a write to a
    file, and `sync`, which brings one to the disk: these are counted as calls of a path are.
    Of these the one whose number, from 1, FAIL_AT gives fails with the error FAIL_ERRNO, or if that is 0 moves no byte, and
    so does each after it if FAIL_ON is given; if it is made, the file FAIL_MARK is created. Calls of a path are counted only when there is
@@ -275,4 +275,5 @@ PATH(unlinkat, "unlink", path, (int folder, const char *path, int flags), (folde
 PATH(rmdir, "unlink", path, (const char *path), (path))
 PATH(mkdir, "mkdir", path, (const char *path, mode_t mode), (path, mode))
 PATH(mkdirat, "mkdir", path, (int folder, const char *path, mode_t mode), (folder, path, mode))
+PATH(chmod, "mode", path, (const char *path, mode_t mode), (path, mode))
 PATH(statx, "look", path, (int folder, const char *path, int flags, unsigned fields, struct statx *about), (folder, path, flags, fields, about))

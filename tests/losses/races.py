@@ -233,4 +233,18 @@ TAKEN = [
          is_after_start=False),
 ]
 
-RACES = EXCHANGED + BOTH + CHANGED + MOVED + PIPES + TAKEN
+# What takes the name of an object whose mode is set does not get that mode, nor does what a link leads to.
+
+def mode_stays(trial):
+    mode = trial.modes.get("other")
+    return None if mode == 0o755 else f"the mode of what the link leads to is {mode:o}"
+
+
+MODES = [
+    Race("a large file that is renamed out of a closed folder becomes a link", {"f/d/a": filled("a", 70000), "other": b"theirs\n"}, started("Rename d/a a"),
+         "[ -f f/a ] && rm f/a && ln -s ../other f/a", mode_stays, prepare="chmod 700 f/d; chmod 755 other"),
+    Race("a folder that is renamed becomes a link to another one", {"f/d/a": b"a\n", "other": FOLDER}, started("Rename d e"),
+         "[ -d f/e ] && rmdir f/e && ln -s ../other f/e", mode_stays, prepare="chmod 700 f/d; chmod 755 other"),
+]
+
+RACES = EXCHANGED + BOTH + CHANGED + MOVED + PIPES + TAKEN + MODES

@@ -1,5 +1,5 @@
 -- What one update of the shared folder could not write.
-use Rattle.std.specs.Prelude.{List, [], ◌∷◌, ◌++◌, map, filter, is_err, Bool, true, false, ◌&&◌, not, ◌==◌, Option, Some, None, if◌then◌else◌, length}
+use Rattle.std.specs.Prelude.{List, [], ◌∷◌, ◌++◌, map, filter, is_err, Bool, true, false, ◌&&◌, not, ◌==◌, Option, Some, None, if◌then◌else◌, length, string_bytes}
 use Rattle.std.specs.List.{list_any}
 use Rattle.ados_text.specs.Text.{Bytes}
 use Rattle.ados_ram.specs.declared.entries.Body.{Body}
@@ -7,7 +7,7 @@ use Rattle.ados_ram.specs.declared.entries.Body.TheVariants.{Directory, File}
 use Rattle.ados_share.specs.declared.account.Moment.{Moment}
 use Rattle.ados_share.specs.declared.account.Moment.TheVariants.{Meanwhile, Start, End}
 use Rattle.ados_share.specs.declared.syncs.Attempt.{Attempt}
-use Rattle.ados_share.specs.declared.syncs.FreshFile.{FreshFile}
+use Rattle.ados_share.specs.declared.syncs.NamedFile.{NamedFile}
 use Rattle.ados_transfer.specs.declared.here.Here.{Here}
 use Rattle.ados_transfer.specs.declared.here.Here.TheVariants.{Absent, Directory as Folder, File as Seen, Large, Foreign, Unread}
 use Rattle.ados_transfer.specs.Within.{is_beginning, is_substring}
@@ -32,25 +32,34 @@ abbrev pub with_bytes_of : List Bytes → Body → List Bytes
 with_bytes_of all Directory = all
 with_bytes_of all (File bytes) = all ++ bytes ∷ []
 
+-- the paths of those files, with this one
+abbrev pub with_path_of : List Bytes → Bytes → Body → List Bytes
+with_path_of all path Directory = all
+with_path_of all path (File bytes) = all ++ path ∷ []
+
 -- the path of the first object that could not be written, given one that is never written: a directory of that kind does not count
 abbrev pub path_left_out : Option Bytes → Bytes → Body → Option Bytes
 path_left_out old path Directory = old
 path_left_out old path (File bytes) = first_path old path
 
 -- the files that were written and that a power cut may empty, with this one; one without bytes is none of them
-abbrev pub with_fresh : List FreshFile → FreshFile → List FreshFile
+abbrev pub with_fresh : List NamedFile → NamedFile → List NamedFile
 with_fresh all file = if length file.bytes == 0 then all else all ++ file ∷ []
 
 -- the contents of files
-abbrev pub contents_of : List FreshFile → List Bytes
+abbrev pub contents_of : List NamedFile → List Bytes
 contents_of files = map (λ file. file.bytes) files
 
+-- the paths of files
+abbrev pub paths_of : List NamedFile → List Bytes
+paths_of files = map (λ file. string_bytes file.path) files
+
 -- the files that were to be brought to the disk
-abbrev pub files_of : List Attempt → List FreshFile
+abbrev pub files_of : List Attempt → List NamedFile
 files_of attempts = map (λ attempt. attempt.file) attempts
 
 -- those of them for which that failed
-abbrev pub failed_files : List Attempt → List FreshFile
+abbrev pub failed_files : List Attempt → List NamedFile
 failed_files attempts = files_of (filter (λ attempt. is_err attempt.outcome) attempts)
 
 -- the bytes are not empty, and occur in one of the files that could not be written

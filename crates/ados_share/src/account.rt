@@ -3,12 +3,13 @@ ghost use Rattle.std.specs.Prelude.{◌≡◌, ◌++◌, ◌∷◌, ◌+◌, ◌
 ghost use Rattle.std.specs.BTreeMap.{get_by_text};
 ghost use Rattle.std.specs.List.{list_any};
 ghost use Rattle.std.specs.Option.{option_map, is_some};
-ghost use Rattle.ados_share.specs.Account.{first_path, is_in_unwritten, path_left_out, with_bytes_of, with_fresh};
+ghost use Rattle.ados_share.specs.Account.{contents_of, first_path, is_in_unwritten, path_left_out, paths_of, with_bytes_of, with_fresh, with_path_of};
 ghost use Rattle.ados_transfer.specs.Within.{is_substring};
 
 use crate::left_out::{LeftOut, Reason};
 use crate::moves::Destination;
-use crate::syncs::FreshFile;
+use crate::reports::with_more;
+use crate::syncs::NamedFile;
 use ados_ram::{Body, Entry, FileBytes};
 use ados_text::NoMemory;
 use ados_transfer::{Manner, Record, Rights, TransferFault, Volumes, is_part};
@@ -37,10 +38,10 @@ pub struct Account {
     pub left_out: Vec<LeftOut>,
     /// The path of the first object that could not be written.
     pub unwritten: Option<String>,
-    /// The path of the first object that the system refused to write.
+    /// The path of the first object because of which no program starts.
     pub refused: Option<String>,
-    /// The contents of the files that could not be written.
-    pub bytes: Vec<FileBytes>,
+    /// The files that could not be written.
+    pub unwritten_files: Vec<NamedFile>,
     /// The path of the first object that is not deleted because of that.
     pub held: Option<String>,
     /// How many more are not deleted.
@@ -54,9 +55,9 @@ pub struct Account {
     /// The permissions of files that the script moved, and of folders of which it made copies, by the keys of their places now.
     pub moved: BTreeMap<String, Manner>,
     /// The files that were written, and that a power cut may empty.
-    pub fresh: Vec<FreshFile>,
+    pub fresh: Vec<NamedFile>,
     /// Those of them that could not be brought to the disk.
-    pub unsynced: Vec<FreshFile>,
+    pub unsynced: Vec<NamedFile>,
 }
 
 /// An object of the folder that was moved out of the way of another one.
@@ -83,7 +84,7 @@ impl Account {
             left_out: Vec::new(alloc),
             unwritten: None,
             refused: None,
-            bytes: Vec::new(alloc),
+            unwritten_files: Vec::new(alloc),
             held: None,
             more: 0,
             aside: Vec::new(alloc),
@@ -104,8 +105,9 @@ impl Account {
     pub fn add_left_out(&mut self, one: LeftOut, entry: &Entry) -> Result<(), TransferFault>
         ensures left_out { OnOk result (self.new.left_out.items ≡ self.old.left_out.items ++ one ∷ []) }
         ensures unwritten { OnOk result (option_map string_bytes self.new.unwritten ≡ path_left_out (option_map string_bytes self.old.unwritten) (string_bytes one.path) entry.now.body) }
-        ensures bytes { OnOk result (self.new.bytes.items ≡ with_bytes_of self.old.bytes.items entry.now.body) }
-        ensures rest { self.new ≡ record self.old { unwritten = self.new.unwritten; bytes = self.new.bytes; left_out = self.new.left_out } }
+        ensures bytes { OnOk result (contents_of self.new.unwritten_files.items ≡ with_bytes_of (contents_of self.old.unwritten_files.items) entry.now.body) }
+        ensures paths { OnOk result (paths_of self.new.unwritten_files.items ≡ with_path_of (paths_of self.old.unwritten_files.items) (string_bytes one.path) entry.now.body) }
+        ensures rest { self.new ≡ record self.old { unwritten = self.new.unwritten; unwritten_files = self.new.unwritten_files; left_out = self.new.left_out } }
     {
         if !entry.is_directory() {
             self.add_unwritten_entry(one.path.as_str(), entry)?;
@@ -151,7 +153,7 @@ impl Account {
         Ok(())
     }
 
-    /// Notes that the system refused to write an object: no program starts after the update.
+    /// Notes that an object is not written, for whatever reason, so that a program could do harm: none starts after the update.
     pub fn refuse(&mut self, path: &str) -> Result<(), TransferFault>
         ensures refused { OnOk result (option_map string_bytes self.new.refused ≡ first_path (option_map string_bytes self.old.refused) path.now) }
         ensures unchanged { OnErr result (self.new ≡ self.old) }
@@ -166,24 +168,27 @@ impl Account {
     /// Notes that the Shell holds this entry, which is not written.
     pub fn add_unwritten_entry(&mut self, path: &str, entry: &Entry) -> Result<(), TransferFault>
         ensures unwritten { OnOk result (option_map string_bytes self.new.unwritten ≡ first_path (option_map string_bytes self.old.unwritten) path.now) }
-        ensures bytes { OnOk result (self.new.bytes.items ≡ with_bytes_of self.old.bytes.items entry.now.body) }
+        ensures bytes { OnOk result (contents_of self.new.unwritten_files.items ≡ with_bytes_of (contents_of self.old.unwritten_files.items) entry.now.body) }
+        ensures paths { OnOk result (paths_of self.new.unwritten_files.items ≡ with_path_of (paths_of self.old.unwritten_files.items) path.now entry.now.body) }
         ensures unchanged { OnErr result (self.new.unwritten ≡ self.old.unwritten) }
-        ensures rest { self.new ≡ record self.old { unwritten = self.new.unwritten; bytes = self.new.bytes } }
+        ensures rest { self.new ≡ record self.old { unwritten = self.new.unwritten; unwritten_files = self.new.unwritten_files } }
     {
         if let Body::File(bytes) = &entry.body {
-            self.bytes.push(bytes.clone()?)?;
+            let path = String::from_str(self.alloc, path)?;
+            let bytes = bytes.clone()?;
+            self.unwritten_files.push(NamedFile { path, bytes })?;
         }
         self.add_unwritten(path)
     }
 
     /// These bytes are in a file that is not written.
     pub fn is_in_unwritten(&self, bytes: &FileBytes) -> Result<bool, NoMemory>
-        ensures { IfOk result (λ is. is ≡ is_in_unwritten self.now.bytes.items bytes.now) }
+        ensures { IfOk result (λ is. is ≡ is_in_unwritten (contents_of self.now.unwritten_files.items) bytes.now) }
     {
         if bytes.len() == 0 {
             return Ok(false);
         }
-        is_in_any(self.alloc, bytes, self.bytes.as_slice())
+        is_in_any(self.alloc, bytes, self.unwritten_files.as_slice())
     }
 
     /// Notes that an object is not deleted.
@@ -220,7 +225,7 @@ impl Account {
     }
 
     /// Notes that a file was written. One without bytes has nothing that a power cut may take.
-    pub fn add_fresh(&mut self, file: FreshFile) -> Result<(), TransferFault>
+    pub fn add_fresh(&mut self, file: NamedFile) -> Result<(), TransferFault>
         ensures fresh { OnOk result (self.new.fresh.items ≡ with_fresh self.old.fresh.items file) }
         ensures rest { self.new ≡ record self.old { fresh = self.new.fresh } }
     {
@@ -232,7 +237,7 @@ impl Account {
     }
 
     /// The files that were written; none of them is noted any longer.
-    pub fn take_fresh(&mut self) -> Vec<FreshFile>
+    pub fn take_fresh(&mut self) -> Vec<NamedFile>
         ensures all { result.items ≡ self.old.fresh.items }
         ensures none { self.new.fresh.items ≡ [] }
         ensures rest { self.new ≡ record self.old { fresh = self.new.fresh } }
@@ -262,24 +267,17 @@ impl Account {
         };
         let unwritten = volumes.shown(unwritten.as_str())?;
         let held = volumes.shown(held.as_str())?;
-        if self.more == 0 {
-            return Ok(Some(format!(in self.alloc;
-                "not deleted, since {unwritten} is not written: {held}"
-            )?));
-        }
-        let more = self.more;
-        Ok(Some(format!(in self.alloc;
-            "not deleted, since {unwritten} is not written: {held} and {more} more"
-        )?))
+        let line = format!(in self.alloc; "not deleted, since {unwritten} is not written: {held}")?;
+        Ok(Some(with_more(self.alloc, line, self.more)?))
     }
 }
 
 // The bytes are in one of the files.
-fn is_in_any(alloc: Global, bytes: &FileBytes, files: &[FileBytes]) -> Result<bool, NoMemory>
-    ensures { IfOk result (λ is. is ≡ list_any (is_substring bytes.now) files.now) }
+fn is_in_any(alloc: Global, bytes: &FileBytes, files: &[NamedFile]) -> Result<bool, NoMemory>
+    ensures { IfOk result (λ is. is ≡ list_any (is_substring bytes.now) (contents_of files.now)) }
 {
     for file in files {
-        if is_part(alloc, bytes, file)? {
+        if is_part(alloc, bytes, &file.bytes)? {
             return Ok(true);
         }
     }

@@ -3,11 +3,10 @@
 use crate::account::{Account, Aside};
 use crate::departure::{Departures, Stage, move_aside, own_path};
 use crate::mirror::Mirror;
+use crate::modes::set_folder_mode;
 use ados_ram::Ram;
 use ados_transfer::{Below, Here, Record, Stamp, TransferFault, place_new};
-use std::fs::Permissions;
 use std::io::ErrorKind;
-use std::os::unix::fs::PermissionsExt;
 use std::rt::Files;
 use std::time::Clock;
 use std::{fs, io};
@@ -167,17 +166,18 @@ fn placed_back<R: AllocGlobal + Files>(
     mode: u32,
 ) -> io::Result<Option<Stamp>> {
     let whole = own_path(rt, record.path.as_str())?;
-    match beside {
+    let found = match beside {
         Some(beside) => {
             let _ = fs::remove_dir(rt, whole.as_str());
             if !place_new(rt, beside.as_str(), whole.as_str())? {
                 return Ok(None);
             }
+            fs::symlink_metadata(rt, whole.as_str())?
         }
         None => {
             fs::create_dir(rt, whole.as_str())?;
-            fs::set_permissions(rt, whole.as_str(), Permissions::from_mode(mode))?;
+            set_folder_mode(rt, whole.as_str(), mode)?
         }
-    }
-    Ok(Some(Stamp::of(&fs::symlink_metadata(rt, whole.as_str())?)))
+    };
+    Ok(Some(Stamp::of(&found)))
 }

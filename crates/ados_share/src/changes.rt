@@ -74,7 +74,11 @@ impl Mirror {
         } = disappearance;
         if decision == Decision::Conflict {
             let path = arrival.path.as_str();
-            self.reports.report_kept(key, path, false)?;
+            if is_foreign {
+                self.reports.report_foreign(key, path)?;
+            } else {
+                self.reports.report_kept(key, path, false)?;
+            }
             self.overrule(plan.files(), key, path, entry.is_some() && !is_foreign)?;
         }
         match (decision, entry) {

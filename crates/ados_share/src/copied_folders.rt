@@ -4,7 +4,7 @@ use crate::account::Account;
 use crate::departure::Departures;
 use crate::mirror::Mirror;
 use ados_ram::{Entry, Ram};
-use ados_transfer::{Manner, Record, TransferFault, folder_of, lower};
+use ados_transfer::{Manner, Record, TransferFault, lower};
 use std::rt::Files;
 
 // A new file, and the file of the folder that has its bytes.
@@ -31,7 +31,7 @@ impl Mirror {
             let Some(bytes) = departure.entry.and_then(Entry::bytes) else {
                 continue;
             };
-            if bytes.len() == 0 || !is_open(departures, account, folder_of(key)) {
+            if bytes.len() == 0 || open_folder(departures, account, key).is_none() {
                 continue;
             }
             if let Some(original) = self.original_of(files, bytes) {
@@ -84,12 +84,12 @@ impl Mirror {
         let (mut key, mut path) = (pair.key, pair.original.path.as_str());
         for _ in 0..pair.key.len() {
             let (Some((directory, name)), Some((folder, old_name))) = (
-                key.rsplit_once('/'),
+                open_folder(departures, account, key),
                 path.rsplit_once('/'),
             ) else {
                 return Ok(());
             };
-            if !name.eq_ignore_ascii_case(old_name) || !is_open(departures, account, directory) {
+            if !name.eq_ignore_ascii_case(old_name) {
                 return Ok(());
             }
             if let Some(rights) = self.rights_at(rt, folder, directory)? {
@@ -108,12 +108,17 @@ impl Mirror {
     }
 }
 
-// An object of this key is a new directory that is written, of whose permissions nothing is known yet.
-fn is_open(departures: &Departures<'_>, account: &Account, key: &str) -> bool {
-    let Some(departure) = departures.by_key.get(key) else {
-        return false;
-    };
-    departure.is_new
+// The key of the directory of an object and the object's name in it, if that is a new directory that is written, of whose permissions
+// nothing is known yet.
+fn open_folder<'k>(
+    departures: &Departures<'_>,
+    account: &Account,
+    key: &'k str,
+) -> Option<(&'k str, &'k str)> {
+    let (directory, name) = key.rsplit_once('/')?;
+    let departure = departures.by_key.get(directory)?;
+    let is_open = departure.is_new
         && departure.entry.is_some_and(Entry::is_directory)
-        && !account.moved.contains_key(key)
+        && !account.moved.contains_key(directory);
+    is_open.then_some((directory, name))
 }

@@ -6,6 +6,7 @@ ghost use Rattle.ados_text.specs.Text.{Bytes};
 ghost use Rattle.ados_transfer.specs.Paths.{IsBelow, path_in};
 ghost use Rattle.ados_share.specs.Records.{has_key};
 
+use crate::modes::set_folder_mode;
 use crate::moves::Elsewhere;
 use ados_ram::Entry;
 use ados_transfer::{
@@ -14,9 +15,7 @@ use ados_transfer::{
 };
 use std::alloc::Global;
 use std::collections::BTreeMap;
-use std::fs::Permissions;
 use std::io::ErrorKind;
-use std::os::unix::fs::PermissionsExt;
 use std::rt::Files;
 use std::{fs, io};
 
@@ -163,7 +162,7 @@ pub fn write_entry<R: AllocGlobal + Files>(
         if let (Here::Absent, Some(manner)) = (draft.here, draft.manner) {
             let own = Owner::of(&fs::symlink_metadata(rt, made.as_str())?);
             if let Some(mode) = manner.folder_mode(own) {
-                fs::set_permissions(rt, made.as_str(), Permissions::from_mode(mode))?;
+                return Ok(Some(Stamp::of(&set_folder_mode(rt, made.as_str(), mode)?)));
             }
         }
         return Ok(Some(Stamp::of(&fs::symlink_metadata(rt, made.as_str())?)));

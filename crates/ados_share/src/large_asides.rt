@@ -3,7 +3,7 @@
 use crate::account::{Account, Aside};
 use crate::large_moves::Moved;
 use crate::mirror::Mirror;
-use crate::renaming::{Renaming, renamed};
+use crate::renaming::renamed;
 use ados_ram::Ram;
 use ados_transfer::{Here, Record, TransferFault, lower};
 use std::io::ErrorKind;
@@ -78,7 +78,7 @@ impl Mirror {
             return Ok(Some(aside));
         }
         match renamed(rt, beside.as_str(), path.as_str(), &aside.record.stamp)? {
-            Renaming::Done(stamp) => {
+            Some(stamp) => {
                 let record = aside.record;
                 self.keep(
                     key,
@@ -90,7 +90,7 @@ impl Mirror {
                 )?;
                 Ok(None)
             }
-            Renaming::Left | Renaming::Refused => Ok(Some(aside)),
+            None => Ok(Some(aside)),
         }
     }
 
@@ -112,8 +112,8 @@ impl Mirror {
         };
         let path = record.path.clone()?;
         match renamed(rt, beside.as_str(), path.as_str(), &record.stamp)? {
-            Renaming::Done(stamp) => self.keep(key, Record { stamp, ..record }),
-            Renaming::Left | Renaming::Refused => {
+            Some(stamp) => self.keep(key, Record { stamp, ..record }),
+            None => {
                 self.stand_ins.is_lost = true;
                 account.refuse(path.as_str())?;
                 self.report_aside(beside, path.as_str(), account)

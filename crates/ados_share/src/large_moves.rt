@@ -2,7 +2,8 @@
 
 use crate::account::{Account, Aside};
 use crate::mirror::Mirror;
-use crate::renaming::{Renaming, renamed, restrict};
+use crate::modes::restrict;
+use crate::renaming::{blocked_text, renamed};
 use ados_ram::{Entry, Place, Ram};
 use ados_transfer::{
     Last, Record, Stamp, TransferFault, folder_of, is_descendant, lower, own_entry,
@@ -93,7 +94,7 @@ impl Mirror {
             }
         }
         if !account.is_meanwhile() {
-            self.report_blocked(files, account)?;
+            self.report_blocked(rt, files, account)?;
         }
         Ok(first || is_aside || last)
     }
@@ -140,7 +141,7 @@ impl Mirror {
         // One may free the name of another one.
         for _ in 0..count {
             for moved in self.moved(files)? {
-                if let Renaming::Done(_) = self.rename_one(rt, &moved)? {
+                if self.rename_one(rt, &moved)? {
                     is_any = true;
                 }
             }
@@ -148,30 +149,29 @@ impl Mirror {
         Ok(is_any)
     }
 
-    // Renames a large file, if it is still the same and its new name is free.
+    // Renames a large file, if it is still the same and its new name is free. Gives whether that was done.
     fn rename_one<R: AllocGlobal + Files>(
         &mut self,
         rt: &R,
         moved: &Moved,
-    ) -> Result<Renaming, TransferFault> {
+    ) -> Result<bool, TransferFault> {
         let Some(path) = &moved.new_path else {
-            return Ok(Renaming::Left);
+            return Ok(false);
         };
         let new_key = lower(self.alloc, path.as_str())?;
         if !self.may_have(new_key.as_str()) || !self.knows_folder(folder_of(new_key.as_str())) {
-            return Ok(Renaming::Left);
+            return Ok(false);
         }
         let rights = self.rights_at(rt, moved.path.as_str(), new_key.as_str())?;
-        let renaming = renamed(rt, moved.path.as_str(), path.as_str(), &moved.stamp)?;
-        let Renaming::Done(stamp) = renaming else {
-            return Ok(renaming);
+        let Some(stamp) = renamed(rt, moved.path.as_str(), path.as_str(), &moved.stamp)? else {
+            return Ok(false);
         };
         let stamp = match rights {
             Some(rights) => restrict(rt, path.as_str(), rights, stamp),
             None => stamp,
         };
         let Some((_, record)) = self.records.remove_entry(moved.key.as_str()) else {
-            return Ok(Renaming::Left);
+            return Ok(false);
         };
         self.forget(moved.key.as_str());
         let path = path.clone()?;
@@ -183,7 +183,7 @@ impl Mirror {
                 ..record
             },
         )?;
-        Ok(Renaming::Done(stamp))
+        Ok(true)
     }
 
     // A large file may get the name of this key: it is shared, and no object that is known has it.
@@ -221,16 +221,21 @@ impl Mirror {
 
     // Reports the large files that could not be renamed as their stand-ins were. One whose stand-in is outside of the directory has no
     // name to get. While the new name of one is left out no program starts: it may delete the file under the old one.
-    fn report_blocked(&mut self, files: &Ram, account: &mut Account) -> Result<(), TransferFault> {
+    fn report_blocked<R: AllocGlobal + Files>(
+        &mut self,
+        rt: &R,
+        files: &Ram,
+        account: &mut Account,
+    ) -> Result<(), TransferFault> {
         for moved in &self.moved(files)? {
             if let Some(new) = &moved.new_path {
                 let key = lower(self.alloc, new.as_str())?;
-                if self.reason_left_out(key.as_str()).is_some() {
+                let reason = self.reason_left_out(key.as_str());
+                if reason.is_some() {
                     account.refuse(new.as_str())?;
                 }
                 self.stand_ins.is_blocked = true;
-                let new = self.volumes.shown(new.as_str())?;
-                let text = format!(in self.alloc; "cannot rename to {new}")?;
+                let text = blocked_text(rt, &self.volumes, new.as_str(), reason)?;
                 self.reports
                     .report_once(text.as_str(), moved.path.as_str())?;
             }

@@ -7,6 +7,7 @@ ghost use Rattle.ados_share.specs.Contents.{if_file_of, is_file_of};
 use crate::departure::{Departure, Departures};
 use crate::mirror::Mirror;
 use crate::moves::{Destination, Elsewhere};
+use crate::reports::with_more;
 use ados_ram::{FileBytes, Place, Ram};
 use ados_transfer::{
     Here, Last, Record, Records, Rights, TransferFault, Volumes, is_descendant, is_one_name,
@@ -68,10 +69,8 @@ impl Waiting {
         let path = volumes.shown(first.path.as_str())?;
         let elsewhere = &first.elsewhere;
         let more = self.by_key.len().saturating_sub(1);
-        if more == 0 {
-            return Ok(Some(format!(in self.alloc; "not deleted, since {elsewhere}: {path}")?));
-        }
-        Ok(Some(format!(in self.alloc; "not deleted, since {elsewhere}: {path} and {more} more")?))
+        let line = format!(in self.alloc; "not deleted, since {elsewhere}: {path}")?;
+        Ok(Some(with_more(self.alloc, line, more)?))
     }
 }
 

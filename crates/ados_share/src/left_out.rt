@@ -1,7 +1,7 @@
 //! What the Shell has and an update never writes to the folder of a share, and why.
-ghost use Rattle.std.specs.Prelude.{◌≡◌, IfOk, None, Some, true, false};
+ghost use Rattle.std.specs.Prelude.{◌≡◌, IfOk, OnOk, None, Some, true, false};
 ghost use Rattle.std.specs.List.{list_any};
-ghost use Rattle.ados_share.specs.LeftOut.{bytes_in, is_taken, is_taken_twice};
+ghost use Rattle.ados_share.specs.LeftOut.{bytes_in, is_taken, is_taken_twice, twice_after};
 
 use crate::account::Account;
 use crate::mirror::Mirror;
@@ -98,14 +98,12 @@ impl Mirror {
     }
 
     // Keeps which names are taken twice. Where a look could not see, that is so as it was before.
-    pub(crate) fn note_twice(&mut self, look: &mut Look) -> Result<(), TransferFault> {
-        let mut twice = mem::replace(&mut look.twice, Vec::new(self.alloc));
-        for key in mem::replace(&mut self.twice, Vec::new(self.alloc)) {
-            if look.is_hidden(key.as_str()) {
-                twice.push(key)?;
-            }
-        }
-        self.twice = twice;
+    pub(crate) fn note_twice(&mut self, look: &mut Look) -> Result<(), TransferFault>
+        ensures { OnOk result (self.new.twice.items ≡ twice_after look.old.twice.items look.old.unread.items self.old.twice.items) }
+    {
+        let found = mem::replace(&mut look.twice, Vec::new(self.alloc));
+        let before = mem::replace(&mut self.twice, Vec::new(self.alloc));
+        self.twice = twice_after(look, found, before)?;
         Ok(())
     }
 
@@ -124,11 +122,9 @@ impl Mirror {
                 refused = Some(one.path.clone()?);
             }
         }
-        if let Some(unwritten) = &account.unwritten {
-            for bytes in &account.bytes {
-                if refused.is_none() && self.has_copy(files, bytes) {
-                    refused = Some(unwritten.clone()?);
-                }
+        for file in &account.unwritten_files {
+            if refused.is_none() && self.has_copy(files, &file.bytes) {
+                refused = Some(file.path.clone()?);
             }
         }
         match refused {
@@ -141,6 +137,23 @@ impl Mirror {
     fn has_copy(&self, files: &Ram, bytes: &FileBytes) -> bool {
         bytes.len() > 0 && self.original_of(files, bytes).is_some()
     }
+}
+
+// The keys that are taken twice after a look: those that it found, and those before that it could not see.
+fn twice_after(
+    look: &Look,
+    found: Vec<String>,
+    before: Vec<String>,
+) -> Result<Vec<String>, NoMemory>
+    ensures { IfOk result (λ twice. twice.items ≡ twice_after found.items look.now.unread.items before.items) }
+{
+    let mut twice = found;
+    for key in before {
+        if look.is_hidden(key.as_str()) {
+            twice.push(key)?;
+        }
+    }
+    Ok(twice)
 }
 
 // An object of this key is one of two with the key `twice`, or below one, and none of those is known.

@@ -22,6 +22,7 @@ mod large_moves;
 mod last_copies;
 mod left_out;
 mod mirror;
+mod modes;
 mod moves;
 mod permissions;
 mod places;

@@ -9,7 +9,7 @@ use crate::contents::Contents;
 use crate::last_copies::Waiting;
 use crate::moves::Moves;
 use crate::reports::Reports;
-use crate::syncs::FreshFile;
+use crate::syncs::NamedFile;
 use ados_ram::Ram;
 use ados_transfer::{
     Last, MirrorOptions, Record, Records, Stamp, StandIns, TransferFault, Volume, Volumes, Watch,
@@ -37,7 +37,7 @@ pub struct Mirror {
     // The paths of temporary files that could not be removed.
     pub(crate) temporaries: Vec<String>,
     // What could not be brought to the disk at the last update.
-    pub(crate) unsynced: Vec<FreshFile>,
+    pub(crate) unsynced: Vec<NamedFile>,
     pub(crate) reports: Reports,
     // The keys of names that were taken twice in the folders at the last look.
     pub(crate) twice: Vec<String>,
@@ -47,7 +47,7 @@ pub struct Mirror {
     pub(crate) is_holding: bool,
     // At the last comparison the Shell had something that was not written.
     pub(crate) is_lacking: bool,
-    // The first object that the system refused to write at the last update: no program starts.
+    // The first object because of which no program starts after the last update.
     pub(crate) refused: Option<String>,
     // The first object of the Shell that gave way to this machine's at this look.
     pub(crate) overruled: Option<String>,

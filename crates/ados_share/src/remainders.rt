@@ -3,6 +3,7 @@
 use crate::departure::own_path;
 use crate::mirror::Mirror;
 use crate::moves::Elsewhere;
+use crate::reports::with_more;
 use ados_names::is_name;
 use ados_text::Text;
 use ados_transfer::{
@@ -40,10 +41,8 @@ impl Remainder {
         let name = volumes.shown(name)?;
         let original = volumes.shown(self.original.as_str())?;
         let elsewhere = &self.elsewhere;
-        if more == 0 {
-            return Ok(format!(in alloc; "kept as {name}, since {elsewhere}: {original}")?);
-        }
-        Ok(format!(in alloc; "kept as {name}, since {elsewhere}: {original} and {more} more")?)
+        let line = format!(in alloc; "kept as {name}, since {elsewhere}: {original}")?;
+        with_more(alloc, line, more)
     }
 
     // Gives it a name of its own: beside the place of the file, or else in the folder of its volume. Gives the name; that is the

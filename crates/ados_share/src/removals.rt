@@ -8,7 +8,8 @@ use crate::account::{Account, Moment};
 use crate::departure::{Departure, remove};
 use crate::mirror::Mirror;
 use ados_ram::Ram;
-use ados_transfer::{Below, Here, Removal, Terms, TransferFault, decide_removal};
+use ados_transfer::{Below, Here, Removal, Terms, TransferFault, decide_removal, lower, step_into};
+use std::fs;
 use std::io::ErrorKind;
 use std::rt::Files;
 
@@ -122,6 +123,31 @@ impl Mirror {
         }
     }
 
+    // The first object in a folder, by its name, that the Shell does not know; nothing if it can't be told.
+    fn first_unknown<R: AllocGlobal + Files>(
+        &self,
+        rt: &Below<'_, R>,
+        folder: &str,
+    ) -> Result<Option<String>, TransferFault> {
+        let Ok(entries) = fs::read_dir(rt, folder) else {
+            return Ok(None);
+        };
+        let mut first = None;
+        for entry in entries {
+            let Ok(entry) = entry else {
+                continue;
+            };
+            let path = step_into(self.alloc, folder, entry.file_name())?;
+            let key = lower(self.alloc, path.as_str())?;
+            if !self.records.contains_key(key.as_str())
+                && first.as_ref().is_none_or(|first| path < *first)
+            {
+                first = Some(path);
+            }
+        }
+        Ok(first)
+    }
+
     // Deletes an object on this machine; one that is in the way of another one is moved aside.
     fn delete<R: AllocGlobal + Files>(
         &mut self,
@@ -158,7 +184,8 @@ impl Mirror {
             Ok(false) => self.reports.report_kept(key, path, false),
             Err(error) if error.kind() == ErrorKind::DirectoryNotEmpty => {
                 self.forget(key);
-                self.reports.report_not_empty(key, path)
+                let first = self.first_unknown(rt, path)?;
+                self.reports.report_not_empty(key, path, first.as_deref())
             }
             Err(error) => self.not_done(&error, "cannot delete", key, path),
         }

@@ -1,60 +1,64 @@
 //! How a large file is given another path.
 
 use crate::departure::own_path;
-use ados_transfer::{Rights, Stamp, TransferFault, is_immovable, place_new};
-use std::fs::Permissions;
+use crate::left_out::Reason;
+use ados_transfer::{Stamp, TransferFault, Volumes, is_immovable, place_new};
+use std::fs::Metadata;
 use std::io::ErrorKind;
-use std::os::unix::fs::PermissionsExt;
 use std::rt::Files;
 use std::{fs, io};
 
-// The rights of the user, the group and others.
-const ALL: u32 = 0o777;
-
-/// What comes of giving a file another path.
-#[derive(Clone, Copy)]
-pub enum Renaming {
-    /// It has it, with this stamp.
-    Done(Stamp),
-    /// It is another file by now, or something has the path.
-    Left,
-    /// The system refused it.
-    Refused,
-}
-
-/// Gives a file a path below the folder that nothing has, if it is the file of this stamp. If it was changed since, it keeps the old
-/// stamp, so that the change is seen.
+/// Gives a file a path below the folder that nothing has, if it is the file of this stamp, and gives the stamp that it has there. If it was
+/// changed since, it keeps the old stamp, so that the change is seen. Nothing if it is another file by now, something has the path, or the
+/// system refused it.
 pub fn renamed<R: AllocGlobal + Files>(
     rt: &R,
     from: &str,
     path: &str,
     stamp: &Stamp,
-) -> Result<Renaming, TransferFault> {
+) -> Result<Option<Stamp>, TransferFault> {
     match try_rename(rt, from, path, stamp) {
-        Ok(Some(stamp)) => Ok(Renaming::Done(stamp)),
-        Ok(None) => Ok(Renaming::Left),
+        Ok(renamed) => Ok(renamed),
         Err(error) if error.kind() == ErrorKind::OutOfMemory => Err(TransferFault::NoMemory),
-        Err(_) => Ok(Renaming::Refused),
+        Err(_) => Ok(None),
     }
 }
 
-/// Leaves a file that was renamed no more than these rights, and gives the stamp that it has then. If it was changed before, it keeps the
-/// old stamp.
-pub fn restrict<R: Files>(rt: &R, path: &str, rights: Rights, stamp: Stamp) -> Stamp {
-    let Ok(found) = fs::symlink_metadata(rt, path) else {
-        return stamp;
-    };
-    if Rights::of(&found).mode & ALL == rights.mode & ALL || !Stamp::of(&found).is_same(&stamp) {
-        return stamp;
+/// What a line says of a file that could not be given a path: which one, and why, if it is left out for this reason or something has it.
+pub fn blocked_text<R: AllocGlobal + Files>(
+    rt: &R,
+    volumes: &Volumes,
+    path: &str,
+    reason: Option<Reason>,
+) -> Result<String, TransferFault> {
+    let shown = volumes.shown(path)?;
+    let alloc = rt.alloc();
+    if let Some(reason) = reason {
+        return Ok(format!(in alloc; "cannot rename to {shown}, since {reason}")?);
     }
-    let permissions = Permissions::from_mode(rights.mode & ALL);
-    match fs::set_permissions(rt, path, permissions).and_then(|_| fs::symlink_metadata(rt, path)) {
-        Ok(found) => Stamp::of(&found),
-        Err(_) => stamp,
+    match fs::symlink_metadata(rt, path) {
+        Ok(found) => {
+            let holder = kind_of(&found);
+            Ok(format!(in alloc; "cannot rename to {shown}, since {holder} has that name")?)
+        }
+        Err(_) => Ok(format!(in alloc; "cannot rename to {shown}")?),
     }
 }
 
-// The same, with the error, and with the stamp if it was done.
+// What was looked at, for a line.
+fn kind_of(found: &Metadata) -> &'static str {
+    if found.is_dir() {
+        "a folder"
+    } else if found.is_file() {
+        "a file"
+    } else if found.is_symlink() {
+        "a link"
+    } else {
+        "a pipe or a device"
+    }
+}
+
+// The same, with the error.
 fn try_rename<R: AllocGlobal + Files>(
     rt: &R,
     from: &str,

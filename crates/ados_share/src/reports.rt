@@ -127,9 +127,25 @@ impl Reports {
         self.report_stays(key, text, path)
     }
 
-    /// Reports that a folder stays, since more is in it than the Shell knows, once until that is settled.
-    pub fn report_not_empty(&mut self, key: &str, path: &str) -> Result<(), TransferFault> {
-        self.report_stays(key, "kept, since it is not empty", path)
+    /// Reports that what is no file and no folder stays, once until that is settled: a change of the script is lost.
+    pub fn report_foreign(&mut self, key: &str, path: &str) -> Result<(), TransferFault> {
+        self.add_lost(key)?;
+        self.report_stays(key, "kept, since it is no file or folder", path)
+    }
+
+    /// Reports that a folder stays, since more is in it than the Shell knows, as this object, once until that is settled.
+    pub fn report_not_empty(
+        &mut self,
+        key: &str,
+        path: &str,
+        first: Option<&str>,
+    ) -> Result<(), TransferFault> {
+        let Some(first) = first else {
+            return self.report_stays(key, "kept, since it is not empty", path);
+        };
+        let first = self.volumes.shown(first)?;
+        let text = format!(in self.alloc; "kept, since {first} is in it")?;
+        self.report_stays(key, text.as_str(), path)
     }
 
     // Reports by this line that this machine's object stays, once until that is settled.
@@ -216,5 +232,13 @@ impl Reports {
             return Ok(());
         }
         self.report("cannot read", path)
+    }
+}
+
+/// A line that names the first of several objects, and tells how many more there are.
+pub fn with_more(alloc: Global, line: String, more: usize) -> Result<String, TransferFault> {
+    match more {
+        0 => Ok(line),
+        more => Ok(format!(in alloc; "{line} and {more} more")?),
     }
 }

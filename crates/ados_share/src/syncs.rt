@@ -16,22 +16,22 @@ use std::io::ErrorKind;
 use std::rt::Files;
 use std::{fs, io, mem};
 
-/// A file that an update wrote, and that a power cut may empty.
+/// A file by its path, and what it holds.
 #[derive(Drop)]
-pub struct FreshFile {
+pub struct NamedFile {
     /// Its path.
     pub path: String,
     /// What it holds.
     pub bytes: FileBytes,
 }
 
-impl FreshFile {
+impl NamedFile {
     // An equal value.
-    fn copy(&self) -> Result<FreshFile, NoMemory>
+    fn copy(&self) -> Result<NamedFile, NoMemory>
         ensures path { IfOk result (λ file. string_bytes file.path ≡ string_bytes self.now.path) }
         ensures bytes { IfOk result (λ file. file.bytes ≡ self.now.bytes) }
     {
-        Ok(FreshFile {
+        Ok(NamedFile {
             path: self.path.clone()?,
             bytes: self.bytes.copy()?,
         })
@@ -42,7 +42,7 @@ impl FreshFile {
 #[derive(Drop)]
 pub struct Attempt {
     /// The file.
-    pub file: FreshFile,
+    pub file: NamedFile,
     /// Whether it is there, and else why not.
     pub outcome: io::Result<()>,
 }
@@ -119,13 +119,13 @@ impl Mirror {
 
 impl Account {
     /// Notes files that could not be brought to the disk: each of them counts as not written.
-    pub fn add_unsynced(&mut self, files: Vec<FreshFile>) -> Result<(), TransferFault>
+    pub fn add_unsynced(&mut self, files: Vec<NamedFile>) -> Result<(), TransferFault>
         ensures unsynced { OnOk result (self.new.unsynced.items ≡ self.old.unsynced.items ++ files.items) }
-        ensures bytes { OnOk result (self.new.bytes.items ≡ self.old.bytes.items ++ contents_of files.items) }
-        ensures rest { self.new ≡ record self.old { unsynced = self.new.unsynced; bytes = self.new.bytes } }
+        ensures bytes { OnOk result (contents_of self.new.unwritten_files.items ≡ contents_of self.old.unwritten_files.items ++ contents_of files.items) }
+        ensures rest { self.new ≡ record self.old { unsynced = self.new.unsynced; unwritten_files = self.new.unwritten_files } }
     {
         for file in files {
-            self.bytes.push(file.bytes.copy()?)?;
+            self.unwritten_files.push(file.copy()?)?;
             self.unsynced.push(file)?;
         }
         Ok(())
@@ -139,7 +139,7 @@ impl Account {
         bytes: &FileBytes,
     ) -> io::Result<()>
         ensures written { OnOk result (self.new ≡ self.old) }
-        ensures rest { self.new ≡ record self.old { unsynced = self.new.unsynced; bytes = self.new.bytes } }
+        ensures rest { self.new ≡ record self.old { unsynced = self.new.unsynced; unwritten_files = self.new.unwritten_files } }
     {
         let mut failed = Vec::new(self.alloc);
         let mut outcome = Ok(());
@@ -159,7 +159,7 @@ impl Account {
 }
 
 // Tries to bring files to the disk, one after the other, whether or not that fails for those before.
-fn sync_all<R: AllocGlobal + Files>(rt: &R, files: Vec<FreshFile>) -> Result<Vec<Attempt>, NoMemory>
+fn sync_all<R: AllocGlobal + Files>(rt: &R, files: Vec<NamedFile>) -> Result<Vec<Attempt>, NoMemory>
     ensures each { IfOk result (λ attempts. files_of attempts.items ≡ files.items) }
 {
     let mut attempts = Vec::new(rt.alloc());
@@ -171,7 +171,7 @@ fn sync_all<R: AllocGlobal + Files>(rt: &R, files: Vec<FreshFile>) -> Result<Vec
 }
 
 // Those for which that failed.
-fn failed_files(alloc: Global, attempts: Vec<Attempt>) -> Result<Vec<FreshFile>, NoMemory>
+fn failed_files(alloc: Global, attempts: Vec<Attempt>) -> Result<Vec<NamedFile>, NoMemory>
     ensures { IfOk result (λ files. files.items ≡ failed_files attempts.items) }
 {
     let mut failed = Vec::new(alloc);

@@ -3,6 +3,7 @@
 use crate::account::Account;
 use crate::backups::Backup;
 use crate::mirror::Mirror;
+use crate::reports::with_more;
 use crate::syncs::write_synced;
 use ados_transfer::{Below, Look, Obstacle, TransferFault, no_memory, path_of};
 use std::rt::Files;
@@ -69,12 +70,9 @@ impl Mirror {
             return Ok(());
         };
         let text = first.obstacle.text();
-        if more == 0 {
-            return self.reports.report_once(text, first.path.as_str());
-        }
         let path = self.volumes.shown(first.path.as_str())?;
-        self.reports
-            .report_line(format!(in self.alloc; "{text}: {path} and {more} more")?)
+        let line = format!(in self.alloc; "{text}: {path}")?;
+        self.reports.report_line(with_more(self.alloc, line, more)?)
     }
 
     // Reports a temporary file that is left.

@@ -1,13 +1,13 @@
 //! How an object of the Shell's files is written to the folder of a share.
 ghost use Rattle.std.specs.Prelude.{◌≡◌, IfOk};
 ghost use Rattle.ados_ram.specs.Entry.{bytes_of};
-ghost use Rattle.ados_share.specs.Account.{is_moved_away};
+ghost use Rattle.ados_share.specs.Account.{contents_of, is_moved_away};
 
 use crate::account::Account;
 use crate::backups::needs_backup;
 use crate::departure::{Departure, Departures, write_entry};
 use crate::mirror::Mirror;
-use crate::syncs::FreshFile;
+use crate::syncs::NamedFile;
 use ados_ram::{Entry, Ram};
 use ados_text::NoMemory;
 use ados_transfer::{
@@ -81,7 +81,7 @@ impl Mirror {
                 if let Some(bytes) = draft.entry.bytes() {
                     let path = String::from_str(self.alloc, path)?;
                     let bytes = bytes.clone()?;
-                    account.add_fresh(FreshFile { path, bytes })?;
+                    account.add_fresh(NamedFile { path, bytes })?;
                 }
                 self.keep_written(rt, object, draft.entry, stamp)
             }
@@ -129,6 +129,9 @@ impl Mirror {
         let (key, path) = object;
         if !here.is_unread() {
             let is_large = self.records.get(key).is_some_and(Record::is_stand_in);
+            if !is_large && matches!(here, Here::Foreign) {
+                return self.reports.report_foreign(key, path);
+            }
             return self.reports.report_kept(key, path, is_large);
         }
         match check_readable(rt, path) {
@@ -181,7 +184,7 @@ impl Mirror {
 
 // What a file of this machine holds is in a file of the Shell that is not written, and the one that takes its place does not begin with it.
 fn is_moved_away(draft: &Draft<'_>, account: &Account) -> Result<bool, NoMemory>
-    ensures { IfOk result (λ is. is ≡ is_moved_away draft.now.here.now (bytes_of draft.now.entry.now) account.now.bytes.items) }
+    ensures { IfOk result (λ is. is ≡ is_moved_away draft.now.here.now (bytes_of draft.now.entry.now) (contents_of account.now.unwritten_files.items)) }
 {
     let Here::File { bytes, .. } = draft.here else {
         return Ok(false);

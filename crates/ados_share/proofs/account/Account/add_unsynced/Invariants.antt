@@ -8,5 +8,5 @@ invariant-loop-file l =
     (goal.iterator-loop-file).can_next l.file-iterator ×
     (goal.iterator-loop-file).is_finite l.file-iterator ×
     (l.self.unsynced.items ++ l.file-iterator.rest.items ≡ l.initial.self.unsynced.items ++ l.fn.files.items) ×
-    (l.self.bytes.items ++ contents_of l.file-iterator.rest.items ≡ l.initial.self.bytes.items ++ contents_of l.fn.files.items) ×
-    (l.self ≡ record l.initial.self { unsynced = l.self.unsynced; bytes = l.self.bytes })
+    (contents_of l.self.unwritten_files.items ++ contents_of l.file-iterator.rest.items ≡ contents_of l.initial.self.unwritten_files.items ++ contents_of l.fn.files.items) ×
+    (l.self ≡ record l.initial.self { unsynced = l.self.unsynced; unwritten_files = l.self.unwritten_files })
