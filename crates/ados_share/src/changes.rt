@@ -39,6 +39,7 @@ impl Mirror {
         };
         let here = self.look_at(rt, seen)?;
         let place = record.place.copy()?;
+        let is_renamed = matches!(record.last, Last::StandIn(_)) && place != self.place_of(key)?;
         let entry = plan.look(key, &place);
         let state = here.state(Some(record));
         let is_absent = state.is_absent();
@@ -51,6 +52,10 @@ impl Mirror {
             is_foreign: matches!(state, State::Foreign),
         };
         self.note_vanished(key, &here, entry)?;
+        if is_absent && is_renamed {
+            self.reports
+                .report_gone(key, disappearance.arrival.path.as_str())?;
+        }
         let is_over = self.plan_deletion(plan, key, disappearance)?;
         if is_absent && is_over {
             self.forget(key);

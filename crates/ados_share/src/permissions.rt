@@ -44,14 +44,28 @@ impl Mirror {
             }
         }
         for backup in self.backups.by_path.values() {
-            if let Some(destination) = &backup.moved
-                && let Some(new) = self.destined_key(destination)?
-            {
-                let manner = self.manner_at(rt, backup, new.as_str())?;
-                account.moved.insert(new, manner)?;
-            }
+            self.note_moved(rt, backup, account)?;
+        }
+        for backup in &self.backups.deleted {
+            self.note_moved(rt, backup, account)?;
         }
         account.is_private = self.loses_private(rt, departures);
+        Ok(())
+    }
+
+    // Which permissions the file of a backup has, if the script moved it to another place of a share.
+    fn note_moved<R: AllocGlobal + Files>(
+        &self,
+        rt: &R,
+        backup: &Backup,
+        account: &mut Account,
+    ) -> Result<(), TransferFault> {
+        if let Some(destination) = &backup.moved
+            && let Some(new) = self.destined_key(destination)?
+        {
+            let manner = self.manner_at(rt, backup, new.as_str())?;
+            account.moved.insert(new, manner)?;
+        }
         Ok(())
     }
 

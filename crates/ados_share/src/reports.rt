@@ -133,6 +133,12 @@ impl Reports {
         self.report_stays(key, "kept, since it is no file or folder", path)
     }
 
+    /// Reports that another program deleted a large file whose stand-in the script renamed, before it got its new name.
+    pub fn report_gone(&mut self, key: &str, path: &str) -> Result<(), TransferFault> {
+        self.add_lost(key)?;
+        self.report("gone, though the script renamed it", path)
+    }
+
     /// Reports that a folder stays, since more is in it than the Shell knows, as this object, once until that is settled.
     pub fn report_not_empty(
         &mut self,
