@@ -32,6 +32,7 @@ sign_so dialect lines line byte (problem.Arguments command template fault) e = c
 sign_so dialect lines line byte problem.BadDirective e = cc
 sign_so dialect lines line byte (problem.NoLab label) e = cc
 sign_so dialect lines line byte problem.ElseWithoutEndIf e = cc
+sign_so dialect lines line byte problem.FlatCopy e = cc
 sign_so dialect lines line byte other e = tt
 
 -- one that is found

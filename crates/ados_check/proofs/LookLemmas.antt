@@ -30,6 +30,7 @@ use Rattle.ados_resident.specs.declared.dialects.Dialect.{Dialect}
 use Rattle.ados_script.specs.Lines.{line_of}
 use Rattle.ados_vars.specs.Vars.{Pairs}
 use Rattle.ados_check.specs.Commands.{meaning_of}
+use Rattle.ados_check.specs.Copies.{is_flat_copy}
 use Rattle.ados_check.specs.Directives.{IsSample}
 use Rattle.ados_check.specs.Errors.{Answers, EndsScript, IsCommand, IsHere, IsLine, IsLost, IsReadAs, IsSound, SaysSo}
 use Rattle.ados_check.specs.Jumps.{lost_jump}
@@ -102,6 +103,7 @@ by-kind dialect lines number command (problem.LongLine count) kind lost = cc
 by-kind dialect lines number command (problem.Line fault) kind lost = cc
 by-kind dialect lines number command (problem.Arguments name template fault) kind lost = cc
 by-kind dialect lines number command problem.BadDirective kind lost = cc
+by-kind dialect lines number command problem.FlatCopy kind lost = cc
 by-kind dialect lines number command other kind lost = tt
 
 -- a jump that leads nowhere
@@ -126,3 +128,13 @@ jump_so dialect lines sample number command flow template text bytes args (Ok (S
     lost_so dialect lines sample number flow text args what is (subst (λ c. IsHere lines sample number (λ raw. IsCommand dialect raw c text)) flows here)
     (subst (λ b. fill_of (template_of dialect (Flow flow)) b ≡ Ok args) whole (subst (λ t. fill_of t bytes ≡ Ok args) same fill))
     (quits refl) told kind
+
+-- a Copy that puts what is in several directories into one
+pub flat_so : {E : Type 0} (dialect : Dialect) (lines sample : List Text) (number : ℕ) (command : Builtin) (text : Text) (result : Result (Option Problem) E)
+    → IsSample lines sample → IsHere lines sample number (λ raw. IsCommand dialect raw command text)
+    → IfOk result (λ found. is_some found ≡ is_flat_copy dialect command text) → IfOk result (λ found. IfSome found (λ what. what ≡ problem.FlatCopy))
+    → IfOk result (λ found. IfSome found (IsSound dialect lines number))
+flat_so dialect lines sample number command text (Err e) is here told kind = tt
+flat_so dialect lines sample number command text (Ok None) is here told kind = tt
+flat_so dialect lines sample number command text (Ok (Some what)) is here told kind =
+    subst (IsSound dialect lines number) (sym kind) (refl, (sample, is, (here.0, here.1, here.2, (command, text, here.3, sym told))))

@@ -1,5 +1,5 @@
 -- What an error says of a line of a script is so.
-use Rattle.std.specs.Prelude.{ℕ, ◌-◌, ◌≡◌, ◌<◌, List, [], ◌∷◌, Option, Some, None, Result, Ok, Err, IfSome, length, slice_index}
+use Rattle.std.specs.Prelude.{ℕ, ◌-◌, ◌≡◌, ◌<◌, true, List, [], ◌∷◌, Option, Some, None, Result, Ok, Err, IfSome, length, slice_index}
 use Rattle.std.specs.List.{All}
 use Rattle.ados_text.specs.declared.codes.TheConstants.Result2.{OBJECT_NOT_FOUND}
 use Rattle.ados_text.specs.Lines.{lines_of}
@@ -30,6 +30,7 @@ use Rattle.ados_resident.specs.declared.dialects.Dialect.{Dialect}
 use Rattle.ados_script.specs.Lines.{line_of}
 use Rattle.ados_vars.specs.Vars.{Pairs}
 use Rattle.ados_check.specs.Commands.{meaning_of}
+use Rattle.ados_check.specs.Copies.{is_flat_copy}
 use Rattle.ados_check.specs.Directives.{IsNeverCalled, IsSample}
 use Rattle.ados_check.specs.Signs.{line_at, signs_at, told_sign}
 use Rattle.ados_check.specs.declared.commands.Meaning.TheVariants as meaning
@@ -72,12 +73,16 @@ IsRefused dialect fault line = (command : Builtin) × (args : Text) × IsCommand
 abbrev pub IsLost : Dialect → ℕ → FlowCommand → List Text → Text → Type 0
 IsLost dialect number command sample line = (args : Text) × IsCommand dialect line (Flow command) args × EndsScript dialect command args sample number
 
+-- it is a Copy that puts what is in several directories into one
+abbrev pub IsFlat : Dialect → Text → Type 0
+IsFlat dialect line = (command : Builtin) × (args : Text) × IsCommand dialect line command args × (is_flat_copy dialect command args ≡ true)
+
 -- it has this many bytes, more than a line may have
 abbrev pub IsLong : ℕ → Text → Type 0
 IsLong count line = (length line ≡ count) × (512 < count) × IsReadAs line (Err LineTooLong)
 
 -- What a problem says of the line of a number is so, in a script of these lines as they are written. Of signs the file itself says
--- more than its lines do; of what is not an error nothing is said.
+-- more than its lines do; of what is not an error nothing is said, but of a Copy.
 abbrev pub SaysSo : Dialect → List Text → ℕ → Problem → Type 0
 SaysSo dialect lines number (problem.LongLine count) = IsLine lines number (λ sample. IsLong count)
 SaysSo dialect lines number (problem.Line fault) = IsLine lines number (λ sample line. IsReadAs line (Err fault))
@@ -85,6 +90,7 @@ SaysSo dialect lines number (problem.Arguments _ _ fault) = IsLine lines number 
 SaysSo dialect lines number problem.BadDirective = IsNeverCalled lines number
 SaysSo dialect lines number (problem.NoLab label) = IsLine lines number (IsLost dialect number Skip)
 SaysSo dialect lines number problem.ElseWithoutEndIf = IsLine lines number (IsLost dialect number Else)
+SaysSo dialect lines number problem.FlatCopy = IsLine lines number (λ sample. IsFlat dialect)
 SaysSo dialect lines number other = Unit {0}
 
 -- it is so, and not of a sign

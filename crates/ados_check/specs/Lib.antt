@@ -2,6 +2,7 @@ pub mod Aliases
 pub mod Arguments
 pub mod CommandWords
 pub mod Commands
+pub mod Copies
 pub mod Directives
 pub mod Errors
 pub mod Jumps

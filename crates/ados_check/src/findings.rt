@@ -22,6 +22,10 @@ const PRINTED: &str = ", and is printed as _ or ?";
 // Why a line is no directive that looks like one.
 const IDLE: &str = "no directive, since the first line does not begin with a dot";
 
+// What becomes of the directories that a pattern finds, and how each keeps its own.
+const FLAT: &str =
+    "Copy with a pattern and ALL puts the files of all directories into one (Copy DIR TO b ALL keeps them apart)";
+
 /// A problem of a line.
 #[derive(Drop)]
 pub struct Finding {
@@ -72,6 +76,8 @@ pub enum Problem {
     UnknownCommand(Text),
     /// There is no file of this name for Execute.
     NoScript(Text),
+    /// A Copy with ALL puts what is in the directories that a pattern finds into one.
+    FlatCopy,
 }
 
 impl Problem {
@@ -153,6 +159,7 @@ impl fmt::Display for Problem {
             Problem::IdleDirective => f.write_str(IDLE),
             Problem::UnknownCommand(name) => write!(f, "{}: unknown command", shown(name)),
             Problem::NoScript(name) => write!(f, "{}: no such script", shown(name)),
+            Problem::FlatCopy => f.write_str(FLAT),
         }
     }
 }

@@ -4,6 +4,7 @@
 mod arguments;
 mod command_words;
 mod commands;
+mod copies;
 mod directives;
 mod findings;
 mod inspection;

@@ -11,6 +11,7 @@ ghost use Rattle.ados_check.specs.Signs.{SaysTheSame};
 use crate::arguments::argument_words;
 use crate::command_words::name_in;
 use crate::commands::{Meaning, argument_fault, template_in, template_text};
+use crate::copies::flat_copy;
 use crate::findings::{Finding, Problem};
 use crate::jumps::jump_problem;
 use crate::lines::push_sound;
@@ -259,8 +260,8 @@ impl<'a> Look<'a> {
         }
     }
 
-    // The problem of what a command jumps to, or calls.
-    #[tactic(auto, using(crate::proofs::LookLemmas::jump_so))]
+    // The problem of what a command jumps to, calls, or copies.
+    #[tactic(auto, using(crate::proofs::LookLemmas::jump_so, crate::proofs::LookLemmas::flat_so))]
     fn target_problem(
         &self,
         number: usize,
@@ -272,7 +273,7 @@ impl<'a> Look<'a> {
         ensures { IfOk result (λ found. IfSome found (IsSound self.now.dialect self.now.written.now number)) }
     {
         let Builtin::Flow(flow) = command else {
-            return Ok(None);
+            return flat_copy(self.alloc, self.dialect, command, text);
         };
         let template = template_in(self.alloc, self.dialect, command)?;
         let Ok(args) = template.fill(self.alloc, text.as_bytes()) else {
