@@ -261,7 +261,7 @@ impl<'a> Look<'a> {
     }
 
     // The problem of what a command jumps to, calls, or copies.
-    #[tactic(auto, using(crate::proofs::LookLemmas::jump_so, crate::proofs::LookLemmas::flat_so))]
+    #[tactic(auto, using(crate::proofs::LookLemmas::jump_so))]
     fn target_problem(
         &self,
         number: usize,
