@@ -1,4 +1,3 @@
-mod DeedsGathering
 mod Driving
 mod Pairs
 mod Ran

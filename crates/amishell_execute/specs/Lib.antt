@@ -1,4 +1,3 @@
-pub mod Between
 pub mod Deadline
 pub mod Ends
 pub mod ErrorCodes
