@@ -9,7 +9,7 @@ use std::alloc::Global;
 use std::marker::Model;
 
 // So many bytes are written as soon as they are gathered.
-const FULL_BYTES: usize = 4000;
+const FULL_BYTES: usize = 65536;
 
 // What so many events printed is written after the last of them.
 const FULL_EVENTS: u32 = 1000;

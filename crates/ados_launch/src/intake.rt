@@ -19,6 +19,7 @@ use crate::lines::{LineKind, has_short_line, next_line};
 use crate::read_ahead::ReadAhead;
 use crate::schedule::Next;
 use ados_launcher::Launcher;
+use ados_machine::Request;
 use ados_text::Text;
 use ados_world::{Draft, Event, World};
 use std::alloc::Global;
@@ -65,10 +66,15 @@ impl Intake {
     }
 
     // What was gathered is to be written before this comes: it may wait, or the writer tells of it.
-    pub fn is_due_before(&self, next: Next, tells: bool) -> bool
-        ensures { result ≡ false → comes_at_once self.now.held (found_next next) ≡ true }
+    pub fn is_due_before<L: Launcher>(
+        &self,
+        world: &World,
+        launcher: &L,
+        next: Next,
+        tells: bool,
+    ) -> bool
     {
-        tells || self.may_wait(next)
+        tells || self.may_wait(next) && !is_ready(world, launcher, next)
     }
 
     // Takes what comes next: a break, the next line, the turn of a shell, or a launcher's answer. The draft holds then what is
@@ -149,5 +155,16 @@ impl Intake {
             }
             LineKind::Overlong => Err(IntakeFault::Read),
         }
+    }
+}
+
+// What comes next is a read of output that the launcher holds already.
+fn is_ready<L: Launcher>(world: &World, launcher: &L, next: Next) -> bool {
+    match next {
+        Next::Due(found) if found.place > 40 => {
+            let number = shell_answered(found.place);
+            matches!(world.pending(number), Some(Request::Read(_))) && launcher.has_ready(number)
+        }
+        _ => false,
     }
 }

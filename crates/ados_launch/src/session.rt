@@ -145,7 +145,7 @@ impl<'a> Session<'a> {
             self.gathered.release(writer)?;
             return Ok(false);
         };
-        let is_due = self.intake.is_due_before(next, writer.tells());
+        let is_due = self.intake.is_due_before(world, launcher, next, writer.tells());
         self.gathered.release_if(writer, is_due)?;
         show(writer, world, next);
         if let Err(fault) = self.intake.take(world, launcher, reader, next) {
