@@ -47,6 +47,7 @@ impl Model for Commands {
 
 impl Commands {
     /// Parses the templates of a dialect.
+    #[inline(always)]
     pub fn new(alloc: Global, dialect: Dialect) -> Result<Commands, NoMemory>
         ensures { IfOk result (λ commands. commands ≡ dialect) }
     {
