@@ -13,49 +13,105 @@ ghost use Rattle.ados_flow.specs.Frames.{script_line_of};
 use ados_find::{Codes, Shared, ShellView};
 use ados_flow::{Action, Frame};
 use ados_machine::{Builtin, template};
-use ados_readargs::{ArgFault, Args, Template};
+use ados_readargs::{Args, Template};
 use ados_resident::Dialect;
 use ados_text::{Name, NoMemory, Text};
 use std::alloc::Global;
 use std::marker::Model;
 
-/// The templates of the commands in a dialect, each parsed once.
+/// The commands in a dialect.
 #[derive(Drop)]
 pub struct Commands {
     dialect: Dialect,
-    // Each list is in the order of the crate's `COMMANDS`.
-    env: Vec<Template>,
-    files: Vec<Template>,
-    flow: Vec<Template>,
 }
 
 impl Model for Commands {
-    ghost use Rattle.std.specs.Prelude.{◌≡◌, map};
-    ghost use Rattle.ados_machine.specs.Commands.{template_of};
     ghost use Rattle.ados_resident.specs.declared.dialects.Dialect.{Dialect};
-    ghost use Rattle.ados_env.specs.declared.rows.TheConstants.{COMMANDS as ENV};
-    ghost use Rattle.ados_files.specs.declared.rows.TheConstants.{COMMANDS as FILES};
-    ghost use Rattle.ados_flow.specs.declared.rows.TheConstants.{COMMANDS as FLOW};
 
     ghost Value = { Dialect };
 
     ghost view = { λ c. c.dialect };
+}
 
-    ghost invariant = { λ c. (c.env.items ≡ map (template_of c.dialect) ENV)
-        × (c.files.items ≡ map (template_of c.dialect) FILES) × (c.flow.items ≡ map (template_of c.dialect) FLOW) };
+/// The templates of commands that were used, each parsed once.
+#[derive(Drop)]
+pub struct Templates {
+    dialect: Dialect,
+    // in the order of the three crates' `COMMANDS`
+    parsed: Vec<Option<Template>>,
+}
+
+const FILES: usize = ados_env::COMMANDS.len();
+const FLOW: usize = FILES + ados_files::COMMANDS.len();
+
+// The place of a command's template.
+fn place_of(builtin: Builtin) -> usize {
+    match builtin {
+        Builtin::Env(command) => command as usize,
+        Builtin::Files(command) => FILES + command as usize,
+        Builtin::Flow(command) => FLOW + command as usize,
+    }
+}
+
+impl Templates {
+    /// None was used.
+    pub fn new(alloc: Global) -> Templates {
+        Templates {
+            dialect: Dialect::Core,
+            parsed: Vec::new(alloc),
+        }
+    }
+
+    /// The template of a command in a dialect.
+    #[inline(always)]
+    pub fn get(
+        &mut self,
+        alloc: Global,
+        dialect: Dialect,
+        builtin: Builtin,
+    ) -> Result<&Template, NoMemory> {
+        if !self.has(dialect, builtin) {
+            self.parse(alloc, dialect, builtin)?;
+        }
+        match &self.parsed[place_of(builtin)] {
+            Some(template) => Ok(template),
+            None => unreachable!(),
+        }
+    }
+
+    #[inline(always)]
+    fn has(&self, dialect: Dialect, builtin: Builtin) -> bool {
+        match (self.dialect, dialect) {
+            (Dialect::Core, Dialect::Core) | (Dialect::Full, Dialect::Full) => {
+                matches!(self.parsed.get(place_of(builtin)), Some(Some(_)))
+            }
+            _ => false,
+        }
+    }
+
+    #[cold]
+    #[inline(never)]
+    fn parse(&mut self, alloc: Global, dialect: Dialect, builtin: Builtin) -> Result<(), NoMemory> {
+        match (self.dialect, dialect) {
+            (Dialect::Core, Dialect::Core) | (Dialect::Full, Dialect::Full) => {}
+            _ => self.parsed.clear(),
+        }
+        self.dialect = dialect;
+        let place = place_of(builtin);
+        while self.parsed.len() <= place {
+            self.parsed.push(None)?;
+        }
+        self.parsed[place] = Some(template_of(alloc, dialect, builtin)?);
+        Ok(())
+    }
 }
 
 impl Commands {
-    /// Parses the templates of a dialect.
-    pub fn new(alloc: Global, dialect: Dialect) -> Result<Commands, NoMemory>
+    /// The commands of a dialect.
+    pub fn new(_alloc: Global, dialect: Dialect) -> Result<Commands, NoMemory>
         ensures { IfOk result (λ commands. commands ≡ dialect) }
     {
-        Ok(Commands {
-            dialect,
-            env: templates_of(alloc, dialect, &ados_env::COMMANDS)?,
-            files: templates_of(alloc, dialect, &ados_files::COMMANDS)?,
-            flow: templates_of(alloc, dialect, &ados_flow::COMMANDS)?,
-        })
+        Ok(Commands { dialect })
     }
 
     /// The dialect in which the templates are.
@@ -63,40 +119,6 @@ impl Commands {
         ensures { result ≡ self.now }
     {
         self.dialect
-    }
-
-    /// The template of a command.
-    pub fn template(&self, builtin: Builtin) -> &Template
-        ensures { result.now ≡ template_of self.now builtin }
-    {
-        match builtin {
-            Builtin::Env(command) => &self.env[command as usize],
-            Builtin::Files(command) => &self.files[command as usize],
-            Builtin::Flow(command) => &self.flow[command as usize],
-        }
-    }
-
-    // Fills the arguments of a command by its template in a dialect. That of another dialect is parsed here; each world has the
-    // templates of its own.
-    fn fill(
-        &self,
-        alloc: Global,
-        dialect: Dialect,
-        builtin: Builtin,
-        text: &[u8],
-        args: &mut Args,
-    ) -> Result<(), ArgFault>
-        ensures ok { OnOk result (fill_of (template_of dialect builtin) text.now ≡ Ok args.new) }
-        ensures fault { IfErr result (λ e. IsFaultOf (fill_of (template_of dialect builtin) text.now) e) }
-    {
-        match (self.dialect, dialect) {
-            (Dialect::Core, Dialect::Core) | (Dialect::Full, Dialect::Full) => {
-                self.template(builtin).fill_into(text, args)
-            }
-            (Dialect::Core, Dialect::Full) | (Dialect::Full, Dialect::Core) => {
-                template_of(alloc, dialect, builtin)?.fill_into(text, args)
-            }
-        }
     }
 
     /// What a command of the newest frame does with the text of its arguments, which are filled into the arguments that are
@@ -110,13 +132,15 @@ impl Commands {
         frame: Option<&Frame>,
         view: &ShellView,
         text: &Text,
+        templates: &mut Templates,
         args: &mut Args,
         used: &mut Vec<Name>,
     ) -> Result<Action, NoMemory>
         ensures action { IfOk result (λ action. action_effect shared.now action ≡ action_of builtin shared.now (script_line_of (option_copied frame.entry)) view.now text.now) }
         ensures used { OnOk result (used.new.items ≡ used.old.items ++ flat_map (reached_devices shared.now.assigns) (devices_of builtin shared.now view.now.parts text.now)) }
     {
-        match self.fill(alloc, shared.dialect, builtin, text.as_bytes(), args) {
+        let template = templates.get(alloc, shared.dialect, builtin)?;
+        match template.fill_into(text.as_bytes(), args) {
             Ok(()) => {
                 push_devices(alloc, builtin, shared, view, args, used)?;
                 row(alloc, builtin, shared, frame, view, args)
@@ -124,20 +148,6 @@ impl Commands {
             Err(fault) => Ok(Action::answering(alloc, Codes::failed(fault.result2()?))),
         }
     }
-}
-
-fn templates_of(
-    alloc: Global,
-    dialect: Dialect,
-    builtins: &[Builtin],
-) -> Result<Vec<Template>, NoMemory>
-    ensures { IfOk result (λ templates. templates.items ≡ map (template_of dialect) builtins.now) }
-{
-    let mut templates = Vec::with_capacity(alloc, builtins.len())?;
-    for builtin in builtins {
-        templates.push(template_of(alloc, dialect, *builtin)?)?;
-    }
-    Ok(templates)
 }
 
 fn template_of(alloc: Global, dialect: Dialect, builtin: Builtin) -> Result<Template, NoMemory>

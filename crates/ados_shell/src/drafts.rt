@@ -6,6 +6,7 @@ ghost use Rattle.ados_machine.specs.Step.{event_out};
 
 use crate::begun::Begun;
 use crate::breaks::flags_own;
+use crate::commands::Templates;
 use crate::scenes::Scene;
 use crate::shells::Shell;
 use crate::stacks::Stack;
@@ -39,6 +40,8 @@ pub struct Draft {
     pub reports: Vec<EndReport>,
     /// Room for the arguments of the line that runs; between two lines its content has no meaning.
     pub args: Args,
+    /// The templates of commands that ran.
+    pub templates: Templates,
     /// The devices that the event used so far, with those to which they lead; it takes no memory if none was used.
     pub used: Vec<Name>,
     /// What the cache of the shared state may learn: what this turn, or one before it, asked for and did not find. It is
@@ -79,6 +82,7 @@ impl Drop for Draft {
             request: _request,
             reports: _reports,
             args: _args,
+            templates: _templates,
             used: _used,
             asked: _asked,
         } = self;
@@ -127,6 +131,7 @@ impl Draft {
             request: None,
             reports: Vec::new(alloc),
             args: Args::new(alloc),
+            templates: Templates::new(alloc),
             used: Vec::new(alloc),
             asked: None,
         }
@@ -187,6 +192,7 @@ impl Draft {
             request,
             reports,
             args: _,
+            templates: _,
             used: _,
             asked: _,
         } = self;

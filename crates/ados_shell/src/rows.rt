@@ -5,6 +5,7 @@ ghost use Rattle.ados_find.specs.Effects.{effect_of};
 ghost use Rattle.ados_flow.specs.Actions.{action_effect};
 ghost use Rattle.ados_machine.specs.Lines.{action_completion, action_in, busy_files, command_completion, shell_names, view_of, with_argument_devices};
 
+use crate::commands::Templates;
 use crate::completions::Completion;
 use crate::drafts::{Draft, ShellDraft};
 use crate::scenes::Scene;
@@ -102,8 +103,9 @@ impl Draft {
         };
         let args = &mut self.args;
         let used = &mut self.used;
+        let templates = &mut self.templates;
         self.shell
-            .perform(scene, builtin, line, shared, others, args, used)
+            .perform(scene, builtin, line, shared, others, templates, args, used)
     }
 
     /// What the command with this word, whose output leads there, sees of the shells that run.
@@ -224,6 +226,7 @@ impl ShellDraft {
         line: &Line,
         shared: &Shared,
         others: Others,
+        templates: &mut Templates,
         args: &mut Args,
         used: &mut Vec<Name>,
     ) -> Result<Action, NoMemory>
@@ -242,6 +245,7 @@ impl ShellDraft {
             frame,
             &view,
             &line.args,
+            templates,
             args,
             used,
         )
