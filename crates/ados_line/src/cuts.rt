@@ -53,7 +53,10 @@ impl Cut {
         requires { IsText line.now }
         ensures { IfOk result (λ read. read ≡ with_arguments (value_of line.now item.now) (drop to line.now)) }
     {
-        let command = value(alloc, line, item)?;
+        let command = match *item {
+            Item::Word { from, to } => Text::of_ascii(alloc, between(line, from, to))?,
+            _ => value(alloc, line, item)?,
+        };
         let mut args = Text::new(alloc);
         args.push_bytes(between(line, to, line.len()))?;
         Ok(Cut {

@@ -11,7 +11,8 @@ use crate::aliases::replace_alias;
 use crate::comments::without_comment;
 use crate::faults::LineFault;
 use crate::letters::read_letters;
-use crate::lines::{Expanded, cut_text};
+use crate::lines::{Expanded, cut_plain_text, cut_text};
+use crate::marks::Marks;
 use crate::scopes::Scope;
 use crate::ticks::{Parted, part_after};
 use crate::values::put_values;
@@ -64,6 +65,19 @@ pub fn resume(
     ensures made { IfOk result (IsResumed before.now output.now after.now) }
 {
     put_and_go_on(alloc, before, without_newline(output), after)
+}
+
+/// The same of a line whose marks are known.
+#[inline(always)]
+pub fn expand_marked(scope: &Scope, raw: &Text, marks: Marks) -> Result<Expanded, LineFault> {
+    let line = raw.as_bytes();
+    if !marks.is_plain() || !scope.aliases.list().is_empty() {
+        return expand(scope, raw);
+    }
+    if line.len() > LINE_BYTES {
+        return Err(LineFault::LineTooLong);
+    }
+    cut_plain_text(scope.alloc, line)
 }
 
 // Expands the variables of a line and reads it. Nearly all lines have none, and are read in place.

@@ -8,6 +8,7 @@ ghost use Rattle.ados_line.specs.Values.{reference};
 
 use crate::aliases::replace_alias;
 use crate::comments::without_comment;
+use crate::marks::Marks;
 use crate::letters::{Letter, read_letters};
 use crate::references::{find_reference, is_plain};
 use crate::scopes::Scope;
@@ -29,6 +30,15 @@ pub fn asks_global(scope: &Scope, raw: &Text) -> Result<bool, NoMemory>
         None => asks_in(scope, line),
         Some(text) => asks_in(scope, text.as_bytes()),
     }
+}
+
+/// The same of a line whose marks are known.
+#[inline(always)]
+pub fn asks_marked(scope: &Scope, raw: &Text, marks: Marks) -> Result<bool, NoMemory> {
+    if scope.aliases.list().is_empty() && !marks.has_dollar() {
+        return Ok(false);
+    }
+    asks_global(scope, raw)
 }
 
 // The same for a line whose alias has been expanded.

@@ -7,7 +7,7 @@ ghost use Rattle.ados_line.specs.Pieces.{IsOfPieces};
 
 use crate::cuts::Cut;
 use crate::faults::LineFault;
-use crate::line_cuts::cut_line;
+use crate::line_cuts::{cut_line, cut_plain};
 use ados_text::{NoMemory, Text};
 use std::alloc::Global;
 
@@ -97,12 +97,23 @@ pub fn cut_text(alloc: Global, line: &[u8]) -> Result<Expanded, LineFault>
     ensures value { Gives result (expanded_of_cut (cut_of line.now)) }
     ensures pieces { IfOk result (IsOfPieces line.now) }
 {
+    expanded_of(cut_line(alloc, line)?)
+}
+
+// The cut of a text's bytes without quotes and signs.
+#[inline(always)]
+pub fn cut_plain_text(alloc: Global, line: &[u8]) -> Result<Expanded, LineFault> {
+    expanded_of(cut_plain(alloc, line)?)
+}
+
+#[inline(always)]
+fn expanded_of(cut: Cut) -> Result<Expanded, LineFault> {
     let Cut {
         command,
         args,
         input,
         output,
-    } = cut_line(alloc, line)?;
+    } = cut;
     match command {
         None => Ok(Expanded::Nothing),
         Some(command) => Ok(Expanded::Ready(Line {

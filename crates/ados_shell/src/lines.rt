@@ -9,7 +9,7 @@ use crate::completions::Completion;
 use crate::drafts::Draft;
 use crate::scenes::Scene;
 use ados_find::{Codes, Found, Search, find};
-use ados_line::{Expanded, Line, LineFault, Scope, expand};
+use ados_line::{Expanded, Line, LineFault, Marks, Scope, expand_marked};
 use ados_text::{NoMemory, Result2, Stop, Text};
 
 impl Draft {
@@ -31,8 +31,9 @@ impl Draft {
         ensures { OnOk result (IsApplied scene.now self.old self.new
             (line_completion raw.now (here_in scene.now self.old) (course_of scene.now self.old))) }
     {
-        let expanded = self.expanded(scene, raw);
-        self.use_variables(scene, raw)?;
+        let marks = Marks::of(raw.as_bytes());
+        let expanded = self.expanded(scene, raw, marks);
+        self.use_variables(scene, raw, marks)?;
         self.work_line(scene, expanded)
     }
 
@@ -64,12 +65,12 @@ impl Draft {
     }
 
     /// The expansion of a raw line, with the shell and the shared state as it is now.
-    fn expanded(&self, scene: &Scene, raw: &Text) -> Result<Expanded, LineFault>
+    fn expanded(&self, scene: &Scene, raw: &Text, marks: Marks) -> Result<Expanded, LineFault>
         requires { IsUnset self.now }
         ensures { Gives result (expand_raw_line (course_of scene.now self.now).parts.settings.aliases (course_variables (course_of scene.now self.now)) raw.now) }
     {
         let scope = self.scope(scene);
-        expand(&scope, raw)
+        expand_marked(&scope, raw, marks)
     }
 
     /// Where the words of a line have their meanings, with the shell and the shared state as it is now.

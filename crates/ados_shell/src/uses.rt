@@ -8,7 +8,7 @@ ghost use Rattle.ados_machine.specs.Lines.{with_variables};
 use crate::drafts::Draft;
 use crate::scenes::Scene;
 use ados_find::{Route, Shared};
-use ados_line::asks_global;
+use ados_line::{Marks, asks_marked};
 use ados_text::{Name, NoMemory, Text};
 
 impl Draft {
@@ -91,11 +91,11 @@ impl Draft {
     }
 
     /// ENV: is used if a line asks for a variable that is not one of the shell's own.
-    pub(crate) fn use_variables(&mut self, scene: &Scene, raw: &Text) -> Result<(), NoMemory>
+    pub(crate) fn use_variables(&mut self, scene: &Scene, raw: &Text, marks: Marks) -> Result<(), NoMemory>
         requires { IsUnset self.old }
         ensures { OnOk result (HasUsed scene.now self.old self.new (with_variables raw.now (course_of scene.now self.old))) }
     {
-        if self.asks_global(scene, raw)? {
+        if self.asks_global(scene, raw, marks)? {
             self.use_env(scene)
         } else {
             Ok(())
@@ -103,11 +103,11 @@ impl Draft {
     }
 
     /// The line asks for such a variable, with the shell and the shared state as it is now.
-    fn asks_global(&self, scene: &Scene, raw: &Text) -> Result<bool, NoMemory>
+    fn asks_global(&self, scene: &Scene, raw: &Text, marks: Marks) -> Result<bool, NoMemory>
         requires { IsUnset self.now }
         ensures { IfOk result (λ asks. asks ≡ asks_global (parts_of scene.now self.now).settings.aliases (locals_of (parts_of scene.now self.now)) raw.now) }
     {
-        asks_global(&self.scope(scene), raw)
+        asks_marked(&self.scope(scene), raw, marks)
     }
 
     /// No device counts as used any longer.
