@@ -113,13 +113,17 @@ impl Config {
     /// What `clap` finds in the options.
     ///
     /// `BadLine` names the first line that is no option, or none that may stand there after those before it.
-    pub fn matches(&self, alloc: Global) -> Result<ArgMatches<'_>, Refused>
+    pub fn matches(&self, alloc: Global) -> Result<Option<ArgMatches<'_>>, Refused>
         ensures names { OnOk result (list_all (λ line. may_stand_in_file line.word) (lines_of self.now) ≡ true) }
         ensures range { IfOk result (λ found. AreInRange (found_of found) (numbers_of (found_of found))) }
     {
+        if self.options.is_empty() {
+            return Ok(None);
+        }
         match matches_of(alloc, self.options.as_slice()) {
             Err(Refused::BadLine(_)) => Err(self.first_fault(alloc)),
-            found => found,
+            Err(refused) => Err(refused),
+            Ok(found) => Ok(Some(found)),
         }
     }
 

@@ -14,17 +14,24 @@ pub struct Given<'a> {
     /// What `clap` finds in the words of the command line.
     pub typed: ArgMatches<'a>,
     /// What it finds in the options of the file.
-    pub file: ArgMatches<'a>,
+    pub file: Option<ArgMatches<'a>>,
 }
 
 impl<'a> Given<'a> {
+    fn file_strs(&self, name: &str) -> &[&'a str] {
+        match &self.file {
+            None => &[],
+            Some(file) => file.get_strs(name).unwrap_or(&[]),
+        }
+    }
+
     /// Whether an option without a value is given: on the command line or in the file.
     pub fn get_flag(&self, name: &str) -> bool
         ensures typed { IsFlagOf (found_of self.now.typed) name.now → result ≡ true }
         ensures file { IsFlagOf (found_of self.now.file) name.now → result ≡ true }
         ensures neither { IsLeftOutOf (found_of self.now.typed) name.now → IsLeftOutOf (found_of self.now.file) name.now → result ≡ false }
     {
-        has_flag(&self.typed, name) || has_flag(&self.file, name)
+        has_flag(&self.typed, name) || file_has(&self.file, name)
     }
 
     /// The value of an option: that of the command line, if it has one.
@@ -33,7 +40,10 @@ impl<'a> Given<'a> {
     {
         match self.typed.get_str(name) {
             Some(value) => Some(value),
-            None => self.file.get_str(name),
+            None => match &self.file {
+                None => None,
+                Some(file) => file.get_str(name),
+            },
         }
     }
 
@@ -41,7 +51,7 @@ impl<'a> Given<'a> {
     pub fn list(&self, alloc: Global, name: &str) -> Result<Vec<&'a str>, AllocError>
         ensures { IfOk result (λ values. map (λ value. value.now) values.items ≡ values_of (found_of self.now.file) name.now ++ values_of (found_of self.now.typed) name.now) }
     {
-        let mut values = self.file.get_strs(name).unwrap_or(&[]).to_vec(alloc)?;
+        let mut values = self.file_strs(name).to_vec(alloc)?;
         values.extend_from_slice(self.typed.get_strs(name).unwrap_or(&[]))?;
         Ok(values)
     }
@@ -51,7 +61,7 @@ impl<'a> Given<'a> {
         ensures { IfOk result (λ hosts. map (λ words. words.now) hosts.items ≡ hosts_of (values_of (found_of self.now.file) (codes "host")) (values_of (found_of self.now.typed) (codes "host"))) }
     {
         let typed = self.typed.get_strs("host").unwrap_or(&[]);
-        let file = self.file.get_strs("host").unwrap_or(&[]);
+        let file = self.file_strs("host");
         let mut hosts = hosts_beside(alloc, file, typed)?;
         hosts.extend_from_slice(typed)?;
         Ok(hosts)
@@ -63,7 +73,7 @@ impl<'a> Given<'a> {
     {
         let typed = self.typed.get_strs("share").unwrap_or(&[]);
         if typed.is_empty() {
-            self.file.get_strs("share").unwrap_or(&[]).to_vec(alloc)
+            self.file_strs("share").to_vec(alloc)
         } else {
             typed.to_vec(alloc)
         }
@@ -77,7 +87,7 @@ impl<'a> Given<'a> {
         ensures neither { IsLeftOutOf (found_of self.now.typed) (codes "lenient") → IsLeftOutOf (found_of self.now.file) (codes "lenient") → result ≡ false }
     {
         has_flag(&self.typed, "lenient")
-            || has_flag(&self.file, "lenient") && !has_flag(&self.typed, "strict")
+            || file_has(&self.file, "lenient") && !has_flag(&self.typed, "strict")
     }
 }
 
@@ -87,6 +97,13 @@ pub fn has_flag(found: &ArgMatches<'_>, name: &str) -> bool
     ensures left_out { IsLeftOutOf (found_of found.now) name.now → result ≡ false }
 {
     found.get_flag(name)
+}
+
+fn file_has(found: &Option<ArgMatches<'_>>, name: &str) -> bool {
+    match found {
+        None => false,
+        Some(found) => has_flag(found, name),
+    }
 }
 
 // The words of a file's `--host` whose commands the command line does not name.

@@ -102,7 +102,10 @@ pub fn asked_options<'a>(
     config: &'a Config,
 ) -> Result<Options<'a>, Refused> {
     let file = config.matches(alloc)?;
-    let numbers = Numbers::of(alloc, &typed)?.or(Numbers::of(alloc, &file)?);
+    let numbers = match &file {
+        None => Numbers::of(alloc, &typed)?,
+        Some(file) => Numbers::of(alloc, &typed)?.or(Numbers::of(alloc, file)?),
+    };
     let given = Given { typed, file };
     for name in ["all", "part", "dry"] {
         if given.typed.get_flag(name) && given.get_str("share").is_none() {
