@@ -9,6 +9,7 @@ mod entries;
 mod file_bytes;
 mod file_drafts;
 mod file_units;
+mod filed;
 mod files;
 mod in_use;
 mod kids;
@@ -26,6 +27,7 @@ pub use cursors::Cursor;
 pub use entries::{Bits, Body, Entry};
 pub use file_bytes::FileBytes;
 pub use file_units::{Block, Piece};
+pub use filed::Filed;
 pub use files::Ram;
 pub use in_use::Busy;
 pub use laws::{

@@ -65,6 +65,23 @@ impl Table {
         })
     }
 
+    /// The same, with these files in C.
+    pub fn first_with(alloc: Global, files: Children, bytes: usize, count: usize) -> Result<Table, NoMemory> {
+        let root = Entry::directory(alloc, Name::from_bytes(alloc, b"")?)?;
+        let mut kids = Vec::with_capacity(alloc, 4)?;
+        let c = Name::from_bytes(alloc, b"C")?;
+        kids.push(Branch::new(c.copy()?, Entry::directory(alloc, c)?, files)?)?;
+        kids.push(directory(alloc, Name::from_bytes(alloc, b"Env")?)?)?;
+        kids.push(directory(alloc, Name::from_bytes(alloc, b"S")?)?)?;
+        kids.push(directory(alloc, Name::from_bytes(alloc, b"T")?)?)?;
+        Ok(Table {
+            root: Branch::new(Name::from_bytes(alloc, b"")?, root, Children::of(kids)?)?,
+            total: bytes,
+            count: 5 + count,
+            alloc,
+        })
+    }
+
     /// The entry at a place.
     pub fn find(&self, names: &[Name]) -> Option<&Entry>
         ensures { option_copied result ≡ map.get self.now (key_of names.now) }
