@@ -29,7 +29,7 @@ impl Filed {
     pub fn add(&mut self, name: Name, bytes: &[u8], bits: Bits) -> Result<(), NoMemory> {
         let alloc = *self.kids.allocator();
         let held = FileBytes::from_slice(alloc, bytes)?;
-        let entry = Entry::written(alloc, None, &name, held, bits)?;
+        let entry = Entry::written(alloc, None, name.copy()?, held, bits)?;
         let kid = Branch::leaf(alloc, name, entry)?;
         match position(&self.kids, kid.name()) {
             Ok(at) => self.kids[at] = kid,
