@@ -68,6 +68,11 @@ impl Ram {
         self.table.find(place.names())
     }
 
+    /// How many bytes all files have, and how many objects there are beside the root.
+    pub fn totals(&self) -> (usize, usize) {
+        self.table.totals()
+    }
+
     /// The entries at a place and below it, for lookups from there without a walk from the root. Nothing is allocated.
     pub fn below(&self, place: &Place) -> Cursor<'_>
         ensures { result ≡ subtree_rows (key_of place.now) (map.entries self.now) }

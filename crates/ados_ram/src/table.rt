@@ -65,6 +65,11 @@ impl Table {
         })
     }
 
+    /// How many bytes all files have, and how many objects there are beside the root.
+    pub fn totals(&self) -> (usize, usize) {
+        (self.total, self.count - 1)
+    }
+
     /// The entry at a place.
     pub fn find(&self, names: &[Name]) -> Option<&Entry>
         ensures { option_copied result ≡ map.get self.now (key_of names.now) }

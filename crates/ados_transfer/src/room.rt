@@ -6,7 +6,7 @@ ghost use Rattle.ados_ram.specs.Contents.{contents};
 ghost use Rattle.ados_ram.specs.Limits.{objects_limit};
 ghost use Rattle.ados_transfer.specs.Room.{has_room_for, size_there};
 
-use ados_ram::{Entry, Limits, Place, Ram};
+use ados_ram::{Entry, Limits, Ram};
 use ados_text::NoMemory;
 use std::alloc::Global;
 
@@ -24,14 +24,12 @@ impl Room {
         ensures objects { IfOk result (λ room. room.objects ≡ length (contents [] (map.entries files.now))) }
         ensures limits { IfOk result (λ room. room.limits ≡ limits) }
     {
-        let places = files.contents(&Place::root(alloc))?;
-        let bytes = places.iter().fold(0usize, |sum, place| {
-            sum.saturating_add(size(files.look(place)))
-        });
+        let _ = alloc;
+        let (bytes, objects) = files.totals();
         Ok(Room {
             limits,
             bytes,
-            objects: places.len(),
+            objects,
         })
     }
 
