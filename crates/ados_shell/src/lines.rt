@@ -8,8 +8,9 @@ ghost use Rattle.ados_machine.specs.Lines.{expanded_completion, found_completion
 use crate::completions::Completion;
 use crate::drafts::Draft;
 use crate::scenes::Scene;
-use ados_find::{Codes, Found, Search, find};
+use ados_find::{Codes, Found, Search, find, is_path};
 use ados_line::{Expanded, Line, LineFault, Scope, expand};
+use ados_resident::InternalCommand;
 use ados_text::{NoMemory, Result2, Stop, Text};
 
 impl Draft {
@@ -99,6 +100,18 @@ impl Draft {
         ensures { OnOk result (IsApplied scene.now self.old self.new
             (found_completion (found_in (course_of scene.now self.old) line.now.command) line.now (here_in scene.now self.old) (with_search_used line.now.command (course_of scene.now self.old)))) }
     {
+        if !is_path(&line.command)
+            && let Some(internal) = self.current(scene).residents.internal(&line.command)
+            && !internal.is_disabled
+        {
+            let ended = self.execute_internal(scene, internal.command, line);
+            return self.conclude(scene, &line.command, ended);
+        }
+        self.seek_all(scene, line)
+    }
+
+    #[inline(never)]
+    fn seek_all(&mut self, scene: &Scene, line: &Line) -> Result<(), NoMemory> {
         let Search { found, route } = self.find(scene, &line.command)?;
         self.use_route(scene, route, &line.command)?;
         self.run_line(scene, found, line)
@@ -121,10 +134,7 @@ impl Draft {
             (found_completion found line.now (here_in scene.now self.old) (course_of scene.now self.old)) }
     {
         match found {
-            Found::Internal(command) => match command.builtin() {
-                Some(builtin) => self.builtin(scene, builtin, line),
-                None => self.run(scene, line),
-            },
+            Found::Internal(command) => self.execute_internal(scene, command, line),
             Found::Resident(entry) => {
                 self.run_program(scene, Some(entry.name), entry.program, line)
             }
@@ -145,6 +155,20 @@ impl Draft {
                     quits: false,
                 })
             }
+        }
+    }
+
+    /// Runs a line whose command is this internal one.
+    #[inline(always)]
+    fn execute_internal(
+        &mut self,
+        scene: &Scene,
+        command: InternalCommand,
+        line: &Line,
+    ) -> Result<Completion, Stop> {
+        match command.builtin() {
+            Some(builtin) => self.builtin(scene, builtin, line),
+            None => self.run(scene, line),
         }
     }
 

@@ -110,6 +110,30 @@ impl ShellDraft {
         ensures ok { OnOk result (shell.new ≡ drafted_shell self.old shell.old) }
         ensures err { OnErr result (shell.new ≡ shell.old) }
     {
+        if self.sets_codes_alone(shell) {
+            shell.limit = self.limit;
+            shell.codes = self.codes;
+            shell.flagged = self.flagged;
+            return Ok(());
+        }
+        self.commit_all(shell)
+    }
+
+    /// The turn changed at most the shell's codes, its limit and its flag.
+    #[inline(always)]
+    fn sets_codes_alone(&self, shell: &Shell) -> bool {
+        self.phase.is_none()
+            && shell.phase.is_none()
+            && shell.request.is_none()
+            && self.frames.own.is_empty()
+            && self.frames.kept_count == shell.frames.len()
+            && self.setting.is_none()
+            && self.kept.is_none()
+            && self.directory.is_none()
+    }
+
+    #[inline(never)]
+    fn commit_all(&mut self, shell: &mut Shell) -> Result<(), NoMemory> {
         let request = self.request(shell.number)?;
         let Stack { kept_count, own } = &mut self.frames;
         shell.frames.reserve(own.len())?;

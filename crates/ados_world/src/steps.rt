@@ -181,6 +181,34 @@ impl World {
         ensures refusal { IfErr result (λ why. why ≡ OutOfMemory) }
         ensures unchanged { OnErr result (self.new ≡ self.old) }
     {
+        if draft.begun.is_none() && draft.renamed.is_none() && draft.breaking.is_none() {
+            self.take_own(number, draft)
+        } else {
+            self.take_all(number, draft)
+        }
+    }
+
+    /// The same where no shell is made or broken and nothing was renamed, as nearly always.
+    #[inline(always)]
+    fn take_own(&mut self, number: u8, draft: &mut Draft) -> Result<(), Refusal> {
+        let Ok(()) = self.ask(number, draft) else {
+            return Err(Refusal::NoMemory);
+        };
+        let Ok(()) = self.shells.commit(number, &mut draft.shell) else {
+            return Err(Refusal::NoMemory);
+        };
+        end_done(&mut self.shells, &mut self.ended, number);
+        renew(
+            self.alloc,
+            &mut self.shared,
+            draft.shared.take(),
+            draft.asked.take(),
+        );
+        Ok(())
+    }
+
+    #[inline(never)]
+    fn take_all(&mut self, number: u8, draft: &mut Draft) -> Result<(), Refusal> {
         let Ok(()) = self.ask(number, draft) else {
             return Err(Refusal::NoMemory);
         };
