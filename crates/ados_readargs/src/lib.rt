@@ -12,6 +12,7 @@ mod laying;
 mod meanings;
 mod option_list;
 mod options;
+mod parsing;
 mod pass;
 mod readings;
 mod shares;

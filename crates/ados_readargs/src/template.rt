@@ -1,20 +1,21 @@
 // Templates, and which texts are templates.
-ghost use Rattle.std.specs.Prelude.{◌≡◌, [], Ok, Some, false, map, IfOk, IfErr, OnOk};
-ghost use Rattle.std.specs.List.{slice_split, list_any, count_by};
+ghost use Rattle.std.specs.Prelude.{◌≡◌, Ok, Some, false, map, IfOk, IfErr, OnOk};
+ghost use Rattle.std.specs.List.{list_any, count_by};
 ghost use Rattle.ados_text.specs.Text.{to_ascii, is_same};
-ghost use Rattle.ados_readargs.specs.Options.{has_name, no_qualifiers};
+ghost use Rattle.ados_readargs.specs.Options.{has_name};
 ghost use Rattle.ados_readargs.specs.Checks.{has_bad};
 ghost use Rattle.ados_readargs.specs.Fill.{fill_of, LosesNoWord};
 ghost use Rattle.ados_readargs.specs.Faults.{IsFaultOf, IsBadTemplate};
 ghost use Rattle.ados_readargs.specs.Phrases.{IsFilled};
-ghost use Rattle.ados_readargs.specs.Template.{IsTemplate, with_letter, with_qualifier, parsed_qualifiers, qualifiers_of_pieces, is_byte, names_of, option_of, parsed_options, is_many, occurs_again, is_twice, has_twice, is_template, template_of, options_of};
+ghost use Rattle.ados_readargs.specs.Template.{IsTemplate, is_many, occurs_again, is_twice, has_twice, is_template, template_of, options_of};
 
 use crate::args::Args;
 use crate::errors::ArgFault;
 use crate::option_list::OptionList;
-use crate::options::{Qualifiers, TemplateOption, has_rest};
-use ados_text::{NoMemory, Text, Texts, fold, same_name};
-use std::alloc::{AllocError, Global};
+use crate::options::{TemplateOption, has_rest};
+use crate::parsing::parsed_options;
+use ados_text::{NoMemory, Text, same_name};
+use std::alloc::Global;
 use std::marker::Model;
 
 /// The options that a command takes, by their text.
@@ -46,9 +47,18 @@ impl Template {
         ensures good { IfOk result (λ _. IsTemplate text.now) }
         ensures bad { IfErr result (IsBadTemplate (template_of text.now)) }
     {
+        Template::of_text(alloc, text.copy()?)
+    }
+
+    // The template of a text, which is kept.
+    fn of_text(alloc: Global, text: Text) -> Result<Template, ArgFault>
+        ensures text { IfOk result (λ template. template ≡ text) }
+        ensures good { IfOk result (λ _. IsTemplate text) }
+        ensures bad { IfErr result (IsBadTemplate (template_of text)) }
+    {
         let options = parse_options(alloc, text.as_bytes())?;
         Ok(Template {
-            text: text.copy()?,
+            text,
             options: OptionList::new(options),
         })
     }
@@ -60,7 +70,7 @@ impl Template {
         ensures { IfOk result (λ template. template ≡ text.now) }
     {
         let text = Text::from_bytes(alloc, text.as_bytes())?;
-        match Template::parse(alloc, &text) {
+        match Template::of_text(alloc, text) {
             Ok(template) => Ok(template),
             Err(fault) => match fault {
                 ArgFault::NoMemory => Err(NoMemory),
@@ -109,110 +119,6 @@ impl Template {
     {
         self.options.as_slice()
     }
-}
-
-// The qualifiers with one more; `None` if it is unknown or there already.
-fn with_letter(letter: u8, q: Qualifiers) -> Option<Qualifiers>
-    ensures { result ≡ with_letter letter q }
-{
-    match letter {
-        b'a' if !q.required => Some(Qualifiers {
-            required: true,
-            ..q
-        }),
-        b'k' if !q.keyword => Some(Qualifiers { keyword: true, ..q }),
-        b's' if !q.switch => Some(Qualifiers { switch: true, ..q }),
-        b't' if !q.toggle => Some(Qualifiers { toggle: true, ..q }),
-        b'n' if !q.number => Some(Qualifiers { number: true, ..q }),
-        b'm' if !q.many => Some(Qualifiers { many: true, ..q }),
-        b'f' if !q.rest => Some(Qualifiers { rest: true, ..q }),
-        _ => None,
-    }
-}
-
-fn with_qualifier(piece: &[u8], q: Qualifiers) -> Option<Qualifiers>
-    ensures { result ≡ with_qualifier piece.now q }
-{
-    match piece {
-        [letter] => with_letter(fold(*letter), q),
-        _ => None,
-    }
-}
-
-fn parsed_qualifiers(pieces: &[&[u8]]) -> Option<Qualifiers>
-    ensures { result ≡ qualifiers_of_pieces (map (λ p. p.now) pieces.now) }
-{
-    let q = letters_of(pieces)?;
-    if (q.switch || q.toggle) && pieces.len() > 1 {
-        return None;
-    }
-    Some(q)
-}
-
-fn letters_of(pieces: &[&[u8]]) -> Option<Qualifiers>
-    ensures { result ≡ parsed_qualifiers no_qualifiers (map (λ p. p.now) pieces.now) }
-{
-    let mut q = Qualifiers::none();
-    for piece in pieces {
-        q = with_qualifier(piece, q)?;
-    }
-    Some(q)
-}
-
-// The pieces of a text, which a sign separates.
-fn pieces_at(alloc: Global, sign: u8, text: &[u8]) -> Result<Vec<&[u8]>, AllocError>
-    ensures { IfOk result (λ pieces. map (λ p. p.now) pieces.items ≡ slice_split (is_byte sign) text.now) }
-{
-    text.split(|b| *b == sign).collect(alloc)
-}
-
-// The pieces as texts.
-fn texts_of(alloc: Global, pieces: &[&[u8]]) -> Result<Texts, NoMemory>
-    ensures { IfOk result (λ texts. texts ≡ map (map to_ascii) (map (λ p. p.now) pieces.now)) }
-{
-    let mut texts = Texts::new(alloc);
-    for piece in pieces {
-        texts.push(Text::from_bytes(alloc, piece)?)?;
-    }
-    Ok(texts)
-}
-
-// The names of an option.
-fn names_of(alloc: Global, text: &[u8]) -> Result<Texts, NoMemory>
-    ensures { IfOk result (λ texts. texts ≡ names_of text.now) }
-{
-    texts_of(alloc, pieces_at(alloc, b'=', text)?.as_slice())
-}
-
-// The option of a text; `None` if it is not one.
-fn option_of(alloc: Global, text: &[u8]) -> Result<Option<TemplateOption>, NoMemory>
-    ensures { IfOk result (λ option. option ≡ option_of text.now) }
-{
-    let pieces = pieces_at(alloc, b'/', text)?;
-    match pieces.as_slice() {
-        [] => Ok(None),
-        [names, rest @ ..] => match parsed_qualifiers(rest) {
-            None => Ok(None),
-            Some(qualifiers) => Ok(Some(TemplateOption {
-                names: names_of(alloc, names)?,
-                qualifiers,
-            })),
-        },
-    }
-}
-
-fn parsed_options(alloc: Global, texts: &[&[u8]]) -> Result<Vec<TemplateOption>, ArgFault>
-    ensures ok { IfOk result (λ options. parsed_options [] (map (λ p. p.now) texts.now) ≡ Some options.items) }
-    ensures bad { IfErr result (IsBadTemplate (parsed_options [] (map (λ p. p.now) texts.now))) }
-{
-    let mut options = Vec::new(alloc);
-    for text in texts {
-        match option_of(alloc, text)? {
-            None => return Err(ArgFault::BadTemplate),
-            Some(option) => options.push(option)?,
-        }
-    }
-    Ok(options)
 }
 
 fn is_twice(names: &[Text], later: &[TemplateOption]) -> bool
@@ -288,7 +194,7 @@ fn parse_options(alloc: Global, text: &[u8]) -> Result<Vec<TemplateOption>, ArgF
     if text.is_empty() {
         return Ok(Vec::new(alloc));
     }
-    let options = parsed_options(alloc, pieces_at(alloc, b',', text)?.as_slice())?;
+    let options = parsed_options(alloc, text)?;
     if !is_template(options.as_slice()) {
         return Err(ArgFault::BadTemplate);
     }

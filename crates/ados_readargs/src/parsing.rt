@@ -1,0 +1,135 @@
+// What the text of a template says: its options, their names and their qualifiers.
+ghost use Rattle.std.specs.Prelude.{◌≡◌, ◌<◌, [], Some, length, position, IfOk, IfErr, IfSome, OnOk};
+ghost use Rattle.std.specs.List.{slice_split};
+ghost use Rattle.ados_readargs.specs.Options.{no_qualifiers};
+ghost use Rattle.ados_readargs.specs.Faults.{IsBadTemplate};
+ghost use Rattle.ados_readargs.specs.Template.{with_letter, with_qualifier, parsed_qualifiers, qualifiers_of_pieces, is_byte, names_of, option_of, options_with, parsed_options};
+
+use crate::errors::ArgFault;
+use crate::options::{Qualifiers, TemplateOption};
+use ados_text::{NoMemory, Text, Texts, fold};
+use std::alloc::Global;
+
+// The qualifiers with one more; `None` if it is unknown or there already.
+fn with_letter(letter: u8, q: Qualifiers) -> Option<Qualifiers>
+    ensures { result ≡ with_letter letter q }
+{
+    match letter {
+        b'a' if !q.required => Some(Qualifiers {
+            required: true,
+            ..q
+        }),
+        b'k' if !q.keyword => Some(Qualifiers { keyword: true, ..q }),
+        b's' if !q.switch => Some(Qualifiers { switch: true, ..q }),
+        b't' if !q.toggle => Some(Qualifiers { toggle: true, ..q }),
+        b'n' if !q.number => Some(Qualifiers { number: true, ..q }),
+        b'm' if !q.many => Some(Qualifiers { many: true, ..q }),
+        b'f' if !q.rest => Some(Qualifiers { rest: true, ..q }),
+        _ => None,
+    }
+}
+
+fn with_qualifier(piece: &[u8], q: Qualifiers) -> Option<Qualifiers>
+    ensures { result ≡ with_qualifier piece.now q }
+{
+    match piece {
+        [letter] => with_letter(fold(*letter), q),
+        _ => None,
+    }
+}
+
+// The first place of a sign.
+fn place_of(sign: u8, text: &[u8]) -> Option<usize>
+    ensures place { result ≡ position (is_byte sign) text.now }
+    ensures within { IfSome result (λ place. place < length text.now) }
+{
+    text.iter().position(|b| *b == sign)
+}
+
+fn parsed_qualifiers(text: &[u8]) -> Option<Qualifiers>
+    ensures { result ≡ qualifiers_of_pieces (slice_split (is_byte 47) text.now) }
+{
+    let q = letters_of(text)?;
+    if (q.switch || q.toggle) && place_of(b'/', text).is_some() {
+        return None;
+    }
+    Some(q)
+}
+
+fn letters_of(text: &[u8]) -> Option<Qualifiers>
+    ensures { result ≡ parsed_qualifiers no_qualifiers (slice_split (is_byte 47) text.now) }
+{
+    let mut q = Qualifiers::none();
+    let mut rest = text;
+    while let Some(place) = place_of(b'/', rest) {
+        q = with_qualifier(&rest[..place], q)?;
+        rest = &rest[place + 1..];
+    }
+    with_qualifier(rest, q)
+}
+
+// The names of an option.
+fn names_of(alloc: Global, text: &[u8]) -> Result<Texts, NoMemory>
+    ensures { IfOk result (λ texts. texts ≡ names_of text.now) }
+{
+    let mut names = Texts::new(alloc);
+    let mut rest = text;
+    while let Some(place) = place_of(b'=', rest) {
+        names.push(Text::from_bytes(alloc, &rest[..place])?)?;
+        rest = &rest[place + 1..];
+    }
+    names.push(Text::from_bytes(alloc, rest)?)?;
+    Ok(names)
+}
+
+// The option of a text; `None` if it is not one.
+fn option_of(alloc: Global, text: &[u8]) -> Result<Option<TemplateOption>, NoMemory>
+    ensures { IfOk result (λ option. option ≡ option_of text.now) }
+{
+    match place_of(b'/', text) {
+        None => Ok(Some(TemplateOption {
+            names: names_of(alloc, text)?,
+            qualifiers: Qualifiers::none(),
+        })),
+        Some(place) => match parsed_qualifiers(&text[place + 1..]) {
+            None => Ok(None),
+            Some(qualifiers) => Ok(Some(TemplateOption {
+                names: names_of(alloc, &text[..place])?,
+                qualifiers,
+            })),
+        },
+    }
+}
+
+// Adds the option of a text.
+fn push_option(
+    alloc: Global,
+    text: &[u8],
+    options: &mut Vec<TemplateOption>,
+) -> Result<(), ArgFault>
+    ensures ok { OnOk result (options_with Some options.old.items (option_of text.now) ≡ Some options.new.items) }
+    ensures bad { IfErr result (IsBadTemplate (options_with Some options.old.items (option_of text.now))) }
+{
+    match option_of(alloc, text)? {
+        None => Err(ArgFault::BadTemplate),
+        Some(option) => {
+            options.push(option)?;
+            Ok(())
+        }
+    }
+}
+
+// The options of a text, which commas separate.
+pub fn parsed_options(alloc: Global, text: &[u8]) -> Result<Vec<TemplateOption>, ArgFault>
+    ensures ok { IfOk result (λ options. parsed_options [] (slice_split (is_byte 44) text.now) ≡ Some options.items) }
+    ensures bad { IfErr result (IsBadTemplate (parsed_options [] (slice_split (is_byte 44) text.now))) }
+{
+    let mut options = Vec::new(alloc);
+    let mut rest = text;
+    while let Some(place) = place_of(b',', rest) {
+        push_option(alloc, &rest[..place], &mut options)?;
+        rest = &rest[place + 1..];
+    }
+    push_option(alloc, rest, &mut options)?;
+    Ok(options)
+}
