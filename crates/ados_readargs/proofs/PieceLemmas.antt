@@ -11,7 +11,8 @@ use Rattle.ados_readargs.specs.declared.options.TemplateOption.{TemplateOption}
 use Rattle.ados_readargs.specs.declared.errors.ArgFault.{ArgFault}
 use Rattle.ados_readargs.specs.declared.errors.ArgFault.TheVariants as fault
 use Rattle.ados_readargs.specs.Faults.{IsBadTemplate}
-use Rattle.ados_readargs.specs.Template.{is_byte, names_of, if_qualifiers, parsed_qualifiers, with_qualifier, options_with, option_of, parsed_options}
+use Rattle.ados_readargs.specs.Template.{is_byte, names_of, if_qualifiers, parsed_qualifiers, with_qualifier, qualifiers_of_pieces, options_with, option_with, option_of_pieces, option_of, parsed_options}
+use Rattle.ados_readargs.specs.Options.{no_qualifiers}
 
 found : (b : Bool) (n place : ℕ) → cond b (Some n) None ≡ Some place → (b ≡ true) × (n ≡ place)
 found true n place e = (refl, cc)
@@ -129,3 +130,18 @@ several sign text None e = ap (λ (pieces : List (List ℕ)). nat_lt 1 (length p
 several sign text (Some place) e =
     let more = length-slice_split (is_byte sign) (rest_after place text) in
     ap (λ (pieces : List (List ℕ)). nat_lt 1 (length pieces)) (cut sign text place e) ∙ grind (arith, nat_tests, more)
+
+-- an option that has no qualifiers
+pub option-plain : (text : List ℕ) → position (is_byte 47) text ≡ None → option_with text (Some no_qualifiers) ≡ option_of text
+option-plain text none = sym (ap option_of_pieces (cut-last 47 text none))
+
+-- an option with qualifiers
+pub option-cut : (text : List ℕ) (place : ℕ) → position (is_byte 47) text ≡ Some place
+    → option_with (take place text) (qualifiers_of_pieces (slice_split (is_byte 47) (rest_after place text))) ≡ option_of text
+option-cut text place at = sym (ap option_of_pieces (cut 47 text place at))
+
+-- the last option is bad
+pub options-end-bad : (whole : Option (List TemplateOption)) (done : List TemplateOption) (rest : List ℕ) (e : ArgFault)
+    → whole ≡ parsed_options done (slice_split (is_byte 44) rest) → position (is_byte 44) rest ≡ None → IsBadTemplate (options_with Some done (option_of rest)) e
+    → IsBadTemplate whole e
+options-end-bad whole done rest e here none bad = subst (λ options. IsBadTemplate options e) (sym (options-end whole done rest here none)) bad

@@ -1,9 +1,9 @@
 // What the text of a template says: its options, their names and their qualifiers.
-ghost use Rattle.std.specs.Prelude.{◌≡◌, ◌<◌, [], Some, length, position, IfOk, IfErr, IfSome, OnOk};
+ghost use Rattle.std.specs.Prelude.{◌≡◌, ◌<◌, [], Some, length, position, IfOk, IfErr, IfSome, OnOk, nat_lt};
 ghost use Rattle.std.specs.List.{slice_split};
 ghost use Rattle.ados_readargs.specs.Options.{no_qualifiers};
 ghost use Rattle.ados_readargs.specs.Faults.{IsBadTemplate};
-ghost use Rattle.ados_readargs.specs.Template.{with_letter, with_qualifier, parsed_qualifiers, qualifiers_of_pieces, is_byte, names_of, option_of, options_with, parsed_options};
+ghost use Rattle.ados_readargs.specs.Template.{with_letter, with_qualifier, parsed_qualifiers, qualifiers_if_alone, qualifiers_of_pieces, is_byte, names_of, option_with, option_of, options_with, parsed_options};
 
 use crate::errors::ArgFault;
 use crate::options::{Qualifiers, TemplateOption};
@@ -46,14 +46,28 @@ fn place_of(sign: u8, text: &[u8]) -> Option<usize>
     text.iter().position(|b| *b == sign)
 }
 
+// Whether a sign cuts a text in several pieces.
+fn is_cut(sign: u8, text: &[u8]) -> bool
+    ensures { result ≡ nat_lt 1 (length (slice_split (is_byte sign) text.now)) }
+{
+    place_of(sign, text).is_some()
+}
+
+// The qualifiers, unless one of them has to stand alone and does not.
+fn qualifiers_if_alone(text: &[u8], q: Qualifiers) -> Option<Qualifiers>
+    ensures { result ≡ qualifiers_if_alone (length (slice_split (is_byte 47) text.now)) q }
+{
+    if (q.switch || q.toggle) && is_cut(b'/', text) {
+        return None;
+    }
+    Some(q)
+}
+
 fn parsed_qualifiers(text: &[u8]) -> Option<Qualifiers>
     ensures { result ≡ qualifiers_of_pieces (slice_split (is_byte 47) text.now) }
 {
     let q = letters_of(text)?;
-    if (q.switch || q.toggle) && place_of(b'/', text).is_some() {
-        return None;
-    }
-    Some(q)
+    qualifiers_if_alone(text, q)
 }
 
 fn letters_of(text: &[u8]) -> Option<Qualifiers>
@@ -82,22 +96,40 @@ fn names_of(alloc: Global, text: &[u8]) -> Result<Texts, NoMemory>
     Ok(names)
 }
 
+// The option with the names that a text says, without qualifiers.
+fn plain_option(alloc: Global, names: &[u8]) -> Result<Option<TemplateOption>, NoMemory>
+    ensures { IfOk result (λ option. option ≡ option_with names.now (Some no_qualifiers)) }
+{
+    Ok(Some(TemplateOption {
+        names: names_of(alloc, names)?,
+        qualifiers: Qualifiers::none(),
+    }))
+}
+
+// The option with the names that a text says, if there are qualifiers.
+fn option_with(
+    alloc: Global,
+    names: &[u8],
+    qualifiers: Option<Qualifiers>,
+) -> Result<Option<TemplateOption>, NoMemory>
+    ensures { IfOk result (λ option. option ≡ option_with names.now qualifiers) }
+{
+    match qualifiers {
+        None => Ok(None),
+        Some(qualifiers) => Ok(Some(TemplateOption {
+            names: names_of(alloc, names)?,
+            qualifiers,
+        })),
+    }
+}
+
 // The option of a text; `None` if it is not one.
 fn option_of(alloc: Global, text: &[u8]) -> Result<Option<TemplateOption>, NoMemory>
     ensures { IfOk result (λ option. option ≡ option_of text.now) }
 {
     match place_of(b'/', text) {
-        None => Ok(Some(TemplateOption {
-            names: names_of(alloc, text)?,
-            qualifiers: Qualifiers::none(),
-        })),
-        Some(place) => match parsed_qualifiers(&text[place + 1..]) {
-            None => Ok(None),
-            Some(qualifiers) => Ok(Some(TemplateOption {
-                names: names_of(alloc, &text[..place])?,
-                qualifiers,
-            })),
-        },
+        None => plain_option(alloc, text),
+        Some(place) => option_with(alloc, &text[..place], parsed_qualifiers(&text[place + 1..])),
     }
 }
 
@@ -127,8 +159,9 @@ pub fn parsed_options(alloc: Global, text: &[u8]) -> Result<Vec<TemplateOption>,
     let mut options = Vec::new(alloc);
     let mut rest = text;
     while let Some(place) = place_of(b',', rest) {
+        let after = &rest[place + 1..];
         push_option(alloc, &rest[..place], &mut options)?;
-        rest = &rest[place + 1..];
+        rest = after;
     }
     push_option(alloc, rest, &mut options)?;
     Ok(options)
