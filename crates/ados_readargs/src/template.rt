@@ -1,5 +1,5 @@
 // Templates, and which texts are templates.
-ghost use Rattle.std.specs.Prelude.{◌≡◌, [], Ok, Some, false, map, IfOk, IfErr, OnOk};
+ghost use Rattle.std.specs.Prelude.{◌≡◌, ◌<◌, [], Ok, Some, false, map, length, position, IfOk, IfErr, IfSome, OnOk};
 ghost use Rattle.std.specs.List.{slice_split, list_any, count_by};
 ghost use Rattle.ados_text.specs.Text.{to_ascii, is_same};
 ghost use Rattle.ados_readargs.specs.Options.{has_name, no_qualifiers};
@@ -166,22 +166,26 @@ fn pieces_at(alloc: Global, sign: u8, text: &[u8]) -> Result<Vec<&[u8]>, AllocEr
     text.split(|b| *b == sign).collect(alloc)
 }
 
-// The pieces as texts.
-fn texts_of(alloc: Global, pieces: &[&[u8]]) -> Result<Texts, NoMemory>
-    ensures { IfOk result (λ texts. texts ≡ map (map to_ascii) (map (λ p. p.now) pieces.now)) }
+// The first place of a sign.
+fn place_of(sign: u8, text: &[u8]) -> Option<usize>
+    ensures place { result ≡ position (is_byte sign) text.now }
+    ensures within { IfSome result (λ place. place < length text.now) }
 {
-    let mut texts = Texts::new(alloc);
-    for piece in pieces {
-        texts.push(Text::from_bytes(alloc, piece)?)?;
-    }
-    Ok(texts)
+    text.iter().position(|b| *b == sign)
 }
 
 // The names of an option.
 fn names_of(alloc: Global, text: &[u8]) -> Result<Texts, NoMemory>
     ensures { IfOk result (λ texts. texts ≡ names_of text.now) }
 {
-    texts_of(alloc, pieces_at(alloc, b'=', text)?.as_slice())
+    let mut names = Texts::new(alloc);
+    let mut rest = text;
+    while let Some(place) = place_of(b'=', rest) {
+        names.push(Text::from_bytes(alloc, &rest[..place])?)?;
+        rest = &rest[place + 1..];
+    }
+    names.push(Text::from_bytes(alloc, rest)?)?;
+    Ok(names)
 }
 
 // The option of a text; `None` if it is not one.
