@@ -5,6 +5,7 @@ ghost use Rattle.std.specs.Prelude.{[], OnOk};
 ghost use Rattle.ados_launch.specs.Agreement.{Agrees};
 
 mod alone;
+mod between;
 mod checks;
 mod deadline;
 mod delivery;
