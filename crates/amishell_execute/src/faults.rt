@@ -62,8 +62,8 @@ pub enum Fault {
     /// The Shell asked for a line of standard input, which was at its end.
     #[error("no answer for {0}")]
     Unanswered(String),
-    /// Lines of the script of this name must not be run as they are.
-    #[error("{0} is not run (--lenient runs it)")]
+    /// Lines of a script must not be run as they are; its name, and how it is run all the same.
+    #[error("{0}")]
     NotRun(String),
     /// There was no memory.
     #[error("out of memory")]

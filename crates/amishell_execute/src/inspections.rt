@@ -1,11 +1,13 @@
 //! `--check`: scripts are looked at, and those that they call, and nothing runs.
 
+use crate::checks::{is_struck, refusal_of};
 use crate::faults::{Fault, unread_script};
 use crate::hosts::hosts_for;
 use crate::status::Status;
 use ados_check::{Finding, Problem, inspect, mark, mark_printed, merge_returns, name_in_c, strike};
+use ados_items::{first_word, trimmed};
 use ados_resident::{DiskCommand, HostEntry};
-use ados_text::{NoMemory, Text};
+use ados_text::{NoMemory, Text, same_name};
 use ados_trace::escaped;
 use ados_transfer::{bytes_of, last_piece, parted, read_script, step_into};
 use execute_options::Options;
@@ -80,29 +82,52 @@ impl Inspector<'_> {
         path: &str,
     ) -> Result<bool, Fault> {
         let mut script = self.script_at(rt, path)?;
-        if self.options.ascii_marks {
-            mark(&mut script);
-        }
-        if self.options.strike {
-            strike(rt.alloc(), self.options.dialect, &mut script)?;
-        }
         let mut found = Vec::new(rt.alloc());
         if self.is_given(path) {
-            found = mark_printed(rt.alloc(), &mut script)?;
+            found = self.mend(rt.alloc(), &mut script)?;
         }
         for finding in inspect(rt.alloc(), self.options.dialect, &self.typed, &script)? {
             found.push(finding)?;
         }
         merge_returns(&mut found);
         found.sort_by(|a, b| a.line.cmp(&b.line))?;
+        let may_strike = self.is_given(path) && is_struck(&found);
         let mut is_wrong = false;
         for finding in &found {
             if !self.is_known(rt, &finding.problem)? {
-                write_line(rt, path, finding)?;
-                is_wrong = is_wrong || finding.problem.is_error();
+                let refusal = self.refusal(&finding.problem, may_strike);
+                write_line(rt, path, finding, refusal)?;
+                is_wrong = is_wrong || finding.problem.is_error() || refusal.is_some();
             }
         }
         Ok(is_wrong)
+    }
+
+    // Does to a script of the command line what is done to it before it runs; gives what is found of the bytes that it prints.
+    fn mend(&self, alloc: Global, script: &mut [u8]) -> Result<Vec<Finding>, NoMemory> {
+        if self.options.ascii_marks {
+            mark(script);
+        }
+        if self.options.strike {
+            strike(alloc, self.options.dialect, script)?;
+        }
+        mark_printed(alloc, script)
+    }
+
+    // What is said of a script that is not run because of a problem which is no error by itself.
+    fn refusal(&self, problem: &Problem, is_struck: bool) -> Option<&'static str> {
+        let is_run = self.options.lenient || self.may_rename();
+        if is_run || problem.is_error() || !problem.is_refused() {
+            return None;
+        }
+        Some(refusal_of(is_struck))
+    }
+
+    // A typed line may make an alias, and then a command with an option left out may be another one.
+    fn may_rename(&self) -> bool {
+        self.typed
+            .iter()
+            .any(|line| same_name(first_word(trimmed(line.as_bytes())), b"Alias"))
     }
 
     // A script as the Shell has it: a carriage return at the end of a line is taken off those of the command line alone.
@@ -237,9 +262,14 @@ fn is_name(name: &str, other: &str) -> bool {
     name.as_bytes().eq_ignore_ascii_case(other.as_bytes())
 }
 
-// Writes the line of a finding, as a compiler does.
-fn write_line<R: AllocGlobal + Print>(rt: &R, path: &str, finding: &Finding) -> Result<(), Fault> {
-    let kind = if finding.problem.is_error() {
+// Writes the line of a finding, as a compiler does; with it the script is refused if there is a text of that.
+fn write_line<R: AllocGlobal + Print>(
+    rt: &R,
+    path: &str,
+    finding: &Finding,
+    refusal: Option<&'static str>,
+) -> Result<(), Fault> {
+    let kind = if finding.problem.is_error() || refusal.is_some() {
         "error"
     } else {
         "note"
@@ -247,6 +277,10 @@ fn write_line<R: AllocGlobal + Print>(rt: &R, path: &str, finding: &Finding) -> 
     let line = format!(in rt.alloc(); "{path}:{}: {kind}: {}", finding.line, finding.problem)?;
     // A terminal obeys control characters, and a newline would begin another line.
     let mut line = escaped(rt.alloc(), &line)?;
+    if let Some(refusal) = refusal {
+        line.push_str(": the script ")?;
+        line.push_str(refusal)?;
+    }
     line.push('\n')?;
     match io::writer(rt).write_all(line.as_bytes()) {
         Ok(()) => Ok(()),
