@@ -54,7 +54,7 @@ impl Mirror {
         self.note_vanished(key, &here, entry)?;
         if is_absent && is_renamed {
             self.reports
-                .report_gone(key, disappearance.arrival.path.as_str())?;
+                .report_gone(disappearance.arrival.path.as_str())?;
         }
         let is_over = self.plan_deletion(plan, key, disappearance)?;
         if is_absent && is_over {

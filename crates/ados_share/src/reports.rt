@@ -30,6 +30,8 @@ pub struct Reports {
     unread_before: BTreeSet<String>,
     // The Shell's files had no place for an object.
     is_full: bool,
+    // Another program deleted a large file that the script had renamed: nothing brings it back.
+    is_gone: bool,
 }
 
 impl Reports {
@@ -48,6 +50,7 @@ impl Reports {
             unread: BTreeSet::new(alloc),
             unread_before: BTreeSet::new(alloc),
             is_full: false,
+            is_gone: false,
         }
     }
 
@@ -56,9 +59,13 @@ impl Reports {
         std::mem::replace(&mut self.lines, Vec::new(self.alloc))
     }
 
-    /// Something could not be read, written or brought in, and has not been since, or a change of the script is lost.
+    /// Something could not be read, written or brought in, and has not been since, or a change of the script is lost, or a file that it
+    /// renamed.
     pub fn has_failed(&self) -> bool {
-        !self.failing.is_empty() || !self.unread.is_empty() || !self.lost.is_empty()
+        !self.failing.is_empty()
+            || !self.unread.is_empty()
+            || !self.lost.is_empty()
+            || self.is_gone
     }
 
     /// A change of the script is lost, since this machine's object stood.
@@ -134,8 +141,8 @@ impl Reports {
     }
 
     /// Reports that another program deleted a large file whose stand-in the script renamed, before it got its new name.
-    pub fn report_gone(&mut self, key: &str, path: &str) -> Result<(), TransferFault> {
-        self.add_lost(key)?;
+    pub fn report_gone(&mut self, path: &str) -> Result<(), TransferFault> {
+        self.is_gone = true;
         self.report("gone, though the script renamed it", path)
     }
 
