@@ -68,7 +68,7 @@ pub enum Fault {
     /// There was no memory.
     #[error("out of memory")]
     Memory,
-    /// The help could not be written.
+    /// The help, or what a check found, could not be written.
     #[error("write fault")]
     Write,
     /// The run stopped before its end.

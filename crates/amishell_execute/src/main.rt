@@ -3,6 +3,7 @@
 
 ghost use Rattle.std.specs.Prelude.{[], OnOk};
 ghost use Rattle.ados_launch.specs.Agreement.{Agrees};
+ghost use Rattle.amishell_execute.specs.Status.{exit_status, number_of};
 
 mod alone;
 mod between;
@@ -66,14 +67,21 @@ use watched::Watched;
 
 fn main(rt: HostRuntime) -> ExitCode {
     let _held = held_descriptors(&rt);
-    let status = match run(&rt) {
+    let done = run(&rt);
+    ExitCode::from(settle(&rt, done).number())
+}
+
+// The exit status of what was done; a fault is reported.
+fn settle<R: AllocGlobal + Eprint>(rt: &R, done: Result<Status, Fault>) -> Status
+    ensures { number_of result ≡ exit_status done }
+{
+    match done {
         Ok(status) => status,
         Err(fault) => {
-            report(&rt, &fault);
+            report(rt, &fault);
             fault.status()
         }
-    };
-    ExitCode::from(status.number())
+    }
 }
 
 // Does what the words ask for, and gives the exit status.
@@ -170,7 +178,7 @@ fn run_script<
     let ended = play_watched(rt, world, script, share.as_mut(), traced);
     let outcome = hand_out(rt, options, world, share.as_mut())?;
     let code = ended.as_ref().ok().map(|end| end.code);
-    let status = status_after(rt, options, world, &origins, ended)?;
+    let status = settle(rt, status_after(rt, options, world, &origins, ended));
     if !options.quiet {
         tell_gone(rt, options, world, share.as_ref(), kept)?;
     }

@@ -167,15 +167,16 @@ impl Share {
         Ok(())
     }
 
-    /// Writes what changed to the folders at the end. `false` if the two sides are not alike then.
+    /// Writes what changed to the folders at the end. `false` if the two sides are not alike then; nothing ran if they did not come in.
     pub fn close<R: AllocGlobal + Files + Eprint + Clone + Drop + Clock>(
         &mut self,
         rt: &R,
         world: &World,
     ) -> Result<bool, Fault> {
-        if self.is_filled {
-            self.write_out(rt, world, Moment::End)?;
+        if !self.is_filled {
+            return Ok(true);
         }
+        self.write_out(rt, world, Moment::End)?;
         Ok(!self.mirror.differs())
     }
 
