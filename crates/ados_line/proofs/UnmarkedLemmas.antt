@@ -130,15 +130,15 @@ plain-parts (c ∷ cs) none =
     let rest = plain-parts cs all.1 in
     let first = or_parts (c == 36 || c == 96) (is_mark c) all.0 in
     let signs = or_parts (c == 36) (c == 96) first.0 in
-    (rw (signs.0) rest.0, rw (signs.1) rest.1.0, rw (first.1) rest.1.1)
+    (rw (signs.0) rest.0, rw (signs.1) rest.1, rw (first.1) rest.2)
 
 pub no_dollar : (line : List ℕ) → list_any is_special line ≡ false → list_any (is_byte 36) line ≡ false
 no_dollar line none = (plain-parts line none).0
 
 pub no_back_tick : (line : List ℕ) → list_any is_special line ≡ false → list_any (is_byte 96) line ≡ false
-no_back_tick line none = (plain-parts line none).1.0
+no_back_tick line none = (plain-parts line none).1
 
 pub no_mark : (line : List ℕ) → list_any is_special line ≡ false → list_any is_mark line ≡ false
-no_mark line none = (plain-parts line none).1.1
+no_mark line none = (plain-parts line none).2
 
 pub ruleset plain_bytes = (no_dollar, no_back_tick, no_mark)

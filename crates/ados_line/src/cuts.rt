@@ -48,18 +48,14 @@ impl Cut {
     }
 
     /// The item is the command, and the line from a place on is its arguments.
-    #[tactic(auto, using(ados_text::proofs::TextLemmas::parts, ados_text::proofs::TextLemmas::ascii_kept))]
     #[inline(always)]
     pub fn of_command(alloc: Global, line: &[u8], item: &Item, to: usize) -> Result<Cut, NoMemory>
         requires { IsText line.now }
         ensures { IfOk result (λ read. read ≡ with_arguments (value_of line.now item.now) (drop to line.now)) }
     {
-        let command = match *item {
-            // Its bytes are ASCII, as those of the line are.
-            Item::Word { from, to } => Text::of_ascii(alloc, between(line, from, to))?,
-            _ => value(alloc, line, item)?,
-        };
-        let args = Text::of_ascii(alloc, between(line, to, line.len()))?;
+        let command = value(alloc, line, item)?;
+        let mut args = Text::new(alloc);
+        args.push_bytes(between(line, to, line.len()))?;
         Ok(Cut {
             command: Some(command),
             args,

@@ -1,5 +1,5 @@
 // What a raw line is read as: the order of comment, alias, variables, back-ticks and cut.
-ghost use Rattle.std.specs.Prelude.{◌≡◌, ◌<◌, ◌++◌, map, not, Err, IfOk, OnOk, length};
+ghost use Rattle.std.specs.Prelude.{◌≡◌, ◌<◌, ◌++◌, map, Err, IfOk, OnOk, length};
 ghost use Rattle.std.specs.List.{list_any};
 ghost use Rattle.ados_text.specs.Text.{IsText};
 ghost use Rattle.ados_line.specs.Answers.{Gives};
@@ -74,7 +74,7 @@ fn put_and_read(scope: &Scope, line: &[u8]) -> Result<Expanded, LineFault>
     requires { IsText line.now }
     ensures { Gives result (expanded_line (visible_variables scope.now) line.now) }
 {
-    let is_plain = is_plain(line);
+    let is_plain = !has_special(line);
     if !is_plain && line.contains(&b'$') {
         let text = put_values(scope, &read_letters(scope.alloc, line)?)?;
         read_text(scope.alloc, text.as_bytes(), 0)
@@ -87,12 +87,11 @@ fn put_and_read(scope: &Scope, line: &[u8]) -> Result<Expanded, LineFault>
     }
 }
 
-// Whether a line has no special byte: no variable and no command substitution, no quote and no redirection.
-#[inline(always)]
-fn is_plain(line: &[u8]) -> bool
-    ensures { result ≡ not (list_any is_special line.now) }
+// Whether a line has a special byte: that of a variable, of a command substitution, of a quote or of a redirection.
+fn has_special(line: &[u8]) -> bool
+    ensures { result ≡ list_any is_special line.now }
 {
-    !line.iter().any(is_special)
+    line.iter().any(is_special)
 }
 
 fn is_special(byte: &u8) -> bool
