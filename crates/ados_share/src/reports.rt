@@ -62,10 +62,7 @@ impl Reports {
     /// Something could not be read, written or brought in, and has not been since, or a change of the script is lost, or a file that it
     /// renamed.
     pub fn has_failed(&self) -> bool {
-        !self.failing.is_empty()
-            || !self.unread.is_empty()
-            || !self.lost.is_empty()
-            || self.is_gone
+        !self.failing.is_empty() || !self.unread.is_empty() || !self.lost.is_empty() || self.is_gone
     }
 
     /// A change of the script is lost, since this machine's object stood.

@@ -125,9 +125,7 @@ impl Inspector<'_> {
 
     // A typed line may make an alias, and then a command with an option left out may be another one.
     fn may_rename(&self) -> bool {
-        self.typed
-            .iter()
-            .any(|line| same_name(first_word(trimmed(line.as_bytes())), b"Alias"))
+        self.typed.iter().any(|line| same_name(first_word(trimmed(line.as_bytes())), b"Alias"))
     }
 
     // A script as the Shell has it: a carriage return at the end of a line is taken off those of the command line alone.

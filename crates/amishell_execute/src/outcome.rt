@@ -36,7 +36,11 @@ impl Outcome {
     {
         if !self.is_alike {
             // A code that is no status was told.
-            let code = if matches!(status, Status::Failed) { None } else { code };
+            let code = if matches!(status, Status::Failed) {
+                None
+            } else {
+                code
+            };
             report_lacking(rt, code)?;
             return Ok(Status::Failed);
         }
