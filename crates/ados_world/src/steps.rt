@@ -195,12 +195,12 @@ impl World {
         ) else {
             return Err(Refusal::NoMemory);
         };
-        let Ok(()) = change_shell(&mut self.shells, number, &mut draft.shell, &moved) else {
+        let Ok(()) = change_shell(&mut *self.shells, number, &mut draft.shell, &moved) else {
             return Err(Refusal::NoMemory);
         };
-        join(&mut self.shells, begun);
-        break_other(&mut self.shells, number, draft.breaking);
-        end_done(&mut self.shells, &mut self.ended, number);
+        join(&mut *self.shells, begun);
+        break_other(&mut *self.shells, number, draft.breaking);
+        end_done(&mut *self.shells, &mut self.ended, number);
         renew(
             self.alloc,
             &mut self.shared,
@@ -227,7 +227,7 @@ impl World {
         requires sane { IsSane (ended_world number codes self.old) }
         ensures { self.new ≡ ended_world number codes self.old }
     {
-        end(&mut self.shells, &mut self.ended, number, codes);
+        end(&mut *self.shells, &mut self.ended, number, codes);
     }
 }
 
