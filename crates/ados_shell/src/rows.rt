@@ -14,6 +14,7 @@ use ados_flow::Action;
 use ados_line::Line;
 use ados_machine::{Builtin, Question, reads_in_use, reads_shells};
 use ados_ram::Busy;
+use ados_resident::FlowCommand;
 use ados_readargs::Args;
 use ados_text::{Name, NoMemory, Stop, Text, Texts};
 
@@ -102,8 +103,21 @@ impl Draft {
         };
         let args = &mut self.args;
         let used = &mut self.used;
-        self.shell
-            .perform(scene, builtin, line, shared, others, args, used)
+        let action = self
+            .shell
+            .perform(scene, builtin, line, shared, others, args, used)?;
+        if matches!(builtin, Builtin::Flow(FlowCommand::Execute)) && self.asked.is_none() {
+            self.note_script(scene)?;
+        }
+        Ok(action)
+    }
+
+    /// The cache may learn where the script of an Execute is.
+    fn note_script(&mut self, scene: &Scene) -> Result<(), NoMemory> {
+        if let Some(word) = self.args.made_text(scene.alloc, 0)? {
+            self.note_question(scene, b"S:", &word);
+        }
+        Ok(())
     }
 
     /// What the command with this word, whose output leads there, sees of the shells that run.
