@@ -116,8 +116,9 @@ impl Commands {
         ensures fault { IfErr result (λ e. IsFaultOf (fill_of (template_of dialect builtin) text.now) e) }
     {
         if let Some(kept) = self.kept(builtin) {
-            let known =
-                kept.get_or_try_init(move || KnownTemplate::parse(alloc, dialect, builtin))?;
+            let known = kept.get_or_try_init(move || KnownTemplate::parse(
+                alloc, dialect, builtin,
+            ))?;
             if known.text == template(dialect, builtin) {
                 return known.template.fill_into(text, args);
             }

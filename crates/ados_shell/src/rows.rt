@@ -14,8 +14,8 @@ use ados_flow::Action;
 use ados_line::Line;
 use ados_machine::{Builtin, Question, reads_in_use, reads_shells};
 use ados_ram::Busy;
-use ados_resident::FlowCommand;
 use ados_readargs::Args;
+use ados_resident::FlowCommand;
 use ados_text::{Name, NoMemory, Stop, Text, Texts};
 
 impl Draft {

@@ -14,7 +14,7 @@ ghost use Rattle.ados_world.specs.Binding.{BindsOnlyWhatItUsed};
 ghost use Rattle.ados_machine.specs.Starts.{FailedStart};
 ghost use Rattle.ados_world.specs.Laws.{reports_break};
 ghost use Rattle.ados_world.specs.Shells.{IsShellNumber};
-ghost use Rattle.ados_world.specs.Steps.{step_result, draft_out, ended_world, world_after_turn};
+ghost use Rattle.ados_world.specs.Steps.{step_result, draft_out, ended_world, shells_with_begun, world_after_turn};
 
 use crate::breaks::{break_other, kind_breaks};
 use crate::carrying::moved_by;
@@ -184,21 +184,14 @@ impl World {
         let Ok(()) = self.ask(number, draft) else {
             return Err(Refusal::NoMemory);
         };
-        let Ok(begun) = new_shell(self.alloc, self.shells.places(), draft.begun.take()) else {
+        let changed = if draft.begun.is_none() && draft.renamed.is_none() {
+            self.shells.commit(number, &mut draft.shell)
+        } else {
+            self.change_shells(number, draft)
+        };
+        let Ok(()) = changed else {
             return Err(Refusal::NoMemory);
         };
-        let Ok(moved) = moved_by(
-            self.alloc,
-            &self.shared,
-            draft.shared.as_ref(),
-            draft.renamed.as_deref(),
-        ) else {
-            return Err(Refusal::NoMemory);
-        };
-        let Ok(()) = change_shell(&mut *self.shells, number, &mut draft.shell, &moved) else {
-            return Err(Refusal::NoMemory);
-        };
-        join(&mut *self.shells, begun);
         break_other(&mut *self.shells, number, draft.breaking);
         end_done(&mut *self.shells, &mut self.ended, number);
         renew(
@@ -207,6 +200,28 @@ impl World {
             draft.shared.take(),
             draft.asked.take(),
         );
+        Ok(())
+    }
+
+    // Commits what a turn makes of its shell, of the current directories of all shells if objects were moved, and the shell that it
+    // begins.
+    #[inline(never)]
+    fn change_shells(&mut self, number: u8, draft: &mut Draft) -> Result<(), NoMemory>
+        requires number { IsShellNumber number }
+        requires runs { is_some (numbered_shell self.old number) ≡ true }
+        ensures draft { draft.new ≡ record draft.old { begun = draft.new.begun; shell = draft.new.shell } }
+        ensures world { OnOk result (self.new ≡ record self.old { shells = shells_with_begun number draft.old self.old }) }
+        ensures unchanged { OnErr result (self.new ≡ self.old) }
+    {
+        let begun = new_shell(self.alloc, self.shells.places(), draft.begun.take())?;
+        let moved = moved_by(
+            self.alloc,
+            &self.shared,
+            draft.shared.as_ref(),
+            draft.renamed.as_deref(),
+        )?;
+        change_shell(&mut *self.shells, number, &mut draft.shell, &moved)?;
+        join(&mut *self.shells, begun);
         Ok(())
     }
 
