@@ -106,16 +106,20 @@ impl Draft {
         let action = self
             .shell
             .perform(scene, builtin, line, shared, others, args, used)?;
-        if matches!(builtin, Builtin::Flow(FlowCommand::Execute)) && self.asked.is_none() {
-            self.note_script(scene)?;
-        }
+        self.note_script(scene, builtin)?;
         Ok(action)
     }
 
-    /// The cache may learn where the script of an Execute is.
-    fn note_script(&mut self, scene: &Scene) -> Result<(), NoMemory> {
-        if let Some(word) = self.args.made_text(scene.alloc, 0)? {
-            self.note_question(scene, b"S:", &word);
+    /// The cache may learn where S: has the script that an Execute calls, unless it is to learn something else.
+    #[inline(always)]
+    fn note_script(&mut self, scene: &Scene, builtin: Builtin) -> Result<(), NoMemory>
+        ensures { OnOk result (self.new ≡ record self.old { asked = self.new.asked }) }
+    {
+        if !matches!(builtin, Builtin::Flow(FlowCommand::Execute)) || self.asked.is_some() {
+            return Ok(());
+        }
+        if let Some(script) = self.args.made_text(scene.alloc, 0)? {
+            self.note_question(scene, b"S:", &script);
         }
         Ok(())
     }
