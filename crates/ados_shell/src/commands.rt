@@ -1,5 +1,5 @@
 // The commands and their templates.
-ghost use Rattle.std.specs.Prelude.{◌≡◌, ◌++◌, map, IfErr, IfOk, Ok, OnOk};
+ghost use Rattle.std.specs.Prelude.{◌≡◌, ◌++◌, IfErr, IfOk, Ok, OnOk};
 ghost use Rattle.std.specs.List.{flat_map};
 ghost use Rattle.ados_readargs.specs.Faults.{IsFaultOf};
 ghost use Rattle.ados_readargs.specs.Fill.{fill_of};
