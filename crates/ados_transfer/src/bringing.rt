@@ -26,13 +26,22 @@ pub fn bring<R: AllocGlobal + Files + Clone + Drop>(
     words: &str,
     plan: &mut Plan,
 ) -> Result<(), TransferFault> {
+    let (path, place) = brought(rt, words)?;
+    walk(rt, files, path, place, plan)
+}
+
+/// The path that words of `--bring` name, and its place in the Shell's files. `CannotRead` if there is neither a file nor a folder.
+pub fn brought<'w, R: AllocGlobal + Files>(
+    rt: &R,
+    words: &'w str,
+) -> Result<(&'w str, Place), TransferFault> {
     let (path, name) = parted(rt, words);
     let found = match fs::metadata(rt, path) {
         Ok(found) if found.is_dir() || found.is_file() => found,
         _ => return Err(named(rt.alloc(), path, TransferFault::CannotRead)),
     };
     let place = target(rt, path, name, found.is_dir())?;
-    walk(rt, files, path, place, plan)
+    Ok((path, place))
 }
 
 /// The bytes of a script of this machine as the Shell reads it, within the limits of its files.
@@ -45,8 +54,7 @@ pub fn read_script<R: AllocGlobal + Files>(
     Ok(shell_script(rt.alloc(), bytes.as_slice())?)
 }
 
-/// Adds a script of this machine with these bytes to what is brought in, as a file in S:, and gives its place. Where its name is none
-/// of the Shell's files, it has a similar one there.
+/// Adds a script of this machine with these bytes to what is brought in, as a file in S:, and gives its place.
 pub fn bring_script<R: AllocGlobal + Files>(
     rt: &R,
     files: &Ram,
@@ -54,16 +62,21 @@ pub fn bring_script<R: AllocGlobal + Files>(
     script: &[u8],
     plan: &mut Plan,
 ) -> Result<Place, TransferFault> {
-    let alloc = rt.alloc();
-    let own = base_name(rt, path)?;
-    let name = similar_name(alloc, own.as_str())?;
-    let place = place_in(alloc, "S:")?.with(name_of(alloc, name.as_str(), path)?)?;
+    let place = script_place(rt, path)?;
     let content = Content::File {
-        bytes: FileBytes::from_slice(alloc, script)?,
+        bytes: FileBytes::from_slice(rt.alloc(), script)?,
         is_script: false,
     };
     plan.add_file(files, place.copy()?, content, path)?;
     Ok(place)
+}
+
+/// Where a script of this machine is put in S:. Where its name is none of the Shell's files, it has a similar one there.
+pub fn script_place<R: AllocGlobal + Files>(rt: &R, path: &str) -> Result<Place, TransferFault> {
+    let alloc = rt.alloc();
+    let own = base_name(rt, path)?;
+    let name = similar_name(alloc, own.as_str())?;
+    Ok(place_in(alloc, "S:")?.with(name_of(alloc, name.as_str(), path)?)?)
 }
 
 // A name of this machine as one of the Shell's files: its first 30 bytes, with `_` for each that no such name has.
@@ -191,8 +204,8 @@ fn names_in<R: AllocGlobal + Files + Clone + Drop>(rt: &R, path: &str) -> io::Re
     Ok(names)
 }
 
-// The bytes of a file that the Shell can hold.
-fn read_file<R: AllocGlobal + Files>(
+/// The bytes of a file that the Shell can hold.
+pub fn read_file<R: AllocGlobal + Files>(
     rt: &R,
     limits: Limits,
     path: &str,

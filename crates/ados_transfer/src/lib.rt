@@ -36,7 +36,7 @@ mod words;
 mod writing;
 
 pub use below::Below;
-pub use bringing::{bring, bring_script, parted, read_script};
+pub use bringing::{bring, bring_script, brought, parted, read_file, read_script, script_place};
 pub use contents::{bytes_of, contents_of};
 pub use decision::{Decision, Removal, State, Terms, decide, decide_removal};
 pub use faults::TransferFault;
@@ -45,7 +45,7 @@ pub use here::{Here, check_readable, is_nothing};
 pub use left_alone::{LeftAlone, Obstacle};
 pub use lines::{BRING, Lines};
 pub use options::MirrorOptions;
-pub use paths::{ascii, folder_of, is_unshared, last_piece, step_into};
+pub use paths::{ascii, folder_of, is_file_name, is_unshared, last_piece, place_from, step_into};
 pub use places::{path_below, shell_path, spelled};
 pub use placing::{Draft, holds, is_immovable, is_one_name, place_whole, still_holds};
 pub use plan::Plan;

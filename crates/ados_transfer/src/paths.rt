@@ -6,7 +6,7 @@ use crate::faults::{TransferFault, named};
 use crate::writing::BESIDE;
 use ados_names::{Path, Step, is_name};
 use ados_ram::{Place, Ram};
-use ados_text::{Name, Stop, Text, TextFault};
+use ados_text::{Name, Stop, Text, TextFault, same_name};
 use std::alloc::Global;
 use std::fs;
 use std::rt::Files;
@@ -108,6 +108,57 @@ pub fn place_in(alloc: Global, path: &str) -> Result<Place, TransferFault> {
         }
     }
     Ok(place)
+}
+
+/// The place to which a name of the Shell leads at the beginning from a directory, whatever is there. `devices` are those of shared
+/// folders, each of which leads to the directory of its name in the root.
+///
+/// `None` if the name is no path, leads above the root, or names another device than these and the Shell's own.
+pub fn place_from(
+    alloc: Global,
+    name: &Text,
+    directory: &Place,
+    devices: &[Name],
+) -> Result<Option<Place>, TransferFault> {
+    let parsed = match Path::parse(alloc, name) {
+        Ok(parsed) => parsed,
+        Err(Stop::NoMemory) => return Err(TransferFault::NoMemory),
+        Err(Stop::Refused(_)) => return Ok(None),
+    };
+    let Some(mut place) = base_of(alloc, parsed.device(), directory, devices)? else {
+        return Ok(None);
+    };
+    for step in parsed.steps() {
+        match step {
+            Step::Name(name) => place = place.with(Name::new(name.copy()?))?,
+            Step::Up => match place.parent() {
+                Some(above) => place = above,
+                None => return Ok(None),
+            },
+        }
+    }
+    Ok(Some(place))
+}
+
+// Where the steps of a path begin.
+fn base_of(
+    alloc: Global,
+    device: Option<&Text>,
+    directory: &Place,
+    devices: &[Name],
+) -> Result<Option<Place>, TransferFault> {
+    let Some(device) = device else {
+        return Ok(Some(directory.copy()?));
+    };
+    if device.is("SYS") {
+        return Ok(Some(Place::root(alloc)));
+    }
+    for name in devices {
+        if same_name(name.text().as_bytes(), device.as_bytes()) {
+            return Ok(Some(Place::root(alloc).with(name.copy()?)?));
+        }
+    }
+    first_directory(alloc, Some(device))
 }
 
 /// A directory of the Shell may be shared as this place: nothing is there, or an empty directory other than S:, where the script

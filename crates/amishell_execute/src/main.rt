@@ -6,6 +6,7 @@ ghost use Rattle.ados_launch.specs.Agreement.{Agrees};
 
 mod alone;
 mod between;
+mod called;
 mod checks;
 mod deadline;
 mod delivery;
@@ -27,6 +28,7 @@ mod pace;
 mod play;
 mod reader;
 mod share;
+mod sources;
 mod stands;
 mod status;
 mod teller;
