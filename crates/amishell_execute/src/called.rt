@@ -13,9 +13,6 @@ use execute_options::Options;
 use std::alloc::Global;
 use std::rt::{Env, Files};
 
-// The word of a command has at most this many bytes.
-const WORD_BYTES: usize = 30;
-
 /// What a name in a script leads to.
 #[derive(Drop)]
 pub enum Found {
@@ -150,9 +147,6 @@ impl<'a> Beginning<'a> {
         word: &Text,
         caller: Option<&str>,
     ) -> Result<Found, Fault> {
-        if word.as_bytes().len() > WORD_BYTES {
-            return Ok(Found::Nothing);
-        }
         let limits = self.options.mirror.limits;
         match self.look_for_file(rt, word, caller)? {
             Some(Object::File { path, is_shared }) => {
