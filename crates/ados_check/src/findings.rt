@@ -129,6 +129,14 @@ impl Problem {
         }
     }
 
+    /// The command that is given options which the Shell leaves out, if it is of that.
+    pub fn command_left_out(&self) -> Option<&'static str> {
+        match self {
+            Problem::LeftOut(options) => Some(options.command()),
+            _ => None,
+        }
+    }
+
     /// Whenever the line is taken, it fails; otherwise it may be meant as it is.
     pub fn is_error(&self) -> bool
         ensures { result ≡ is_error self.now }

@@ -48,6 +48,11 @@ impl fmt::Display for LeftOut {
 }
 
 impl LeftOut {
+    /// The command's name.
+    pub fn command(&self) -> &'static str {
+        self.command
+    }
+
     /// None of its options has an effect which matters here: `strike` writes blanks over them all.
     pub fn is_idle(&self) -> bool
         ensures { result ≡ are_idle self.now.options.items }

@@ -80,6 +80,11 @@ impl MadeAliases {
     }
 }
 
+/// One of these lines makes an alias of a word, ignoring case, or may.
+pub fn may_make_alias(alloc: Global, lines: &[Text], word: &[u8]) -> Result<bool, NoMemory> {
+    MadeAliases::of(alloc, lines, &[])?.has(alloc, word)
+}
+
 // The name of which a line makes an alias, if it does.
 #[tactic(auto, using(ados_text::proofs::TextLemmas::parts))]
 fn alias_name(line: &[u8]) -> Option<&[u8]>
