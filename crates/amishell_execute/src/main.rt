@@ -6,7 +6,9 @@ ghost use Rattle.ados_launch.specs.Agreement.{Agrees};
 ghost use Rattle.amishell_execute.specs.Status.{exit_status, number_of};
 
 mod alone;
+mod beginning;
 mod between;
+mod called;
 mod checks;
 mod deadline;
 mod delivery;
@@ -131,7 +133,7 @@ fn execute<
 }
 
 // The folders that are shared, if any are.
-fn opened<R: Env + AllocGlobal + Files + Clone + Drop + Clock>(
+pub(crate) fn opened<R: Env + AllocGlobal + Files + Clone + Drop + Clock>(
     rt: &R,
     options: &Options<'_>,
     world: &mut World,
@@ -211,7 +213,7 @@ fn play_watched<R: AllocGlobal + Files + Input + Print + Eprint + Processes + Cl
 }
 
 // By which paths the scripts are named.
-fn origins_of<'a, R: AllocGlobal + Files>(
+pub(crate) fn origins_of<'a, R: AllocGlobal + Files>(
     rt: &R,
     options: &Options<'_>,
     plan: &'a Plan,
