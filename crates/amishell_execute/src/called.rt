@@ -7,9 +7,7 @@ use ados_find::{Refusal, find_file, is_path, place_of};
 use ados_ram::{Limits, Place, Ram};
 use ados_text::{NoMemory, Text};
 use ados_trace::ScriptNames;
-use ados_transfer::{
-    Plan, TransferFault, bring_script, contents_of, is_shell_script, read_script,
-};
+use ados_transfer::{Plan, TransferFault, bring_script, contents_of, is_shell_script, read_script};
 use execute_options::Options;
 use std::alloc::Global;
 use std::rt::{Env, Files};
@@ -134,9 +132,8 @@ impl<'a> Called<'a> {
 
     // The place is that of a script of the command line: of the caller, if that is one.
     fn is_own(&self, place: &Place, caller: Option<&str>) -> bool {
-        self.scripts
-            .iter()
-            .any(|(path, own)| *own == *place && caller.is_none_or(|caller| caller == *path))
+        self.scripts.iter().any(|(path, own)| *own == *place
+            && caller.is_none_or(|caller| caller == *path))
     }
 
     // The file at a place, by the path that a run gives it; the Shell's own ones are on no machine.

@@ -96,10 +96,8 @@ impl Inspector<'_> {
             Ok(whole) => String::from_str(rt.alloc(), whole.as_path().as_str())?,
             Err(_) => String::from_str(rt.alloc(), path)?,
         };
-        let is_there = self
-            .scripts
-            .iter()
-            .any(|script| script.is_given == is_given && script.whole == whole);
+        let is_there = self.scripts.iter().any(|script| script.is_given == is_given
+            && script.whole == whole);
         if !is_there {
             let path = String::from_str(rt.alloc(), path)?;
             self.scripts.push(Script {
