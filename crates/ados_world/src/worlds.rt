@@ -31,7 +31,7 @@ use std::marker::Model;
 pub struct World {
     pub(crate) alloc: Global,
     pub(crate) commands: Commands,
-    pub(crate) shells: Box<ShellTable>,
+    pub(crate) shells: ShellTable,
     pub(crate) ended: [Codes; 20],
     pub(crate) queue: VecDeque<Text>,
     pub(crate) input_ended: bool,
@@ -49,11 +49,11 @@ impl Model for World {
 
     ghost coded = { Prim.hlevel (codes, coded_files, coded_assigns) };
 
-    ghost view = { λ w. record { shells = w.shells.value; ended = w.ended; queue = w.queue.items; input_ended = w.input_ended; shared = w.shared } };
+    ghost view = { λ w. record { shells = w.shells; ended = w.ended; queue = w.queue.items; input_ended = w.input_ended; shared = w.shared } };
 
     // A frame whose last command reached the limit has ended, each background shell runs a frame, and each shell has the
     // number of its place.
-    ghost invariant = { λ w. IsSane (record { shells = w.shells.value; ended = w.ended; queue = w.queue.items; input_ended = w.input_ended; shared = w.shared }) };
+    ghost invariant = { λ w. IsSane (record { shells = w.shells; ended = w.ended; queue = w.queue.items; input_ended = w.input_ended; shared = w.shared }) };
 }
 
 impl World {
@@ -100,7 +100,7 @@ impl World {
         Ok(World {
             alloc,
             commands,
-            shells: Box::new(alloc, ShellTable::of_first(first))?,
+            shells: ShellTable::of_first(first),
             ended: [Codes::NONE; 20],
             queue: VecDeque::new(alloc),
             input_ended: false,
