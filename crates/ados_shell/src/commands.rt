@@ -36,7 +36,7 @@ type Kept = OnceCell<Box<KnownTemplate>>;
 // A template with its text, by which its command and its dialect are known.
 #[derive(Drop)]
 struct KnownTemplate {
-    text: &'static str,
+    text: Text,
     template: Template,
 }
 
@@ -47,21 +47,20 @@ impl Model for KnownTemplate {
 
     ghost view = { λ k. k.template };
 
-    ghost invariant = { λ k. k.template ≡ k.text.now };
+    ghost invariant = { λ k. k.template ≡ k.text };
 }
 
 impl KnownTemplate {
     // That of a command in a dialect.
+    #[tactic(auto, using(crate::proofs::CommandLemmas::ascii))]
     fn parse(
         alloc: Global,
         dialect: Dialect,
         builtin: Builtin,
     ) -> Result<Box<KnownTemplate>, NoMemory> {
-        let known = KnownTemplate {
-            text: template(dialect, builtin),
-            template: template_of(alloc, dialect, builtin)?,
-        };
-        Ok(Box::new(alloc, known)?)
+        let text = Text::from_bytes(alloc, template(dialect, builtin).as_bytes())?;
+        let template = template_of(alloc, dialect, builtin)?;
+        Ok(Box::new(alloc, KnownTemplate { text, template })?)
     }
 }
 
@@ -119,7 +118,7 @@ impl Commands {
             let known = kept.get_or_try_init(move || KnownTemplate::parse(
                 alloc, dialect, builtin,
             ))?;
-            if known.text == template(dialect, builtin) {
+            if known.text.as_bytes() == template(dialect, builtin).as_bytes() {
                 return known.template.fill_into(text, args);
             }
         }

@@ -136,7 +136,6 @@ fn replay<R: AllocGlobal + Files + Print + Eprint>(
 }
 
 // A world of a dialect in which nothing happened, with these programs of the host.
-#[inline(always)]
 fn fresh(alloc: Global, dialect: Dialect, hosts: &[HostEntry]) -> Result<World, Fault>
     requires free { are_free dialect hosts.now ≡ true }
     ensures world { IfOk result (λ world. world ≡ fresh_world dialect hosts.now) }
