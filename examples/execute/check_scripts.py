@@ -1,6 +1,6 @@
 #!/usr/bin/env python3
 """Checks the scripts of all documents and dialogues by amishell-execute --check: it accuses just the lines that are listed here, each
-of which fails in its document or dialogue, and an editor finds each line of which it speaks.
+of which fails in its document or dialogue (--lenient: not those for which a run does not run it), and an editor finds each line of which it speaks.
 
 usage: examples/execute/check_scripts.py PROGRAM
 
@@ -85,7 +85,7 @@ def accused(program, dialect, room, script):
     path = os.path.join(room, "script")
     with open(path, "w", encoding="latin-1") as file:
         file.write(script)
-    came = subprocess.run([program, *dialect, "--check", path], capture_output=True, timeout=60).stdout.decode("latin-1")
+    came = subprocess.run([program, *dialect, "--lenient", "--check", path], capture_output=True, timeout=60).stdout.decode("latin-1")
     lines = []
     for told in came.splitlines():
         read = ERROR_FORMAT.fullmatch(told)

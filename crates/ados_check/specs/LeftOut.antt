@@ -1,6 +1,6 @@
 -- The commands of a line that are given an option of Release 2 which the Shell leaves out; what is told of them, and struck.
 use Rattle.std.specs.Prelude.{ℕ, ◌+◌, ◌≡◌, ◌<◌, ◌==◌, ◌&&◌, ◌||◌, Bool, true, false, List, [], ◌∷◌, ◌++◌, Option, Some, None, flat_map, length, nat_le, nat_lt, slice_index, if◌then◌else◌}
-use Rattle.std.specs.List.{list_any}
+use Rattle.std.specs.List.{list_all, list_any}
 use Rattle.ados_text.specs.Lines.{lines_of}
 use Rattle.ados_text.specs.Text.{Bytes, Text}
 use Rattle.ados_items.specs.Items.{bytes_between}
@@ -119,6 +119,10 @@ struck is byte = if is then 32 else byte
 -- as long as before, and each byte is a blank if this holds of its place, and otherwise unchanged
 abbrev pub IsStruck : (ℕ → Bool) → Bytes → Bytes → Type 0
 IsStruck test old new = (length new ≡ length old) × ((k : ℕ) → k < length old → slice_index new k ≡ struck (test k) (slice_index old k))
+
+-- none of some options has an effect which matters here
+abbrev pub are_idle : List Given → Bool
+are_idle options = list_all (λ given. given.option.is_idle) options
 
 abbrev pub is_between : ℕ → ℕ → ℕ → Bool
 is_between from to k = nat_le from k && nat_lt k to

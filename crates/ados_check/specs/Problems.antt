@@ -1,5 +1,6 @@
 -- What problems mean for a run and for a check.
 use Rattle.std.specs.Prelude.{Bool, true, false}
+use Rattle.ados_check.specs.LeftOut.{are_idle}
 use Rattle.ados_check.specs.declared.findings.Problem.{Problem}
 use Rattle.ados_check.specs.declared.findings.Problem.TheVariants as problem
 
@@ -29,6 +30,19 @@ abbrev pub speaks_of_return : Problem → Bool
 speaks_of_return (problem.EndReturn others) = true
 speaks_of_return (problem.PrintedReturn others) = true
 speaks_of_return other = false
+
+-- because of it a run does not run the script, unless it is to be lenient
+abbrev pub is_refused : Problem → Bool
+is_refused (problem.NotAscii byte) = true
+is_refused (problem.EndReturn others) = true
+is_refused problem.ByteOrderMark = true
+is_refused (problem.LeftOut options) = true
+is_refused other = false
+
+-- it is of options alone that have no effect which matters here
+abbrev pub is_idle : Problem → Bool
+is_idle (problem.LeftOut one) = are_idle one.options.items
+is_idle other = false
 
 -- whenever the line is taken, it fails, or it must not be run
 abbrev pub is_error : Problem → Bool

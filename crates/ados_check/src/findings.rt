@@ -1,7 +1,7 @@
 //! What is found in a line of a script: its number and the problem, as texts.
 
 ghost use Rattle.std.specs.Prelude.{◌≡◌};
-ghost use Rattle.ados_check.specs.Problems.{is_error, is_harmless, refused, speaks_of_return};
+ghost use Rattle.ados_check.specs.Problems.{is_error, is_harmless, is_idle, is_refused, refused, speaks_of_return};
 
 use crate::left_out::LeftOut;
 use ados_line::LineFault;
@@ -104,6 +104,37 @@ impl Problem {
         ensures { result ≡ speaks_of_return self.now }
     {
         matches!(self, Problem::EndReturn(_) | Problem::PrintedReturn(_))
+    }
+
+    /// Because of it a run does not run the script, unless it is to be lenient.
+    pub fn is_refused(&self) -> bool
+        ensures { result ≡ is_refused self.now }
+    {
+        matches!(
+            self,
+            Problem::NotAscii(_)
+                | Problem::EndReturn(_)
+                | Problem::ByteOrderMark
+                | Problem::LeftOut(_)
+        )
+    }
+
+    /// It is of options alone that have no effect which matters here, and that can be struck out of the script.
+    pub fn is_idle(&self) -> bool
+        ensures { result ≡ is_idle self.now }
+    {
+        match self {
+            Problem::LeftOut(options) => options.is_idle(),
+            _ => false,
+        }
+    }
+
+    /// The command that is given options which the Shell leaves out, if it is of that.
+    pub fn command_left_out(&self) -> Option<&'static str> {
+        match self {
+            Problem::LeftOut(options) => Some(options.command()),
+            _ => None,
+        }
     }
 
     /// Whenever the line is taken, it fails; otherwise it may be meant as it is.

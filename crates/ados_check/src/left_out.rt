@@ -1,6 +1,6 @@
 //! The commands of a line that are given an option of Release 2 which the Shell leaves out, and so takes for a plain word.
 ghost use Rattle.std.specs.Prelude.{◌≡◌, ◌++◌, map, IfOk, IfSome, OnOk};
-ghost use Rattle.ados_check.specs.LeftOut.{IsBlanked, IsRidOfIdle, IsStruck, given_in, given_of, is_between, is_idle_in_line, is_in_idle, left_out_in, part_of, shown};
+ghost use Rattle.ados_check.specs.LeftOut.{IsBlanked, IsRidOfIdle, IsStruck, are_idle, given_in, given_of, is_between, is_idle_in_line, is_in_idle, left_out_in, part_of, shown};
 ghost use Rattle.ados_check.specs.Table.{AreReleaseTwo};
 
 use crate::arguments::argument_words;
@@ -44,6 +44,20 @@ impl fmt::Display for LeftOut {
             write!(f, "{}{}", mark, given.option.name)?;
         }
         write!(f, " here")
+    }
+}
+
+impl LeftOut {
+    /// The command's name.
+    pub fn command(&self) -> &'static str {
+        self.command
+    }
+
+    /// None of its options has an effect which matters here: `strike` writes blanks over them all.
+    pub fn is_idle(&self) -> bool
+        ensures { result ≡ are_idle self.now.options.items }
+    {
+        self.options.iter().all(|given| given.option.is_idle)
     }
 }
 

@@ -30,5 +30,6 @@ pub use inspection::inspect;
 pub use jumps::label_in;
 pub use left_out::strike;
 pub use lines::check;
+pub use made_aliases::may_make_alias;
 pub use marks::{mark, mark_printed};
 pub use returns::merge_returns;

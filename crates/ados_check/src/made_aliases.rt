@@ -3,7 +3,7 @@ ghost use Rattle.std.specs.Prelude.{◌≡◌, ◌≤◌, length, map, IfOk, IfS
 ghost use Rattle.std.specs.List.{prefix_len};
 ghost use Rattle.std.specs.Option.{option_map};
 ghost use Rattle.ados_text.specs.Text.{IsText, to_ascii};
-ghost use Rattle.ados_check.specs.Aliases.{HasAll, HasLine, HasLines, HasNone, alias_name, bare, has_made, is_open, not_quote};
+ghost use Rattle.ados_check.specs.Aliases.{HasAll, HasLine, HasLines, HasNone, alias_name, bare, has_made, is_open, may_be_alias, not_quote};
 
 use ados_items::{first_word, rest_of, trimmed};
 use ados_text::{Name, NoMemory, Text, same_name};
@@ -78,6 +78,13 @@ impl MadeAliases {
         let name = Name::new(Text::of_ascii(alloc, name)?);
         self.names.set(name, Text::new(alloc))
     }
+}
+
+/// One of these lines makes an alias of a word, ignoring case, or may.
+pub fn may_make_alias(alloc: Global, lines: &[Text], word: &[u8]) -> Result<bool, NoMemory>
+    ensures { IfOk result (λ may. may ≡ may_be_alias lines.now (map to_ascii word.now)) }
+{
+    MadeAliases::of(alloc, lines, &[])?.has(alloc, word)
 }
 
 // The name of which a line makes an alias, if it does.

@@ -1,5 +1,5 @@
 //! Bytes above 127 in whose place `_` is written, which no pattern has.
-ghost use Rattle.std.specs.Prelude.{◌≡◌, ◌&&◌, is_some, map, OnOk};
+ghost use Rattle.std.specs.Prelude.{◌≡◌, is_some, map, OnOk};
 ghost use Rattle.std.specs.List.{slice_split};
 ghost use Rattle.ados_text.specs.Lines.{is_newline};
 ghost use Rattle.ados_check.specs.LeftOut.{is_between};

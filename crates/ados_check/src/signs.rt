@@ -1,6 +1,6 @@
 //! Signs in a script that the Shell takes for something else: a byte above 127 is read as `?`, which in a name is a pattern that other
 //! names fit, and a carriage return at the end of a line is a byte of its last word.
-ghost use Rattle.std.specs.Prelude.{◌≡◌, ◌==◌, ◌&&◌, true, false, is_some, not, Some};
+ghost use Rattle.std.specs.Prelude.{◌≡◌, ◌&&◌, true, false, is_some, not, Some};
 ghost use Rattle.std.specs.List.{find, list_any};
 ghost use Rattle.std.specs.Str.{IsAscii};
 ghost use Rattle.ados_text.specs.Text.{is_past_ascii};

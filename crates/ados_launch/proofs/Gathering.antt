@@ -3,11 +3,10 @@ use Rattle.std.proofs.Common.{◌≡◌, ◌∙◌, ℕ, zero, suc, ◌+◌, ◌
 use Rattle.std.specs.Prelude.{IsErrAnd, OnErr, OnOk}
 use Rattle.std.proofs.KnownBytes.{Appends-nil, Appends-trans}
 use Rattle.std.proofs.Math.Seq.{take-append-add}
-use Rattle.std.proofs.lemmas.List.{take_all, take-append-le}
+use Rattle.std.proofs.lemmas.List.{take-append-le}
 use Rattle.std.specs.Io.KnownBytes.{Appends, append_known}
 use Rattle.ados_machine.specs.declared.events.BreakAt.{BreakAt}
 use Rattle.ados_machine.specs.declared.outs.Out.{Out}
-use Rattle.ados_launcher.specs.declared.calls.Call.{Call}
 use Rattle.ados_launch.specs.declared.faults.DriveFault.{DriveFault}
 use Rattle.ados_launch.specs.declared.faults.DriveFault.TheVariants.{Read, Write, Turns, Memory}
 use Rattle.ados_launch.specs.declared.faults.IntakeFault.{IntakeFault}
@@ -22,10 +21,10 @@ use Rattle.ados_launch.specs.Faults.{drive_fault}
 use Rattle.ados_launch.specs.Gathering.{FailsToWrite, Gathers, GathersNext, GetsPart, HasGatherResult, StopsAfter, StopsBefore, WritesGathered}
 use Rattle.ados_launch.specs.Intake.{TakesNextItem}
 use Rattle.ados_launch.specs.Lines.{bytes_ahead}
-use Rattle.ados_launch.specs.Schedule.{MayCome, Next, ScheduleState, scheduled_next, following_schedule_state, first_schedule_state, passed_schedule_state}
+use Rattle.ados_launch.specs.Schedule.{MayCome, Next, ScheduleState, scheduled_next, first_schedule_state, passed_schedule_state}
 use Rattle.ados_launch.specs.Session.{CutSessionProgress, Moment, Session}
-use Rattle.ados_launch.specs.Steps.{SessionState, HasTakeResult}
-use Rattle.ados_launch.specs.Taken.{TakenItem, bytes_of, written_bytes}
+use Rattle.ados_launch.specs.Steps.{SessionState}
+use Rattle.ados_launch.specs.Taken.{bytes_of, written_bytes}
 use Rattle.ados_launch.proofs.Sessions.{Driven, driven-more, driven-none, session-more, full-session, calls-more}
 use Rattle.ados_launch.proofs.Stepping.{stops-by, following-taken}
 use Rattle.ados_launch.proofs.Taken.{count-more, written-more}

@@ -24,7 +24,6 @@ pub mod Requests
 pub mod ActsLaws
 pub mod Deeding
 pub mod DeedsAlone
-pub mod DeedsTaken
 pub mod Stepping
 pub mod Gathering
 pub mod LinesOver

@@ -1,20 +1,14 @@
 -- The result of a schedule, for each way in which it can end.
-use Rattle.std.proofs.Common.{◌≡◌, ℕ, ◌+◌, ◌<◌, ◌≤◌, List, [], ◌++◌, Bool, true, length, take, Option, Some, Result, Ok, Err, arith, sym, subst, ◌∙◌, ◌⊎◌, append-nil}
+use Rattle.std.proofs.Common.{◌≡◌, ℕ, ◌<◌, ◌≤◌, List, [], ◌++◌, Bool, true, length, Option, Some, Result, Ok, Err, arith, sym, subst, ◌∙◌, append-nil}
 use Rattle.std.specs.Prelude.{IsErrAnd}
-use Rattle.std.specs.Io.KnownBytes.{Appends}
 use Rattle.ados_machine.specs.declared.events.BreakAt.{BreakAt}
-use Rattle.ados_machine.specs.declared.outs.Out.{Out}
 use Rattle.ados_machine.specs.World.{codes_at}
 use Rattle.ados_launcher.specs.declared.calls.Call.{Call}
 use Rattle.ados_launch.specs.declared.driver.End.{End}
 use Rattle.ados_launch.specs.declared.faults.DriveFault.{DriveFault}
 use Rattle.ados_launch.specs.declared.faults.DriveFault.TheVariants.{Read, Write, Turns, Memory}
-use Rattle.ados_launch.specs.declared.faults.IntakeFault.{IntakeFault}
-use Rattle.ados_launch.specs.declared.faults.IntakeFault.TheVariants.{NoMemory, Read as Unread}
 use Rattle.ados_launch.specs.Agreement.{Agrees, AreOver, WaitsForOpen}
 use Rattle.ados_launch.specs.Drives.{HasDriveResult, ComesToEnd, Drives, ReadsWell, StopsAtMemory, StopsAtRead, StopsAtTurns, StopsAtWrite, WritesWell}
-use Rattle.ados_launch.specs.Faults.{drive_fault, one_more}
-use Rattle.ados_launch.specs.Intake.{TakesNextItem}
 use Rattle.ados_launch.specs.Lines.{bytes_ahead, IsUnreadable, IfKnown}
 use Rattle.ados_launch.specs.NoFurther.{TakesPartAt}
 use Rattle.ados_launch.specs.Rounds.{IsIdle, IsRunning}
@@ -24,7 +18,7 @@ use Rattle.ados_launch.proofs.Coming.{next-running}
 use Rattle.ados_launch.proofs.Over.{calls-over, over}
 use Rattle.ados_launch.proofs.PartLines.{no-further}
 use Rattle.ados_launch.proofs.ReaderEnd.{reader-ended}
-use Rattle.ados_launch.proofs.Sessions.{Driven, driven-cut, next-dropped, next-is, stands, stands-after, takes-session, why-read}
+use Rattle.ados_launch.proofs.Sessions.{Driven, next-dropped, next-is, stands, stands-after, takes-session, why-read}
 use Rattle.ados_launch.proofs.Waits.{none-open}
 
 pub ends : (turns n : ℕ) (breaks : List BreakAt) (before now : Moment) (schedule : ScheduleState) (held : List ℕ) (end : End) → Driven before now breaks n schedule (bytes_ahead held now.left) → n ≤ turns
@@ -80,28 +74,6 @@ stops-read turns n breaks before mid now schedule rest held d few here stays wor
   cause = why-read before mid breaks n schedule rest d mid.read_faults before.read_faults now.read_faults held now.left reads less cause;
   writes_well = writes;
 }
-
-pub stops-write : (turns n m : ℕ) (breaks : List BreakAt) (before mid now : Moment) (schedule : ScheduleState) (rest later : Option (List ℕ)) (next : Next) (out : Out) → Driven before mid breaks n schedule rest → n < turns
-    → scheduled_next schedule mid.world ≡ Some next → (mid.is_full ≡ true → now.is_full ≡ true) → TakesNextItem mid.world rest now.is_full mid.calls next now.world later now.calls out → Agrees now.world now.calls
-    → m < length out.bytes → Appends mid.contents now.contents (take m out.bytes) → ReadsWell before now
-    → ((now.write_faults ≡ before.write_faults + 1) × (now.stalls ≡ before.stalls)) ⊎ ((now.write_faults ≡ before.write_faults) × (now.stalls ≡ one_more before.stalls))
-    → StopsAtWrite turns breaks before now
-stops-write turns n m breaks before mid now schedule rest later next out d few here stays t agrees some front reads cause = record {
-  n = n + 1;
-  within = omega (arith, few);
-  stands = driven-cut before mid now breaks n m schedule rest later next out d here stays t agrees some front;
-  cause = cause;
-  reads_well = reads;
-}
-
--- at an event that was not taken a run stops neither for its writer nor for its turns
-pub never-write : (fault : IntakeFault) → Write ≡ drive_fault fault → ⊥
-never-write Unread e = cc
-never-write NoMemory e = cc
-
-pub never-turns : (fault : IntakeFault) → Turns ≡ drive_fault fault → ⊥
-never-turns Unread e = cc
-never-turns NoMemory e = cc
 
 -- by its fault
 pub comes-by : (turns : ℕ) (breaks : List BreakAt) (before now : Moment) (result : Result End DriveFault) (P : DriveFault → Type 0) → IsErrAnd result P → (P Memory → StopsAtMemory turns breaks before now)

@@ -1,7 +1,6 @@
 -- How far a session has got.
-use Rattle.std.proofs.Common.{◌≡◌, ℕ, ◌+◌, ◌<◌, ◌≤◌, List, [], ◌∷◌, ◌++◌, Bool, true, length, take, Option, Some, Result, Ok, Err, arith, refl, ap, sym, subst, ◌∙◌, ◌⊎◌, inl, inr, append_assoc, append-nil, length-append}
+use Rattle.std.proofs.Common.{◌≡◌, ℕ, ◌+◌, ◌<◌, ◌≤◌, List, [], ◌∷◌, ◌++◌, Bool, true, length, Option, Some, Result, Ok, Err, arith, refl, ap, sym, subst, ◌∙◌, ◌⊎◌, inl, inr, append_assoc, append-nil}
 use Rattle.std.proofs.KnownBytes.{Appends-nil, Appends-trans}
-use Rattle.std.proofs.Math.Seq.{take-append-add}
 use Rattle.std.proofs.lemmas.List.{take_all}
 use Rattle.std.specs.Io.KnownBytes.{Appends}
 use Rattle.ados_machine.specs.declared.events.BreakAt.{BreakAt}
@@ -76,22 +75,6 @@ driven-more before mid now breaks n schedule after rest later next out d here st
       ∙ sym (standing-more (first_schedule_state breaks) before.world d.taken mid.world t.item d.session.run)));
   left_is = λ bytes e. (t.takes.lines (rest_after_items bytes d.taken) (d.left_is bytes e)).1 ∙ ap Some (sym (left-more bytes d.taken t.item));
   written = rw written-more (Appends-trans before.contents mid.contents now.contents (written_bytes d.taken) (bytes_of t.item) d.written (rw t.takes.out_is at grown));
-  calls_are = calls-more before.calls mid.calls now.calls d.listed t.listed d.calls_are t.calls_are;
-}
-
--- a prefix of the last one's bytes was written
-pub driven-cut : (before mid now : Moment) (breaks : List BreakAt) (n m : ℕ) (schedule : ScheduleState) (rest later : Option (List ℕ)) (next : Next) (out : Out)
-    → Driven before mid breaks n schedule rest → scheduled_next schedule mid.world ≡ Some next → (mid.is_full ≡ true → now.is_full ≡ true)
-    → TakesNextItem mid.world rest now.is_full mid.calls next now.world later now.calls out → Agrees now.world now.calls → m < length out.bytes → Appends mid.contents now.contents (take m out.bytes)
-    → CutSessionProgress before now breaks (n + 1)
-driven-cut before mid now breaks n m schedule rest later next out d here stays t agrees some front = record {
-  taken = d.taken ++ t.item ∷ [];
-  listed = d.listed ++ t.listed;
-  count_is = count-more d.taken t.item ∙ ap (λ i. i + 1) d.count_is;
-  session = session-more before mid now breaks n schedule rest later next out d here stays t agrees;
-  length_written = length (written_bytes d.taken) + m;
-  cut = rw (written-more, length-append) (let less = rw t.takes.out_is at some in omega (arith, less));
-  written = rw (written-more, take-append-add) (Appends-trans before.contents mid.contents now.contents (written_bytes d.taken) (take m (bytes_of t.item)) d.written (rw t.takes.out_is at front));
   calls_are = calls-more before.calls mid.calls now.calls d.listed t.listed d.calls_are t.calls_are;
 }
 

@@ -1,5 +1,5 @@
 -- What a step of a session leaves, as a part of a whole drive.
-use Rattle.std.proofs.Common.{◌≡◌, ◌∙◌, ℕ, ◌+◌, ◌<◌, ◌≤◌, List, Bool, true, false, is_none, None, length, Result, Ok, Err, refl, sym, ap, arith, IsErrOf}
+use Rattle.std.proofs.Common.{◌≡◌, ◌∙◌, ℕ, ◌+◌, ◌<◌, ◌≤◌, List, true, false, is_none, None, length, Result, Ok, Err, refl, sym, arith, IsErrOf}
 use Rattle.std.specs.Prelude.{IsErrAnd, IfOk, OnOk, OnErr}
 use Rattle.ados_machine.specs.declared.events.BreakAt.{BreakAt}
 use Rattle.ados_machine.specs.World.{WorldState, codes_at}
@@ -13,42 +13,17 @@ use Rattle.ados_launch.specs.Lines.{bytes_ahead}
 use Rattle.ados_launch.specs.Rounds.{due_place}
 use Rattle.ados_launch.specs.Schedule.{Next, AtBreak, AtLine, AtTurn, AtStart, AtFurther, ScheduleState, following_schedule_state, scheduled_next}
 use Rattle.ados_launch.specs.Session.{Moment}
-use Rattle.ados_launch.specs.Steps.{SessionState, TakesOne, TakesNothing, StopsUnread, StopsWithoutMemory, StopsUnwritten, HasTakeResult}
+use Rattle.ados_launch.specs.Steps.{SessionState, StopsUntaken, TakesNothing}
 use Rattle.ados_launch.proofs.Coming.{due-none, due-some, next-none}
 use Rattle.ados_launch.proofs.Over.{calls-over, over}
 use Rattle.ados_launch.proofs.Places.{idle, running}
-use Rattle.ados_launch.proofs.Outcomes.{ends, stops-memory, stops-read, stops-turns, stops-write}
-use Rattle.ados_launch.proofs.Sessions.{Driven, driven-more}
+use Rattle.ados_launch.proofs.Outcomes.{ends, stops-memory, stops-read, stops-turns}
+use Rattle.ados_launch.proofs.Sessions.{Driven}
 
--- by what was returned
-pub one-by : (was now : SessionState) (before after : Moment) (is_taken : Bool) → is_taken ≡ true → HasTakeResult was now before after (Ok is_taken) → TakesOne was now before after
-one-by was now before after true e took = took
-one-by was now before after false e took = cc
-
-pub nothing-by : (was now : SessionState) (before after : Moment) (is_taken : Bool) → is_taken ≡ false → HasTakeResult was now before after (Ok is_taken) → TakesNothing was now before after
-nothing-by was now before after true e took = cc
-nothing-by was now before after false e took = took
-
--- a step whose fault is one of these
-pub takes-by : (was now : SessionState) (before after : Moment) (result : Result Bool DriveFault) (P : DriveFault → Type 0) → IsErrAnd result P → (P Read → StopsUnread was now before after)
-    → (P Memory → StopsWithoutMemory was now before after) → (P Write → StopsUnwritten was now before after) → (P Turns → ⊥) → HasTakeResult was now before after result
-takes-by was now before after (Ok is_taken) P is read memory write turns = absurd is
-takes-by was now before after (Err Read) P is read memory write turns = read is
-takes-by was now before after (Err Memory) P is read memory write turns = memory is
-takes-by was now before after (Err Write) P is read memory write turns = write is
-takes-by was now before after (Err Turns) P is read memory write turns = turns is
-
--- one more was taken
-pub driven-step : (before mid now : Moment) (breaks : List BreakAt) (n : ℕ) (was next : SessionState) → Driven before mid breaks n was.schedule (bytes_ahead was.held mid.left)
-    → TakesOne was next mid now → (mid.is_full ≡ true → now.is_full ≡ true) → Agrees now.world now.calls → Driven before now breaks (n + 1) next.schedule (bytes_ahead next.held now.left)
-driven-step before mid now breaks n was next d t stays agrees =
-    driven-more before mid now breaks n was.schedule next.schedule (bytes_ahead was.held mid.left) (bytes_ahead next.held now.left) t.next t.out
-    d t.next_is stays t.takes agrees t.written t.schedule_is
-
--- no more was taken: the drive stops as the step did
+-- a step that took nothing stops the drive
 pub stops-by : (turns n : ℕ) (breaks : List BreakAt) (before mid now : Moment) (was next : SessionState) → Driven before mid breaks n was.schedule (bytes_ahead was.held mid.left) → n < turns
     → was.schedule.round.place ≤ 61 → (mid.is_full ≡ true → now.is_full ≡ true) → length next.held < 4096 → ReadsWell before mid → WritesWell before mid
-    → (fault : DriveFault) → HasTakeResult was next mid now (Err fault) → HasDriveResult turns breaks before now (Err fault)
+    → (fault : DriveFault) → StopsUntaken was next mid now (Err fault) → HasDriveResult turns breaks before now (Err fault)
 stops-by turns n breaks before mid now was next d few in_round stays less reads writes Read s =
     stops-read turns n breaks before mid now was.schedule (bytes_ahead was.held mid.left) next.held d few (rw s.fails.next_is at s.next_is) stays
     s.not_taken.world_is s.not_taken.contents_are s.fails.calls_are less reads s.fails.cause
@@ -57,9 +32,7 @@ stops-by turns n breaks before mid now was next d few in_round stays less reads 
     stops-memory turns n breaks before mid now was.schedule (bytes_ahead was.held mid.left) next.held s.next s.lacks.dropped d few in_round s.next_is stays
     s.not_taken.world_is s.not_taken.contents_are s.lacks.calls_are s.lacks.dropped_is less s.lacks.unread (s.lacks.reads_well ∙ reads)
     (s.not_taken.writes_well.0 ∙ writes.0, s.not_taken.writes_well.1 ∙ writes.1)
-stops-by turns n breaks before mid now was next d few in_round stays less reads writes Write s =
-    stops-write turns n s.length_written breaks before mid now was.schedule (bytes_ahead was.held mid.left) (bytes_ahead next.held now.left) s.next s.out d few
-    s.next_is stays s.takes s.agrees s.cut s.written (s.reads_well ∙ reads) (rw (writes.0, writes.1) at s.cause)
+stops-by turns n breaks before mid now was next d few in_round stays less reads writes Write s = absurd s
 stops-by turns n breaks before mid now was next d few in_round stays less reads writes Turns s = absurd s
 
 -- nothing comes any longer: no shell is left, and so no child is open
@@ -76,9 +49,6 @@ following-taken s w AtLine = refl
 following-taken s w (AtTurn shell) = refl
 following-taken s w (AtStart shell) = refl
 following-taken s w (AtFurther shell) = refl
-
-pub one-counted : (was now : SessionState) (before after : Moment) → TakesOne was now before after → now.schedule.taken ≡ was.schedule.taken + 1
-one-counted was now before after t = ap (λ s. s.taken) t.schedule_is ∙ following-taken was.schedule before.world t.next
 
 -- a drive whose fault is this one
 pub stops-at : (turns : ℕ) (breaks : List BreakAt) (before now : Moment) (result : Result End DriveFault) (fault : DriveFault) → IsErrAnd result (λ why. why ≡ fault) →

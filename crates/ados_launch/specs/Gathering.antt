@@ -1,8 +1,6 @@
 -- What is gathered for a writer: bytes that were printed, and are written together with what is printed after them.
-use Rattle.std.specs.Prelude.{◌≡◌, ◌⊎◌, ℕ, ◌+◌, ◌<◌, List, ◌++◌, length, position, take, is_some, Bool, true, false, Option, Some, Result, Ok, Err}
+use Rattle.std.specs.Prelude.{◌≡◌, ◌⊎◌, ℕ, ◌+◌, ◌<◌, List, ◌++◌, length, take, Bool, true, false, Option, Some, Result, Ok, Err}
 use Rattle.std.specs.Io.KnownBytes.{Appends}
-use Rattle.ados_text.specs.Lines.{is_newline}
-use Rattle.ados_line.specs.Cut.{line_limit}
 use Rattle.ados_machine.specs.declared.outs.Out.{Out}
 use Rattle.ados_launch.specs.declared.faults.DriveFault.{DriveFault}
 use Rattle.ados_launch.specs.declared.faults.DriveFault.TheVariants.{Read, Write, Turns, Memory}
@@ -11,9 +9,9 @@ use Rattle.ados_launch.specs.Drives.{ReadsWell, WritesWell}
 use Rattle.ados_launch.specs.Faults.{one_more}
 use Rattle.ados_launch.specs.Intake.{TakesNextItem}
 use Rattle.ados_launch.specs.Lines.{bytes_ahead}
-use Rattle.ados_launch.specs.Schedule.{Next, AtBreak, AtLine, AtTurn, AtStart, AtFurther, scheduled_next, following_schedule_state}
+use Rattle.ados_launch.specs.Schedule.{Next, scheduled_next, following_schedule_state}
 use Rattle.ados_launch.specs.Session.{Moment}
-use Rattle.ados_launch.specs.Steps.{SessionState, HasTakeResult}
+use Rattle.ados_launch.specs.Steps.{SessionState, StopsUntaken}
 
 -- What was gathered and these bytes after it are what the writer got and what is gathered now.
 abbrev pub Gathers : (was now : List ℕ) → (contents contents_now : Option (List ℕ)) → (bytes : List ℕ) → Type 0
@@ -36,6 +34,7 @@ pub record GathersNext (was now : SessionState) (before after : Moment) : Type 0
   pub takes : TakesNextItem before.world (bytes_ahead was.held before.left) after.is_full before.calls next after.world (bytes_ahead now.held after.left) after.calls out
   pub schedule_is : now.schedule ≡ following_schedule_state was.schedule before.world next
   pub gathers : Gathers was.gathered now.gathered before.contents after.contents out.bytes
+  pub reports_are : now.reports ≡ out.reports
   pub reads_well : ReadsWell before after
   pub writes_well : WritesWell before after
 
@@ -43,7 +42,7 @@ pub record GathersNext (was now : SessionState) (before after : Moment) : Type 0
 pub record WritesGathered (was now : SessionState) (before after : Moment) (result : Result Bool DriveFault) : Type 0 where
   pub written : Appends before.contents after.contents was.gathered
   pub none_is : length now.gathered ≡ 0
-  pub takes : HasTakeResult was now (record before { contents = after.contents }) after result
+  pub takes : StopsUntaken was now (record before { contents = after.contents }) after result
 
 -- Nothing was taken, nor asked of the reader or the launcher, and only a part of what was gathered was written.
 pub record StopsBefore (was : SessionState) (before after : Moment) : Type 0 where
@@ -61,6 +60,7 @@ pub record StopsAfter (was now : SessionState) (before after : Moment) : Type 0 
   pub takes : TakesNextItem before.world (bytes_ahead was.held before.left) after.is_full before.calls next after.world (bytes_ahead now.held after.left) after.calls out
   pub agrees : Agrees after.world after.calls
   pub gets : GetsPart before.contents after.contents (was.gathered ++ out.bytes)
+  pub reports_are : now.reports ≡ out.reports
   pub cause : FailsToWrite before.write_faults after.write_faults before.stalls after.stalls
   pub reads_well : ReadsWell before after
 

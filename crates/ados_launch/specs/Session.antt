@@ -1,5 +1,5 @@
 -- Sessions: what a driven world took from a reader, a launcher and a list of breaks, and what was written for it.
-use Rattle.std.specs.Prelude.{◌≡◌, ℕ, ◌+◌, ◌<◌, List, [], ◌∷◌, ◌++◌, length, take, Bool, true, Option, Some}
+use Rattle.std.specs.Prelude.{◌≡◌, ℕ, ◌<◌, List, [], ◌∷◌, ◌++◌, length, take, Bool, true, Option, Some}
 use Rattle.std.specs.Io.KnownBytes.{Appends}
 use Rattle.ados_machine.specs.declared.answers.Answer.{Answer as Reply}
 use Rattle.ados_machine.specs.declared.events.BreakAt.{BreakAt}
@@ -12,7 +12,7 @@ use Rattle.ados_launcher.specs.declared.calls.Call.{Call}
 use Rattle.ados_launch.specs.declared.lines.LineKind.TheVariants.{Overlong}
 use Rattle.ados_launch.specs.Agreement.{Agrees}
 use Rattle.ados_launch.specs.Lines.{IfKnown, bytes_ahead, rest_after_overlong, kind_of}
-use Rattle.ados_launch.specs.Taken.{TakenItem, taken_events, taken_outs, bytes_of, written_bytes, world_after_item, AreRead}
+use Rattle.ados_launch.specs.Taken.{TakenItem, taken_events, taken_outs, written_bytes, world_after_item, AreRead}
 use Rattle.ados_launch.specs.Asked.{AreAsked, call_of}
 use Rattle.ados_launch.specs.Schedule.{InOrder, Next, first_schedule_state, next_of_event}
 

@@ -46,14 +46,6 @@ pub fn why_stopped(fault: IntakeFault) -> DriveFault
     }
 }
 
-impl From<IntakeFault> for DriveFault {
-    ghost from_gives = { λ fault why. why ≡ drive_fault fault };
-
-    fn from(fault: IntakeFault) -> DriveFault {
-        why_stopped(fault)
-    }
-}
-
 impl From<WriteFault> for DriveFault {
     ghost from_gives = { λ _ fault. fault ≡ Write };
 

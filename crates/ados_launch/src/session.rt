@@ -7,12 +7,11 @@ ghost use Rattle.ados_machine.specs.World.{codes_at, pending_of};
 ghost use Rattle.ados_launch.specs.Agreement.{Agrees, AreOver, IsOpenTable, WaitsForOpen};
 ghost use Rattle.ados_launcher.specs.declared.calls.Call.{Call};
 ghost use Rattle.ados_launch.specs.Alone.{AgreesAfterLine};
-ghost use Rattle.ados_launch.specs.Deeds.{Does};
 ghost use Rattle.ados_launch.specs.Gathering.{FailsToWrite, GetsPart, HasGatherResult};
 ghost use Rattle.ados_launch.specs.Rounds.{asks_read_or_wait, due_place};
 ghost use Rattle.ados_launch.specs.Schedule.{IsInRound, first_schedule_state, next_named, scheduled_next, unless_break};
 ghost use Rattle.ados_launch.specs.Session.{moment_of};
-ghost use Rattle.ados_launch.specs.Steps.{HasTakeResult, is_write_fault, next_request};
+ghost use Rattle.ados_launch.specs.Steps.{next_request};
 
 use crate::alone::{SystemEnd, SystemFault};
 use crate::children::{children_after_line, wait_for_open};
@@ -23,7 +22,7 @@ use crate::gathered::Gathered;
 use crate::intake::Intake;
 use crate::next::Next;
 use crate::schedule::{self, Schedule};
-use crate::written::{WriteFault, write_whole};
+use crate::written::WriteFault;
 use crate::{Sink, Source};
 use ados_find::Renames;
 use ados_launcher::Launcher;
@@ -40,7 +39,7 @@ use std::marker::Model;
 pub struct Session<'a> {
     schedule: Schedule<'a>,
     intake: Intake,
-    // what events of `advance` printed and is not written yet
+    // what events printed and is not written yet
     gathered: Gathered,
 }
 
@@ -109,55 +108,12 @@ impl<'a> Session<'a> {
         }
     }
 
-    /// Takes the event that comes next, or a long line, and writes what it prints; `false` if nothing comes.
+    /// Takes the event that comes next, or a long line, and gathers what it prints; `false` if nothing comes. What was gathered is
+    /// written before anything that may wait, before each event if the writer tells of them, before a fault is returned, and if nothing
+    /// comes.
     ///
     /// Each error of [`Drive::run`](crate::Drive::run) except `Turns`. No more events are taken after one; then the open
     /// children are still to be waited for ([`abandon`](Session::abandon)).
-    pub fn take<L: Launcher, S: Source, K: Sink>(
-        &mut self,
-        world: &mut World,
-        launcher: &mut L,
-        reader: &mut S,
-        writer: &mut K,
-    ) -> Result<bool, DriveFault>
-        requires reader { S.faults reader.old < 2 ^ 64 - 1 }
-        requires writer { K.faults writer.old < 2 ^ 64 - 1 }
-        requires count { self.old.schedule.taken < 2 ^ 64 - 1 }
-        requires agrees { Agrees world.old (L.calls launcher.old) }
-        requires children { IsOpenTable self.old.children (L.calls launcher.old) }
-        // What was taken and written, or why not.
-        ensures takes { HasTakeResult self.old self.new
-            (moment_of S.left S.faults K.contents K.faults K.stalls L.calls L.is_full world.old reader.old writer.old launcher.old)
-            (moment_of S.left S.faults K.contents K.faults K.stalls L.calls L.is_full world.new reader.new writer.new launcher.new)
-            result }
-        // Nothing comes.
-        ensures over { IfOk result (λ is_taken. is_taken ≡ false → (reader.new ≡ reader.old) × (writer.new ≡ writer.old)) }
-        // However it ends, what happened is that one thing was taken, or nothing, and its bytes were written.
-        ensures does { Does world.old world.new (is_write_fault result) (K.contents writer.old) (K.contents writer.new) }
-        ensures stays { L.is_full launcher.old ≡ true → L.is_full launcher.new ≡ true }
-        ensures agrees { OnOk result (Agrees world.new (L.calls launcher.new)) }
-        ensures children { IsOpenTable self.new.children (L.calls launcher.new) }
-        // What the next step needs.
-        ensures count { self.new.schedule.taken ≤ self.old.schedule.taken + 1 }
-        ensures in_round { self.new.schedule.round.place ≤ 61 }
-        ensures few { length self.new.held < 4096 }
-        ensures reads { OnOk result (S.faults reader.new ≡ S.faults reader.old) }
-        ensures writes { OnOk result (K.faults writer.new ≡ K.faults writer.old) }
-    {
-        let Some(next) = self.schedule.next(world) else {
-            return Ok(false);
-        };
-        show(writer, world, next);
-        self.intake.take(world, launcher, reader, next)?;
-        writer.heed_ends(self.intake.draft.reports.as_slice());
-        write_whole(writer, self.intake.draft.printed.as_slice())?;
-        self.schedule.pass(next);
-        Ok(true)
-    }
-
-    // Takes the event that comes next, or a long line, and gathers what it prints; `false` if nothing comes. What was gathered is
-    // written before anything that may wait, before each event if the writer tells of them, before a fault is returned, and if nothing
-    // comes.
     pub fn advance<L: Launcher, S: Source, K: Sink>(
         &mut self,
         world: &mut World,
@@ -203,7 +159,7 @@ impl<'a> Session<'a> {
         Ok(true)
     }
 
-    // Writes what is gathered.
+    /// Writes what is gathered.
     pub fn release<K: Sink>(&mut self, writer: &mut K) -> Result<(), WriteFault>
         requires writer { K.faults writer.old < 2 ^ 64 - 1 }
         ensures none { self.new ≡ record self.old { gathered = [] } }
@@ -222,6 +178,7 @@ impl<'a> Session<'a> {
         ensures schedule { self.new.schedule ≡ self.old.schedule }
         ensures held { self.new.held ≡ self.old.held }
         ensures reports { self.new.reports ≡ self.old.reports }
+        ensures gathered { self.new.gathered ≡ self.old.gathered }
     {
         self.intake.children = children_after_line(world, ran);
     }

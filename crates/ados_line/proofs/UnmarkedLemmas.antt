@@ -1,5 +1,5 @@
--- a line without a `$`, and one without a back-tick, stays as it is
-use Rattle.std.proofs.Common.{◌≡◌, ◌∙◌, ℕ, zero, suc, ◌+◌, ◌<◌, List, [], ◌∷◌, ◌++◌, Bool, false, ◌==◌, None, position, take, drop, flat_map, append_assoc, refl, ap, arith}
+-- a line without a `$`, and one without a back-tick, stays as it is; a line without special bytes has neither, and no mark
+use Rattle.std.proofs.Common.{◌≡◌, ◌∙◌, ℕ, zero, suc, ◌+◌, ◌<◌, List, [], ◌∷◌, ◌++◌, Bool, false, ◌==◌, ◌||◌, None, position, take, drop, flat_map, append_assoc, refl, ap, arith}
 use Rattle.std.specs.List.{list_any, position_from}
 use Rattle.std.proofs.lemmas.Iterator.Adapters.{position_from-zero}
 use Rattle.std.proofs.lemmas.Bool.{or_parts}
@@ -9,6 +9,7 @@ use Rattle.ados_line.specs.declared.letters.Letter.{Letter}
 use Rattle.ados_line.specs.declared.letters.Letter.TheVariants.{Plain, Starred}
 use Rattle.ados_line.specs.Letters.{letter_bytes, letter_text, starless_text, letters_of}
 use Rattle.ados_line.specs.Cut.{cut_of, expanded_of_cut}
+use Rattle.ados_line.specs.Signs.{is_mark, is_special}
 use Rattle.ados_line.specs.Expansion.{then_cut, read_rest_of_text}
 use Rattle.ados_line.specs.Ticks.{is_tick, text_of, tickless_text, within_bytes, by_first}
 use Rattle.ados_line.specs.Values.{Variables, values}
@@ -119,3 +120,25 @@ no_ticks size line none text =
     ∙ ap (λ t. expanded_of_cut (cut_of t)) (parts-unticked n ls absent ascii ∙ same)
 
 pub ruleset plain_ticks = (no_ticks)
+
+-- none of a line's bytes is special: none is a `$` or a back-tick, and none is a mark
+plain-parts : (line : List ℕ) → list_any is_special line ≡ false
+    → (list_any (is_byte 36) line ≡ false) × (list_any (is_byte 96) line ≡ false) × (list_any is_mark line ≡ false)
+plain-parts [] none = (refl, refl, refl)
+plain-parts (c ∷ cs) none =
+    let all = or_parts (is_special c) (list_any is_special cs) none in
+    let rest = plain-parts cs all.1 in
+    let first = or_parts (c == 36 || c == 96) (is_mark c) all.0 in
+    let signs = or_parts (c == 36) (c == 96) first.0 in
+    (rw (signs.0) rest.0, rw (signs.1) rest.1, rw (first.1) rest.2)
+
+pub no_dollar : (line : List ℕ) → list_any is_special line ≡ false → list_any (is_byte 36) line ≡ false
+no_dollar line none = (plain-parts line none).0
+
+pub no_back_tick : (line : List ℕ) → list_any is_special line ≡ false → list_any (is_byte 96) line ≡ false
+no_back_tick line none = (plain-parts line none).1
+
+pub no_mark : (line : List ℕ) → list_any is_special line ≡ false → list_any is_mark line ≡ false
+no_mark line none = (plain-parts line none).2
+
+pub ruleset plain_bytes = (no_dollar, no_back_tick, no_mark)

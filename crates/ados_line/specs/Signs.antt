@@ -27,3 +27,7 @@ width_of Append = 2
 -- a quote, or a byte of a sign
 abbrev pub is_mark : ℕ → Bool
 is_mark c = c == 34 || (c == 60 || c == 62)
+
+-- it makes a line more than a command and its arguments: the `$` of a variable, a back-tick, or a mark
+abbrev pub is_special : ℕ → Bool
+is_special c = (c == 36 || c == 96) || is_mark c

@@ -1,17 +1,19 @@
 // What a raw line is read as: the order of comment, alias, variables, back-ticks and cut.
 ghost use Rattle.std.specs.Prelude.{◌≡◌, ◌<◌, ◌++◌, map, Err, IfOk, OnOk, length};
+ghost use Rattle.std.specs.List.{list_any};
 ghost use Rattle.ados_text.specs.Text.{IsText};
 ghost use Rattle.ados_line.specs.Answers.{Gives};
 ghost use Rattle.ados_line.specs.Alias.{with_alias};
 ghost use Rattle.ados_line.specs.Comment.{without_comment, IsUpToComment};
 ghost use Rattle.ados_line.specs.Expansion.{expand_raw_line, expanded_line, read_rest_of_text, read_resumed_text, resume_line, newline_to_space, without_newline, tick_text, IsMade, IsResumed};
+ghost use Rattle.ados_line.specs.Signs.{is_special};
 ghost use Rattle.ados_line.specs.Values.{visible_variables};
 
 use crate::aliases::replace_alias;
 use crate::comments::without_comment;
 use crate::faults::LineFault;
 use crate::letters::read_letters;
-use crate::lines::{Expanded, cut_text};
+use crate::lines::{Expanded, cut_plain_text, cut_text};
 use crate::scopes::Scope;
 use crate::ticks::{Parted, part_after};
 use crate::values::put_values;
@@ -66,23 +68,39 @@ pub fn resume(
     put_and_go_on(alloc, before, without_newline(output), after)
 }
 
-// Expands the variables of a line and reads it. Nearly all lines have none, and are read in place.
-#[tactic(auto, using(crate::proofs::UnmarkedLemmas::plain_values))]
+// Expands the variables of a line and reads it. Nearly all lines are plain, and are cut in place.
+#[tactic(auto, using(crate::proofs::UnmarkedLemmas::plain_values, crate::proofs::UnmarkedLemmas::plain_ticks, crate::proofs::UnmarkedLemmas::plain_bytes))]
 fn put_and_read(scope: &Scope, line: &[u8]) -> Result<Expanded, LineFault>
     requires { IsText line.now }
     ensures { Gives result (expanded_line (visible_variables scope.now) line.now) }
 {
-    if line.contains(&b'$') {
+    let is_plain = !has_special(line);
+    if !is_plain && line.contains(&b'$') {
         let text = put_values(scope, &read_letters(scope.alloc, line)?)?;
         read_text(scope.alloc, text.as_bytes(), 0)
     } else if line.len() > LINE_BYTES {
         Err(LineFault::LineTooLong)
+    } else if is_plain {
+        cut_plain_text(scope.alloc, line)
     } else {
         read_text(scope.alloc, line, 0)
     }
 }
 
-// Reads a text whose first `size` bytes are kept. Nearly all texts have no back-tick, and are cut in place.
+// Whether a line has a special byte: that of a variable, of a command substitution, of a quote or of a redirection.
+fn has_special(line: &[u8]) -> bool
+    ensures { result ≡ list_any is_special line.now }
+{
+    line.iter().any(is_special)
+}
+
+fn is_special(byte: &u8) -> bool
+    ensures { result ≡ is_special byte.now }
+{
+    matches!(*byte, b'$' | b'`' | b'"' | b'<' | b'>')
+}
+
+// Reads a text whose first `size` bytes are kept; one without a back-tick is cut in place.
 #[inline(always)]
 #[tactic(auto, using(crate::proofs::UnmarkedLemmas::plain_ticks))]
 fn read_text(alloc: Global, text: &[u8], size: usize) -> Result<Expanded, LineFault>

@@ -24,9 +24,9 @@ pub fn cut_line(alloc: Global, line: &[u8]) -> Result<Cut, LineFault>
     }
 }
 
-// The cut of a line without quotes and signs, as nearly all are: the text after the command is taken unchanged.
+/// The cut of a line of ASCII without quotes and signs, as nearly all are: the text after the command is taken unchanged.
 #[tactic(auto, using(crate::proofs::PlainLemmas::plain_cut))]
-fn cut_plain(alloc: Global, line: &[u8]) -> Result<Cut, NoMemory>
+pub fn cut_plain(alloc: Global, line: &[u8]) -> Result<Cut, NoMemory>
     requires ascii { IsText line.now }
     requires plain { list_any is_mark line.now ≡ false }
     ensures { IfOk result (λ read. cut_of line.now ≡ Ok read) }

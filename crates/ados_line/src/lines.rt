@@ -1,13 +1,15 @@
 // What a line is after its reading.
-ghost use Rattle.std.specs.Prelude.{◌≡◌, IfOk};
+ghost use Rattle.std.specs.Prelude.{◌≡◌, false, Ok, IfOk};
+ghost use Rattle.std.specs.List.{list_any};
 ghost use Rattle.ados_text.specs.Text.{IsText};
 ghost use Rattle.ados_line.specs.Answers.{Gives};
 ghost use Rattle.ados_line.specs.Cut.{cut_of, expanded_of_cut};
 ghost use Rattle.ados_line.specs.Pieces.{IsOfPieces};
+ghost use Rattle.ados_line.specs.Signs.{is_special};
 
 use crate::cuts::Cut;
 use crate::faults::LineFault;
-use crate::line_cuts::cut_line;
+use crate::line_cuts::{cut_line, cut_plain};
 use ados_text::{NoMemory, Text};
 use std::alloc::Global;
 
@@ -97,19 +99,41 @@ pub fn cut_text(alloc: Global, line: &[u8]) -> Result<Expanded, LineFault>
     ensures value { Gives result (expanded_of_cut (cut_of line.now)) }
     ensures pieces { IfOk result (IsOfPieces line.now) }
 {
-    let Cut {
-        command,
-        args,
-        input,
-        output,
-    } = cut_line(alloc, line)?;
-    match command {
-        None => Ok(Expanded::Nothing),
-        Some(command) => Ok(Expanded::Ready(Line {
+    let read = cut_line(alloc, line)?;
+    Ok(read.into_expanded())
+}
+
+// The cut of a text's bytes in which no byte is special.
+#[inline(always)]
+#[tactic(auto, using(crate::proofs::UnmarkedLemmas::plain_bytes))]
+pub fn cut_plain_text(alloc: Global, line: &[u8]) -> Result<Expanded, LineFault>
+    requires ascii { IsText line.now }
+    requires plain { list_any is_special line.now ≡ false }
+    ensures { Gives result (expanded_of_cut (cut_of line.now)) }
+{
+    Ok(cut_plain(alloc, line)?.into_expanded())
+}
+
+impl Cut {
+    // What a line is that was read whole.
+    #[inline(always)]
+    fn into_expanded(self) -> Expanded
+        ensures { Ok result ≡ expanded_of_cut (Ok self) }
+    {
+        let Cut {
             command,
             args,
             input,
             output,
-        })),
+        } = self;
+        match command {
+            None => Expanded::Nothing,
+            Some(command) => Expanded::Ready(Line {
+                command,
+                args,
+                input,
+                output,
+            }),
+        }
     }
 }

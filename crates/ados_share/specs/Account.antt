@@ -9,7 +9,7 @@ use Rattle.ados_share.specs.declared.account.Moment.TheVariants.{Meanwhile, Star
 use Rattle.ados_share.specs.declared.syncs.Attempt.{Attempt}
 use Rattle.ados_share.specs.declared.syncs.NamedFile.{NamedFile}
 use Rattle.ados_transfer.specs.declared.here.Here.{Here}
-use Rattle.ados_transfer.specs.declared.here.Here.TheVariants.{Absent, Directory as Folder, File as Seen, Large, Foreign, Unread}
+use Rattle.ados_transfer.specs.declared.here.Here.TheVariants.{File as Seen}
 use Rattle.ados_transfer.specs.Within.{is_beginning, is_substring}
 
 -- the path of the first object that could not be written: a later path does not replace it

@@ -2,7 +2,7 @@
 use Rattle.std.specs.Prelude.{Bool, false, ◌&&◌, not, if◌then◌else◌}
 use Rattle.ados_text.specs.Text.{Bytes}
 use Rattle.ados_transfer.specs.declared.here.Here.{Here}
-use Rattle.ados_transfer.specs.declared.here.Here.TheVariants.{Absent, Directory, File, Large, Foreign, Unread}
+use Rattle.ados_transfer.specs.declared.here.Here.TheVariants.{File}
 use Rattle.ados_share.specs.declared.backups.Retention.{Retention}
 use Rattle.ados_share.specs.declared.backups.Retention.TheVariants.{Goes, Waits, Stays}
 use Rattle.ados_transfer.specs.Within.{is_beginning}

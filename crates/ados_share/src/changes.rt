@@ -52,9 +52,9 @@ impl Mirror {
             is_foreign: matches!(state, State::Foreign),
         };
         self.note_vanished(key, &here, entry)?;
-        if is_absent && is_renamed {
+        if is_renamed && !here.is_unread() {
             self.reports
-                .report_gone(key, disappearance.arrival.path.as_str())?;
+                .report_gone(disappearance.arrival.path.as_str())?;
         }
         let is_over = self.plan_deletion(plan, key, disappearance)?;
         if is_absent && is_over {
@@ -135,6 +135,9 @@ impl Mirror {
             return Ok(());
         }
         let is_stand_in = record.is_some_and(Record::is_stand_in);
+        if record.is_some_and(|record| record.place != place && is_replaced(record, &here)) {
+            self.reports.report_replaced(seen.path.as_str())?;
+        }
         match here.decision(record, entry) {
             Decision::Keep => return self.keep_alike(plan, key, seen, &here, entry),
             Decision::Write => return self.keep_stamp(plan, key, seen, &here),
@@ -145,7 +148,7 @@ impl Mirror {
             }
             Decision::Bring => {}
         }
-        self.release(key, &place)?;
+        self.release(rt, key, seen.path.as_str(), &place)?;
         plan.add_object(self, key, seen, here, &place)
     }
 
@@ -202,4 +205,13 @@ fn is_of_kind(record: &Record, kind: Kind) -> bool
         (Last::File(_) | Last::StandIn(_), Kind::File { .. }) => true,
         _ => false,
     }
+}
+
+// Another file is there in place of a large one, or the large one was cut.
+fn is_replaced(record: &Record, here: &Here) -> bool {
+    let Some(stamp) = here.stamp() else {
+        return false;
+    };
+    let is_cut = stamp.size < record.stamp.size;
+    record.is_stand_in() && (is_cut || stamp.number != record.stamp.number)
 }

@@ -80,6 +80,9 @@ impl Mirror {
             self.report_waiting(files)?;
         }
         self.bar_copies(files, account)?;
+        if let Some(path) = self.reports.taken() {
+            account.refuse(path)?;
+        }
         self.report_account(account)
     }
 

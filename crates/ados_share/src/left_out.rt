@@ -1,6 +1,5 @@
 //! What the Shell has and an update never writes to the folder of a share, and why.
 ghost use Rattle.std.specs.Prelude.{◌≡◌, IfOk, OnOk, None, Some, true, false};
-ghost use Rattle.std.specs.List.{list_any};
 ghost use Rattle.ados_share.specs.LeftOut.{bytes_in, is_taken, is_taken_twice, twice_after};
 
 use crate::account::Account;

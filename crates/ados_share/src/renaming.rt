@@ -9,8 +9,8 @@ use std::rt::Files;
 use std::{fs, io};
 
 /// Gives a file a path below the folder that nothing has, if it is the file of this stamp, and gives the stamp that it has there. If it was
-/// changed since, it keeps the old stamp, so that the change is seen. Nothing if it is another file by now, something has the path, or the
-/// system refused it.
+/// changed since, it keeps the old stamp, so that the change is seen. Nothing if it is another file by now or was cut, something has the path,
+/// or the system refused it.
 pub fn renamed<R: AllocGlobal + Files>(
     rt: &R,
     from: &str,
@@ -67,7 +67,7 @@ fn try_rename<R: AllocGlobal + Files>(
 ) -> io::Result<Option<Stamp>> {
     let found = fs::symlink_metadata(rt, from)?;
     let before = Stamp::of(&found);
-    if !found.is_file() || before.number != stamp.number {
+    if !found.is_file() || before.number != stamp.number || before.size < stamp.size {
         return Ok(None);
     }
     if is_immovable(rt, from)? {

@@ -30,6 +30,11 @@ pub struct Reports {
     unread_before: BTreeSet<String>,
     // The Shell's files had no place for an object.
     is_full: bool,
+    // Another program deleted a large file that the script had renamed, wrote another in its place, or took its new name, before it had
+    // that: nothing undoes it.
+    is_spoilt: bool,
+    // The first new name that was taken so.
+    taken: Option<String>,
 }
 
 impl Reports {
@@ -48,6 +53,8 @@ impl Reports {
             unread: BTreeSet::new(alloc),
             unread_before: BTreeSet::new(alloc),
             is_full: false,
+            is_spoilt: false,
+            taken: None,
         }
     }
 
@@ -56,9 +63,13 @@ impl Reports {
         std::mem::replace(&mut self.lines, Vec::new(self.alloc))
     }
 
-    /// Something could not be read, written or brought in, and has not been since, or a change of the script is lost.
+    /// Something could not be read, written or brought in, and has not been since, or a change of the script is lost, or a file that it
+    /// renamed.
     pub fn has_failed(&self) -> bool {
-        !self.failing.is_empty() || !self.unread.is_empty() || !self.lost.is_empty()
+        !self.failing.is_empty()
+            || !self.unread.is_empty()
+            || !self.lost.is_empty()
+            || self.is_spoilt
     }
 
     /// A change of the script is lost, since this machine's object stood.
@@ -134,9 +145,29 @@ impl Reports {
     }
 
     /// Reports that another program deleted a large file whose stand-in the script renamed, before it got its new name.
-    pub fn report_gone(&mut self, key: &str, path: &str) -> Result<(), TransferFault> {
-        self.add_lost(key)?;
-        self.report("gone, though the script renamed it", path)
+    pub fn report_gone(&mut self, path: &str) -> Result<(), TransferFault> {
+        self.is_spoilt = true;
+        self.report_once("gone, though the script renamed it", path)
+    }
+
+    /// Reports that another program wrote another file in place of such a one.
+    pub fn report_replaced(&mut self, path: &str) -> Result<(), TransferFault> {
+        self.is_spoilt = true;
+        self.report_once("written over, though the script renamed it", path)
+    }
+
+    /// Reports by this text that another program took the new name of such a one, which keeps its old one.
+    pub fn report_taken(&mut self, text: &str, path: &str, new: &str) -> Result<(), TransferFault> {
+        self.is_spoilt = true;
+        if self.taken.is_none() {
+            self.taken = Some(String::from_str(self.alloc, new)?);
+        }
+        self.report_once(text, path)
+    }
+
+    /// The first new name that was taken so.
+    pub fn taken(&self) -> Option<&str> {
+        self.taken.as_deref()
     }
 
     /// Reports that a folder stays, since more is in it than the Shell knows, as this object, once until that is settled.

@@ -2,10 +2,12 @@
 //! deleted by it.
 
 use crate::mirror::Mirror;
+use crate::renaming::blocked_text;
 use ados_ram::{Bits, Place, Ram};
 use ados_text::{NoMemory, Text};
 use ados_transfer::{Last, Record, TransferFault, is_stand_in_of};
 use std::alloc::Global;
+use std::rt::Files;
 
 // What one event did with a stand-in.
 #[derive(Drop)]
@@ -54,8 +56,15 @@ impl Mirror {
         Ok(())
     }
 
-    // An object comes in at a place: another one's stand-in that was moved there is gone, and its file comes in again.
-    pub(crate) fn release(&mut self, key: &str, place: &Place) -> Result<(), TransferFault> {
+    // An object of this path comes in at a place: another one's stand-in that was moved there is gone, and its file comes in again under its
+    // old name. No program starts from then on: the script means another file by that name.
+    pub(crate) fn release<R: AllocGlobal + Files>(
+        &mut self,
+        rt: &R,
+        key: &str,
+        path: &str,
+        place: &Place,
+    ) -> Result<(), TransferFault> {
         let mut gone = Vec::new(self.alloc);
         for other in &self.stand_ins.keys {
             let record = self.records.get(other.as_str());
@@ -64,6 +73,11 @@ impl Mirror {
             }
         }
         for other in &gone {
+            if let Some(record) = self.records.get(other.as_str()) {
+                let text = blocked_text(rt, &self.volumes, path, None)?;
+                self.reports
+                    .report_taken(text.as_str(), record.path.as_str(), path)?;
+            }
             self.forget(other.as_str());
         }
         Ok(())

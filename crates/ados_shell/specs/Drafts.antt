@@ -63,6 +63,10 @@ drafted_shell draft shell = record {
   flagged = draft.flagged;
 }
 
+-- the shell with the codes, the limit and the flag of a draft
+abbrev pub with_codes : ShellDraft → ShellState → ShellState
+with_codes draft shell = record shell { parts = record shell.parts { limit = draft.limit; codes = draft.codes }; flagged = draft.flagged }
+
 -- what is given by an event that a draft holds
 abbrev pub out_of : Draft → Out
 out_of draft = event_out draft.printed.items draft.request draft.reports.items

@@ -1,5 +1,5 @@
 // The commands and their templates.
-ghost use Rattle.std.specs.Prelude.{◌≡◌, ◌++◌, map, IfErr, IfOk, Ok, OnOk};
+ghost use Rattle.std.specs.Prelude.{◌≡◌, ◌++◌, IfErr, IfOk, Ok, OnOk};
 ghost use Rattle.std.specs.List.{flat_map};
 ghost use Rattle.ados_readargs.specs.Faults.{IsFaultOf};
 ghost use Rattle.ados_readargs.specs.Fill.{fill_of};
@@ -17,67 +17,92 @@ use ados_readargs::{ArgFault, Args, Template};
 use ados_resident::Dialect;
 use ados_text::{Name, NoMemory, Text};
 use std::alloc::Global;
+use std::cell::OnceCell;
 use std::marker::Model;
 
-/// The templates of the commands in a dialect, each parsed once.
+/// The commands in a dialect. The template of each is parsed where it is first used.
 #[derive(Drop)]
 pub struct Commands {
     dialect: Dialect,
     // Each list is in the order of the crate's `COMMANDS`.
-    env: Vec<Template>,
-    files: Vec<Template>,
-    flow: Vec<Template>,
+    env: Vec<Kept>,
+    files: Vec<Kept>,
+    flow: Vec<Kept>,
+}
+
+// The template of a command, once it was used.
+type Kept = OnceCell<Box<KnownTemplate>>;
+
+// A template with its text, by which its command and its dialect are known.
+#[derive(Drop)]
+struct KnownTemplate {
+    text: Text,
+    template: Template,
+}
+
+impl Model for KnownTemplate {
+    ghost use Rattle.std.specs.Prelude.{◌≡◌, List, ℕ};
+
+    ghost Value = { List ℕ };
+
+    ghost view = { λ k. k.template };
+
+    ghost invariant = { λ k. k.template ≡ k.text };
+}
+
+impl KnownTemplate {
+    // That of a command in a dialect.
+    #[tactic(auto, using(crate::proofs::CommandLemmas::ascii))]
+    fn parse(
+        alloc: Global,
+        dialect: Dialect,
+        builtin: Builtin,
+    ) -> Result<Box<KnownTemplate>, NoMemory> {
+        let text = Text::from_bytes(alloc, template(dialect, builtin).as_bytes())?;
+        let template = template_of(alloc, dialect, builtin)?;
+        Ok(Box::new(alloc, KnownTemplate { text, template })?)
+    }
 }
 
 impl Model for Commands {
-    ghost use Rattle.std.specs.Prelude.{◌≡◌, map};
-    ghost use Rattle.ados_machine.specs.Commands.{template_of};
     ghost use Rattle.ados_resident.specs.declared.dialects.Dialect.{Dialect};
-    ghost use Rattle.ados_env.specs.declared.rows.TheConstants.{COMMANDS as ENV};
-    ghost use Rattle.ados_files.specs.declared.rows.TheConstants.{COMMANDS as FILES};
-    ghost use Rattle.ados_flow.specs.declared.rows.TheConstants.{COMMANDS as FLOW};
 
     ghost Value = { Dialect };
 
     ghost view = { λ c. c.dialect };
-
-    ghost invariant = { λ c. (c.env.items ≡ map (template_of c.dialect) ENV)
-        × (c.files.items ≡ map (template_of c.dialect) FILES) × (c.flow.items ≡ map (template_of c.dialect) FLOW) };
 }
 
 impl Commands {
-    /// Parses the templates of a dialect.
+    /// The commands of a dialect.
     pub fn new(alloc: Global, dialect: Dialect) -> Result<Commands, NoMemory>
         ensures { IfOk result (λ commands. commands ≡ dialect) }
     {
         Ok(Commands {
             dialect,
-            env: templates_of(alloc, dialect, &ados_env::COMMANDS)?,
-            files: templates_of(alloc, dialect, &ados_files::COMMANDS)?,
-            flow: templates_of(alloc, dialect, &ados_flow::COMMANDS)?,
+            env: none_kept(alloc, ados_env::COMMANDS.len())?,
+            files: none_kept(alloc, ados_files::COMMANDS.len())?,
+            flow: none_kept(alloc, ados_flow::COMMANDS.len())?,
         })
     }
 
-    /// The dialect in which the templates are.
+    /// Their dialect.
     pub fn dialect(&self) -> Dialect
         ensures { result ≡ self.now }
     {
         self.dialect
     }
 
-    /// The template of a command.
-    pub fn template(&self, builtin: Builtin) -> &Template
-        ensures { result.now ≡ template_of self.now builtin }
-    {
+    // Where the template of a command is kept.
+    fn kept(&self, builtin: Builtin) -> Option<&Kept> {
         match builtin {
-            Builtin::Env(command) => &self.env[command as usize],
-            Builtin::Files(command) => &self.files[command as usize],
-            Builtin::Flow(command) => &self.flow[command as usize],
+            Builtin::Env(command) => self.env.get(command as usize),
+            Builtin::Files(command) => self.files.get(command as usize),
+            Builtin::Flow(command) => self.flow.get(command as usize),
         }
     }
 
-    // Fills the arguments of a command by its template in a dialect. That of another dialect is parsed here; each world has the
-    // templates of its own.
+    // Fills the arguments of a command by its template in a dialect. If the one that is kept is of another dialect, it is parsed here; each
+    // world has commands of its own.
     fn fill(
         &self,
         alloc: Global,
@@ -89,14 +114,15 @@ impl Commands {
         ensures ok { OnOk result (fill_of (template_of dialect builtin) text.now ≡ Ok args.new) }
         ensures fault { IfErr result (λ e. IsFaultOf (fill_of (template_of dialect builtin) text.now) e) }
     {
-        match (self.dialect, dialect) {
-            (Dialect::Core, Dialect::Core) | (Dialect::Full, Dialect::Full) => {
-                self.template(builtin).fill_into(text, args)
-            }
-            (Dialect::Core, Dialect::Full) | (Dialect::Full, Dialect::Core) => {
-                template_of(alloc, dialect, builtin)?.fill_into(text, args)
+        if let Some(kept) = self.kept(builtin) {
+            let known = kept.get_or_try_init(move || KnownTemplate::parse(
+                alloc, dialect, builtin,
+            ))?;
+            if known.text.as_bytes() == template(dialect, builtin).as_bytes() {
+                return known.template.fill_into(text, args);
             }
         }
+        template_of(alloc, dialect, builtin)?.fill_into(text, args)
     }
 
     /// What a command of the newest frame does with the text of its arguments, which are filled into the arguments that are
@@ -126,18 +152,13 @@ impl Commands {
     }
 }
 
-fn templates_of(
-    alloc: Global,
-    dialect: Dialect,
-    builtins: &[Builtin],
-) -> Result<Vec<Template>, NoMemory>
-    ensures { IfOk result (λ templates. templates.items ≡ map (template_of dialect) builtins.now) }
-{
-    let mut templates = Vec::with_capacity(alloc, builtins.len())?;
-    for builtin in builtins {
-        templates.push(template_of(alloc, dialect, *builtin)?)?;
+// Room for the templates of so many commands, none of which was used.
+fn none_kept(alloc: Global, count: usize) -> Result<Vec<Kept>, NoMemory> {
+    let mut kept = Vec::with_capacity(alloc, count)?;
+    for _ in 0..count {
+        kept.push(OnceCell::new())?;
     }
-    Ok(templates)
+    Ok(kept)
 }
 
 fn template_of(alloc: Global, dialect: Dialect, builtin: Builtin) -> Result<Template, NoMemory>

@@ -169,6 +169,10 @@ impl Draft {
     pub fn ask_for(&mut self, shell: &Shell) -> Result<(), NoMemory>
         ensures { OnOk result (self.new ≡ record self.old { request = request_of shell.now.parts.number (drafted_phase self.old.shell) }) }
     {
+        if self.shell.phase.is_none() {
+            self.request = None;
+            return Ok(());
+        }
         self.request = self.shell.request(shell.number())?;
         Ok(())
     }

@@ -1,5 +1,6 @@
 // Taking a raw line.
-ghost use Rattle.std.specs.Prelude.{◌≡◌, IfOk, OnOk};
+ghost use Rattle.std.specs.Prelude.{◌≡◌, IfOk, IfSome, OnOk, OnSome};
+ghost use Rattle.ados_find.specs.declared.search.Found.TheVariants.{Internal};
 ghost use Rattle.ados_find.specs.Routes.{route_devices};
 ghost use Rattle.ados_machine.specs.Course.{with_devices_used};
 ghost use Rattle.ados_machine.specs.Completions.{line_fault};
@@ -8,8 +9,9 @@ ghost use Rattle.ados_machine.specs.Lines.{expanded_completion, found_completion
 use crate::completions::Completion;
 use crate::drafts::Draft;
 use crate::scenes::Scene;
-use ados_find::{Codes, Found, Search, find};
+use ados_find::{Codes, Found, Search, find, is_path};
 use ados_line::{Expanded, Line, LineFault, Scope, expand};
+use ados_resident::InternalCommand;
 use ados_text::{NoMemory, Result2, Stop, Text};
 
 impl Draft {
@@ -99,9 +101,42 @@ impl Draft {
         ensures { OnOk result (IsApplied scene.now self.old self.new
             (found_completion (found_in (course_of scene.now self.old) line.now.command) line.now (here_in scene.now self.old) (with_search_used line.now.command (course_of scene.now self.old)))) }
     {
+        match self.internal(scene, &line.command) {
+            Some(command) => {
+                let ended = self.execute_internal(scene, command, line);
+                self.conclude(scene, &line.command, ended)
+            }
+            None => self.seek_beyond(scene, line),
+        }
+    }
+
+    // The same where the command need not be an internal one.
+    #[inline(never)]
+    fn seek_beyond(&mut self, scene: &Scene, line: &Line) -> Result<(), NoMemory>
+        requires { IsUnset self.old }
+        ensures { OnOk result (IsApplied scene.now self.old self.new
+            (found_completion (found_in (course_of scene.now self.old) line.now.command) line.now (here_in scene.now self.old) (with_search_used line.now.command (course_of scene.now self.old)))) }
+    {
         let Search { found, route } = self.find(scene, &line.command)?;
         self.use_route(scene, route, &line.command)?;
         self.run_line(scene, found, line)
+    }
+
+    // The internal command that a word stands for, if one is listed and not disabled: no device is used to find it.
+    #[inline(always)]
+    #[tactic(auto, unfolding(ados_find::specs::Search::found_of, ados_find::specs::Search::searched_devices))]
+    fn internal(&self, scene: &Scene, word: &Text) -> Option<InternalCommand>
+        requires { IsUnset self.now }
+        ensures found { IfSome result (λ command. found_in (course_of scene.now self.now) word.now ≡ Internal command) }
+        ensures used { OnSome result (with_search_used word.now (course_of scene.now self.now) ≡ course_of scene.now self.now) }
+    {
+        if is_path(word) {
+            return None;
+        }
+        match self.current(scene).residents.internal(word) {
+            Some(internal) if !internal.is_disabled => Some(internal.command),
+            _ => None,
+        }
     }
 
     /// Runs a line for whose command this was found, and applies its completion to the frames.
@@ -121,10 +156,7 @@ impl Draft {
             (found_completion found line.now (here_in scene.now self.old) (course_of scene.now self.old)) }
     {
         match found {
-            Found::Internal(command) => match command.builtin() {
-                Some(builtin) => self.builtin(scene, builtin, line),
-                None => self.run(scene, line),
-            },
+            Found::Internal(command) => self.execute_internal(scene, command, line),
             Found::Resident(entry) => {
                 self.run_program(scene, Some(entry.name), entry.program, line)
             }
@@ -145,6 +177,24 @@ impl Draft {
                     quits: false,
                 })
             }
+        }
+    }
+
+    // Runs a line whose command is this internal one.
+    #[inline(always)]
+    fn execute_internal(
+        &mut self,
+        scene: &Scene,
+        command: InternalCommand,
+        line: &Line,
+    ) -> Result<Completion, Stop>
+        requires { IsUnset self.old }
+        ensures { HasEnded scene.now self.old self.new line.now.command result
+            (found_completion (Internal command) line.now (here_in scene.now self.old) (course_of scene.now self.old)) }
+    {
+        match command.builtin() {
+            Some(builtin) => self.builtin(scene, builtin, line),
+            None => self.run(scene, line),
         }
     }
 

@@ -15,6 +15,7 @@ use ados_line::Line;
 use ados_machine::{Builtin, Question, reads_in_use, reads_shells};
 use ados_ram::Busy;
 use ados_readargs::Args;
+use ados_resident::FlowCommand;
 use ados_text::{Name, NoMemory, Stop, Text, Texts};
 
 impl Draft {
@@ -102,8 +103,25 @@ impl Draft {
         };
         let args = &mut self.args;
         let used = &mut self.used;
-        self.shell
-            .perform(scene, builtin, line, shared, others, args, used)
+        let action = self
+            .shell
+            .perform(scene, builtin, line, shared, others, args, used)?;
+        self.note_script(scene, builtin)?;
+        Ok(action)
+    }
+
+    /// The cache may learn where S: has the script that an Execute calls, unless it is to learn something else.
+    #[inline(always)]
+    fn note_script(&mut self, scene: &Scene, builtin: Builtin) -> Result<(), NoMemory>
+        ensures { OnOk result (self.new ≡ record self.old { asked = self.new.asked }) }
+    {
+        if !matches!(builtin, Builtin::Flow(FlowCommand::Execute)) || self.asked.is_some() {
+            return Ok(());
+        }
+        if let Some(script) = self.args.made_text(scene.alloc, 0)? {
+            self.note_question(scene, b"S:", &script);
+        }
+        Ok(())
     }
 
     /// What the command with this word, whose output leads there, sees of the shells that run.

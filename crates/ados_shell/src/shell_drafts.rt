@@ -1,5 +1,5 @@
 // What a turn makes of its shell, to be committed.
-ghost use Rattle.std.specs.Prelude.{◌≡◌, ◌||◌, None, false, option_map, IfOk, OnErr, OnOk};
+ghost use Rattle.std.specs.Prelude.{◌≡◌, ◌||◌, None, false, true, option_map, IfOk, OnErr, OnOk};
 
 use crate::drafts::ShellDraft;
 use crate::seen::Others;
@@ -13,7 +13,7 @@ use ados_text::NoMemory;
 impl ShellDraft {
     ghost use Rattle.ados_find.specs.Changes.{parts_after_command, parts_by_change};
     ghost use Rattle.ados_machine.specs.Shells.{ShellState};
-    ghost use Rattle.ados_shell.specs.Drafts.{IsUnchanged, drafted_shell, drafted_phase};
+    ghost use Rattle.ados_shell.specs.Drafts.{IsUnchanged, drafted_shell, drafted_phase, with_codes};
     ghost use Rattle.ados_machine.specs.Requests.{request_of};
     ghost use Rattle.ados_shell.specs.Views.{shell_view};
 
@@ -107,6 +107,35 @@ impl ShellDraft {
     /// `NoMemory` if there is no room for the frames, for a new name or for what is asked for; the shell is then as it
     /// was.
     pub fn commit(&mut self, shell: &mut Shell) -> Result<(), NoMemory>
+        ensures ok { OnOk result (shell.new ≡ drafted_shell self.old shell.old) }
+        ensures err { OnErr result (shell.new ≡ shell.old) }
+    {
+        if !self.sets_codes_alone(shell) {
+            return self.commit_all(shell);
+        }
+        shell.limit = self.limit;
+        shell.codes = self.codes;
+        shell.flagged = self.flagged;
+        Ok(())
+    }
+
+    // The turn changed the shell's codes, its limit and its flag at most, as that of nearly each line does.
+    #[inline(always)]
+    fn sets_codes_alone(&self, shell: &Shell) -> bool
+        ensures { result ≡ true → drafted_shell self.now shell.now ≡ with_codes self.now shell.now }
+    {
+        self.phase.is_none()
+            && shell.phase.is_none()
+            && self.frames.own.is_empty()
+            && self.frames.kept_count == shell.frames.len()
+            && self.setting.is_none()
+            && self.kept.is_none()
+            && self.directory.is_none()
+    }
+
+    // Commits all that a turn makes of its shell.
+    #[inline(never)]
+    fn commit_all(&mut self, shell: &mut Shell) -> Result<(), NoMemory>
         ensures ok { OnOk result (shell.new ≡ drafted_shell self.old shell.old) }
         ensures err { OnErr result (shell.new ≡ shell.old) }
     {

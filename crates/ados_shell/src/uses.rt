@@ -81,7 +81,7 @@ impl Draft {
     }
 
     /// The cache may learn what the search of a word did not find in it.
-    fn note_question(&mut self, scene: &Scene, front: &[u8], word: &Text)
+    pub(crate) fn note_question(&mut self, scene: &Scene, front: &[u8], word: &Text)
         ensures { self.new ≡ record self.old { asked = self.new.asked } }
     {
         let directory = self.directory(scene);

@@ -27,16 +27,20 @@ pub struct Taker<'a, R> {
     written: BTreeSet<FileNumber>,
 }
 
-// The numbers of a device and of an inode, which tell a file by whatever path it is found.
-type FileNumber = (u64, u64);
+// The numbers by which the system tells a file, by whatever path it is found.
+#[derive(Clone, Copy, PartialEq, Eq, PartialOrd, Ord)]
+struct FileNumber {
+    device: u64,
+    inode: u64,
+}
 
 // Why an object is not taken.
 #[derive(Drop)]
 enum Refusal {
     // It is the stand-in of a file that is too large for the Shell, and holds nothing of it.
     StandIn,
-    // Other words have written a file of that name.
-    Written,
+    // Other words of --take wrote the file that is there.
+    OtherTake,
     // The system refused.
     Failure(io::Error),
 }
@@ -155,13 +159,12 @@ impl<'a, R: AllocGlobal + Files> Taker<'a, R> {
         };
         let target = path_of(self.rt.alloc(), folder, name)?;
         if let Ok(found) = fs::symlink_metadata(self.rt, target.as_str())
-            && self.written.contains(&number_of(&found))
+            && self.written.contains(&FileNumber::of(&found))
         {
-            return Err(Refusal::Written);
+            return Err(Refusal::OtherTake);
         }
-        write_whole(self.rt, folder, name, bytes)?;
-        let found = fs::symlink_metadata(self.rt, target.as_str())?;
-        self.written.insert(number_of(&found))?;
+        let found = write_whole(self.rt, folder, name, bytes)?;
+        self.written.insert(FileNumber::of(&found))?;
         Ok(())
     }
 }
@@ -171,7 +174,7 @@ impl Refusal {
     fn into_fault(self, alloc: Global, words: &str) -> TransferFault {
         match self {
             Refusal::StandIn => named(alloc, words, TransferFault::StandIn),
-            Refusal::Written => match format!(in alloc; "{words}: another --take wrote it") {
+            Refusal::OtherTake => match format!(in alloc; "{words}: another --take wrote it") {
                 Ok(words) => TransferFault::CannotTake(words),
                 Err(_) => TransferFault::NoMemory,
             },
@@ -183,9 +186,14 @@ impl Refusal {
     }
 }
 
-// The numbers of a file.
-fn number_of(found: &Metadata) -> FileNumber {
-    (found.dev(), found.ino())
+impl FileNumber {
+    // Those of a file that was looked at.
+    fn of(found: &Metadata) -> FileNumber {
+        FileNumber {
+            device: found.dev(),
+            inode: found.ino(),
+        }
+    }
 }
 
 /// The place of what words of `--take` name, as `NAME` or `NAME=PATH`, if they name one.

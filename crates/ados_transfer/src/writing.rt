@@ -10,7 +10,7 @@ use crate::stamps::Stamp;
 use ados_ram::FileBytes;
 use ados_text::Name;
 use std::alloc::Global;
-use std::fs::{OpenFile, OpenOptions, Permissions};
+use std::fs::{Metadata, OpenFile, OpenOptions, Permissions};
 use std::io::{ErrorKind, Write};
 use std::os::unix::fs::{OpenOptionsExt, PermissionsExt};
 use std::rt::Files;
@@ -124,15 +124,16 @@ pub fn no_memory() -> io::Error {
     io::Error::from(ErrorKind::OutOfMemory)
 }
 
-/// Writes a file with this name in a folder: a temporary file beside it, which then takes the name. A file that is there keeps its
-/// permissions and, where this user may give them, its owner and its group; one that may not be written is refused, and so are a link, a device, and a name that leads elsewhere. What came to be
-/// there since the look at it is not replaced: `AlreadyExists`.
+/// Writes a file with this name in a folder: a temporary file beside it, which then takes the name, and gives what that file is. A file
+/// that is there keeps its permissions and, where this user may give them, its owner and its group; one that may not be written is
+/// refused, and so are a link, a device, and a name that leads elsewhere. What came to be there since the look at it is not replaced:
+/// `AlreadyExists`.
 pub fn write_whole<R: AllocGlobal + Files>(
     rt: &R,
     folder: &str,
     name: &str,
     bytes: &FileBytes,
-) -> io::Result<()> {
+) -> io::Result<Metadata> {
     let target = path_of(rt.alloc(), folder, name)?;
     let seen = match fs::symlink_metadata(rt, target.as_str()) {
         Ok(found) if found.is_file() => Some(found),
@@ -146,18 +147,30 @@ pub fn write_whole<R: AllocGlobal + Files>(
         None => Manner::Plain,
     };
     let beside = write_beside(rt, folder, bytes, manner)?;
-    let placed = match &seen {
-        Some(seen) => place_again(rt, beside.as_str(), target.as_str(), &Stamp::of(seen)),
-        None => place_new(rt, beside.as_str(), target.as_str()),
-    };
-    if !matches!(placed, Ok(true)) {
+    let placed = place(rt, beside.as_str(), target.as_str(), seen.as_ref());
+    if !matches!(placed, Ok(Some(_))) {
         let _ = fs::remove_file(rt, beside.as_str());
     }
-    if placed? {
-        Ok(())
-    } else {
-        Err(io::Error::from(ErrorKind::AlreadyExists))
+    match placed? {
+        Some(found) => Ok(found),
+        None => Err(io::Error::from(ErrorKind::AlreadyExists)),
     }
+}
+
+// Gives a file the name where this was seen, and what the file is, which is looked up before others can find it by that name; nothing if
+// something else is there by now.
+fn place<R: AllocGlobal + Files>(
+    rt: &R,
+    beside: &str,
+    target: &str,
+    seen: Option<&Metadata>,
+) -> io::Result<Option<Metadata>> {
+    let found = fs::symlink_metadata(rt, beside)?;
+    let is_placed = match seen {
+        Some(seen) => place_again(rt, beside, target, &Stamp::of(seen))?,
+        None => place_new(rt, beside, target)?,
+    };
+    if is_placed { Ok(Some(found)) } else { Ok(None) }
 }
 
 /// Gives a file a name that nothing has; `false` if something has it.

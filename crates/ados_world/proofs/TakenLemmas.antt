@@ -1,9 +1,8 @@
 -- What a draft holds, moved in one part at a time, is the machine's world after the turn.
-use Rattle.std.proofs.Common.{◌≡◌, ◌∙◌, ◌-◌, ℕ, List, [], ◌∷◌, Bool, Option, Some, None, ap, sym}
+use Rattle.std.proofs.Common.{◌≡◌, ◌∙◌, ◌-◌, ℕ, List, [], ◌∷◌, Bool, Option, Some, ap, sym}
 use Rattle.std.specs.Prelude.{option_map, slice_set}
 use Rattle.ados_find.specs.declared.codes.Codes.{Codes}
 use Rattle.ados_find.specs.declared.outcomes.Renamed.{Renamed}
-use Rattle.ados_find.specs.Renames.{renames_in}
 use Rattle.ados_find.specs.Shared.{SharedState, version}
 use Rattle.ados_machine.specs.Items.{reports_of}
 use Rattle.ados_machine.specs.Shells.{ShellState}
@@ -106,16 +105,12 @@ after_turn w k t = record w {
 }
 
 -- what a turn changes, moved in one part at a time
-pub taken-by : (w : WorldState) (k : ℕ) (draft : Draft) (begun : Option ShellState) (moved : List Renamed) (changed stood all rest : List (Option ShellState)) (ended : List Codes) (queue : List (List ℕ)) (input_ended : Bool) (shared : SharedState)
-    → begun ≡ new_shell (option_map (λ b. b.value) draft.begun) (free_number w.shells)
-    → moved ≡ moved_objects w.shared (version w.shared draft.shared) (renames_in (option_map (λ r. r.value) draft.renamed))
-    → changed ≡ shells_after_draft k draft.shell moved w.shells → stood ≡ joined_shells begun changed → all ≡ shells_with_broken k draft.breaking stood
+pub taken-by : (w : WorldState) (k : ℕ) (draft : Draft) (stood all rest : List (Option ShellState)) (ended : List Codes) (queue : List (List ℕ)) (input_ended : Bool) (shared : SharedState)
+    → stood ≡ shells_with_begun k draft w → all ≡ shells_with_broken k draft.breaking stood
     → rest ≡ remaining_shells (final_codes k (found all k)) k all → ended ≡ recorded_codes (final_codes k (found all k)) k w.ended
     → queue ≡ w.queue → input_ended ≡ w.input_ended → shared ≡ version w.shared draft.shared
     → world_after_turn k draft w ≡ record { shells = rest; ended = ended; queue = queue; input_ended = input_ended; shared = shared }
-taken-by w k draft begun moved changed stood all rest ended queue input_ended shared b m c t a r e q i s =
-    let standing : stood ≡ shells_with_begun k draft w =
-    t ∙ ap (λ x. joined_shells x changed) b ∙ ap (joined_shells (new_shell (option_map (λ b. b.value) draft.begun) (free_number w.shells))) (c ∙ ap (λ x. shells_after_draft k draft.shell x w.shells) m) in
+taken-by w k draft stood all rest ended queue input_ended shared standing a r e q i s =
     let whole : all ≡ shells_after_turn k draft w = a ∙ ap (shells_with_broken k draft.breaking) standing in
     ap (λ l. without w k l (version w.shared draft.shared) (final_codes k (found l k))) (sym whole)
     ∙ ap (λ l. record w { shells = l; ended = recorded_codes (final_codes k (found all k)) k w.ended; shared = version w.shared draft.shared }) (sym r)

@@ -2,7 +2,7 @@
 use Rattle.std.specs.Prelude.{◌-◌, ℕ, List, [], ◌∷◌, ◌++◌, Option, Some, None, Result, Ok, Err, option_map, slice_set}
 use Rattle.ados_find.specs.declared.codes.Codes.{Codes}
 use Rattle.ados_find.specs.Renames.{renames_in}
-use Rattle.ados_find.specs.Shared.{version}
+use Rattle.ados_find.specs.Shared.{SharedState, version}
 use Rattle.ados_machine.specs.declared.outs.Out.{Out}
 use Rattle.ados_machine.specs.declared.refusals.Refusal.{Refusal}
 use Rattle.ados_machine.specs.Shells.{ShellState}
@@ -19,10 +19,14 @@ use Rattle.ados_world.specs.NewShells.{joined_shells, new_shell}
 use Rattle.ados_world.specs.Shells.{shells_after_draft}
 
 -- the shells after what a turn makes of one of them, with the one that begins at the lowest free number
+abbrev pub begun_shells : ℕ → Draft → SharedState → List (Option ShellState) → List (Option ShellState)
+begun_shells number draft shared shells =
+    joined_shells (new_shell (option_map (λ b. b.value) draft.begun) (free_number shells))
+    (shells_after_draft number draft.shell (moved_objects shared (version shared draft.shared) (renames_in (option_map (λ r. r.value) draft.renamed))) shells)
+
+-- the same of a world's
 abbrev pub shells_with_begun : ℕ → Draft → WorldState → List (Option ShellState)
-shells_with_begun number draft w =
-    joined_shells (new_shell (option_map (λ b. b.value) draft.begun) (free_number w.shells))
-    (shells_after_draft number draft.shell (moved_objects w.shared (version w.shared draft.shared) (renames_in (option_map (λ r. r.value) draft.renamed))) w.shells)
+shells_with_begun number draft w = begun_shells number draft w.shared w.shells
 
 -- the same when another one may be broken
 abbrev pub shells_after_turn : ℕ → Draft → WorldState → List (Option ShellState)

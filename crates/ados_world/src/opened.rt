@@ -11,7 +11,7 @@ ghost use Rattle.ados_world.specs.Shells.{IsShellNumber};
 
 use crate::new_shells::next_number;
 use crate::worlds::World;
-use ados_find::Settings;
+use ados_find::{Codes, Settings};
 use ados_machine::Refusal;
 use ados_ram::Place;
 use ados_script::Script;
@@ -50,6 +50,7 @@ impl World {
         match opened_shell(self.alloc, number, line) {
             Err(NoMemory) => Err(Refusal::NoMemory),
             Ok(shell) => {
+                note_places(&self.ended);
                 self.place(number, shell);
                 Ok(Some(number))
             }
@@ -65,6 +66,12 @@ impl World {
         self.shells.put(number, Some(shell));
     }
 }
+
+// Nothing is done: each number has a place for its codes.
+#[inline(always)]
+fn note_places(ended: &[Codes; 20])
+    ensures { length ended.now ≡ 20 }
+{}
 
 /// A fresh shell with this number and one line.
 fn opened_shell(alloc: Global, number: u8, line: &Text) -> Result<Shell, NoMemory>

@@ -12,6 +12,7 @@ use ados_shell::{Shell, ShellDraft};
 use ados_text::{NoMemory, Text};
 
 /// A place for each number, and no shell.
+#[inline(always)]
 pub fn no_shells() -> [Option<Shell>; 20]
     ensures { result ≡ replicate 20 None }
 {

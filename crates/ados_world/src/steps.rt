@@ -4,7 +4,7 @@ ghost use Rattle.ados_machine.specs.Given.{request_after_event};
 ghost use Rattle.ados_machine.specs.InUse.{has_request, resident_name_of, outputs_held, runs_program};
 ghost use Rattle.ados_machine.specs.Laws.{finds_flag};
 ghost use Rattle.ados_machine.specs.Limits.{IsSane};
-ghost use Rattle.ados_machine.specs.World.{is_over, numbered_shell};
+ghost use Rattle.ados_machine.specs.World.{at_number, is_over, numbered_shell, option_flatten};
 ghost use Rattle.ados_machine.specs.Step.{step_of, turn_response, answer_response, break_response, event_out, queue_after_event};
 ghost use Rattle.ados_machine.specs.Runs.{IsResponse, resulting_world};
 ghost use Rattle.ados_machine.specs.declared.refusals.Refusal.TheVariants.{NoMemory as OutOfMemory};
@@ -14,13 +14,14 @@ ghost use Rattle.ados_world.specs.Binding.{BindsOnlyWhatItUsed};
 ghost use Rattle.ados_machine.specs.Starts.{FailedStart};
 ghost use Rattle.ados_world.specs.Laws.{reports_break};
 ghost use Rattle.ados_world.specs.Shells.{IsShellNumber};
-ghost use Rattle.ados_world.specs.Steps.{step_result, draft_out, ended_world, world_after_turn};
+ghost use Rattle.ados_world.specs.Steps.{begun_shells, step_result, draft_out, ended_world, world_after_turn};
 
 use crate::breaks::{break_other, kind_breaks};
 use crate::carrying::moved_by;
 use crate::endings::{end, end_done};
 use crate::new_shells::{join, new_shell};
 use crate::shells::change_shell;
+use crate::table::ShellTable;
 use crate::worlds::World;
 use ados_find::{Codes, Question, Shared};
 use ados_machine::{Answer, BreakKind, Event, Out, Refusal};
@@ -184,21 +185,9 @@ impl World {
         let Ok(()) = self.ask(number, draft) else {
             return Err(Refusal::NoMemory);
         };
-        let Ok(begun) = new_shell(self.alloc, self.shells.places(), draft.begun.take()) else {
+        let Ok(()) = change_shells(self.alloc, &mut self.shells, &self.shared, number, draft) else {
             return Err(Refusal::NoMemory);
         };
-        let Ok(moved) = moved_by(
-            self.alloc,
-            &self.shared,
-            draft.shared.as_ref(),
-            draft.renamed.as_deref(),
-        ) else {
-            return Err(Refusal::NoMemory);
-        };
-        let Ok(()) = change_shell(&mut self.shells, number, &mut draft.shell, &moved) else {
-            return Err(Refusal::NoMemory);
-        };
-        join(&mut self.shells, begun);
         break_other(&mut self.shells, number, draft.breaking);
         end_done(&mut self.shells, &mut self.ended, number);
         renew(
@@ -229,6 +218,36 @@ impl World {
     {
         end(&mut self.shells, &mut self.ended, number, codes);
     }
+}
+
+// Commits what a turn makes of its shell, which runs, with the current directories of all shells if objects were moved, and places the
+// shell that it begins. Nearly no turn moves an object or begins a shell.
+fn change_shells(
+    alloc: Global,
+    shells: &mut ShellTable,
+    shared: &Shared,
+    number: u8,
+    draft: &mut Draft,
+) -> Result<(), NoMemory>
+    requires number { IsShellNumber number }
+    requires runs { is_some (option_flatten (at_number shells.old number)) ≡ true }
+    ensures draft { draft.new ≡ record draft.old { begun = draft.new.begun; shell = draft.new.shell } }
+    ensures ok { OnOk result (shells.new ≡ begun_shells number draft.old shared.now shells.old) }
+    ensures err { OnErr result (shells.new ≡ shells.old) }
+{
+    if draft.begun.is_none() && draft.renamed.is_none() {
+        return shells.commit(number, &mut draft.shell);
+    }
+    let begun = new_shell(alloc, shells.places(), draft.begun.take())?;
+    let moved = moved_by(
+        alloc,
+        shared,
+        draft.shared.as_ref(),
+        draft.renamed.as_deref(),
+    )?;
+    change_shell(shells, number, &mut draft.shell, &moved)?;
+    join(shells, begun);
+    Ok(())
 }
 
 // The shared state becomes a new one, if there is one; otherwise its cache learns what was asked.

@@ -39,6 +39,7 @@ impl Model for ShellTable {
 
 impl ShellTable {
     /// Shell 1 alone.
+    #[inline(always)]
     pub fn of_first(shell: Shell) -> ShellTable
         ensures { result ≡ Some shell ∷ replicate 19 None }
     {

@@ -71,6 +71,7 @@ impl World {
     /// `TooMany` for more than 64 commands; otherwise, for the first of them that is refused, `BadName` if its name is not one,
     /// and `Double` if a command has it, or an earlier one of these; `NoMemory`, if nothing is refused and an allocation
     /// fails.
+    #[inline(always)]
     pub fn with_dialect(
         alloc: Global,
         hosts: &[HostEntry],
@@ -89,6 +90,7 @@ impl World {
     }
 
     // A world that begins.
+    #[inline(always)]
     fn fresh(alloc: Global, hosts: &[HostEntry], dialect: Dialect) -> Result<World, NoMemory>
         ensures { IfOk result (λ world. world ≡ fresh_world dialect hosts.now) }
     {

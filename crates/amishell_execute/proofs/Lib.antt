@@ -1,3 +1,4 @@
+mod DeedsGathering
 mod Driving
 mod Pairs
 mod Ran

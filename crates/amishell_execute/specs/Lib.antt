@@ -1,3 +1,4 @@
+pub mod Between
 pub mod Deadline
 pub mod Ends
 pub mod ErrorCodes

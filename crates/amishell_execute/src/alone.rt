@@ -26,6 +26,7 @@ pub fn run_lines<L: Launcher>(
     ensures children { IsOpenTable session.new.children (L.calls launcher.new) }
     ensures schedule { session.new.schedule ≡ session.old.schedule }
     ensures held { session.new.held ≡ session.old.held }
+    ensures gathered { session.new.gathered ≡ session.old.gathered }
     ensures ran { RunsLines world.old world.new }
 {
     for line in lines {
@@ -48,6 +49,7 @@ fn run_alone<L: Launcher>(
     ensures children { IsOpenTable session.new.children (L.calls launcher.new) }
     ensures schedule { session.new.schedule ≡ session.old.schedule }
     ensures held { session.new.held ≡ session.old.held }
+    ensures gathered { session.new.gathered ≡ session.old.gathered }
     ensures ran { RunsLines world.old world.new }
 {
     let mut printed = Vec::new(alloc);

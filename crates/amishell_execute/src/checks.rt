@@ -8,6 +8,7 @@ use ados_check::{Finding, bad_directive, check, mark, mark_printed, merge_return
 use ados_flow::{Frame, FrameKind};
 use ados_launch::Next;
 use ados_ram::Place;
+use ados_resident::Dialect;
 use ados_shell::Shell;
 use ados_text::{Name, NoMemory, Text, lines_of};
 use ados_trace::ScriptNames;
@@ -23,6 +24,8 @@ use std::rt::Files;
 #[derive(Drop)]
 pub struct Checks<'a> {
     is_lenient: bool,
+    // The full path of the script of the command line.
+    script: Text,
     // By which paths the scripts are named.
     origins: &'a Origins<'a>,
     // The full paths of the scripts of which a harmless problem was reported, or with `--lenient` any.
@@ -73,12 +76,14 @@ impl<'a> Checks<'a> {
     ) -> Result<Checks<'a>, NoMemory> {
         let alloc = origins.alloc;
         let mut reported = Vec::new(alloc);
+        let script = script.path(alloc)?;
         if is_lenient {
             // What is found in it was reported before anything ran.
-            reported.push(script.path(alloc)?)?;
+            reported.push(script.copy()?)?;
         }
         Ok(Checks {
             is_lenient,
+            script,
             origins,
             reported,
             begun: Vec::new(alloc),
@@ -150,7 +155,10 @@ impl<'a> Checks<'a> {
         }
         let shown = self.origins.name(name)?;
         if report_all(rt, shown.as_str(), &found, is_new)? && !self.is_lenient {
-            return Err(Fault::NotRun(shown));
+            let is_struck = *name == self.script
+                && strike_mends(alloc, world.dialect(), &found, &bytes)?;
+            let refusal = format!(in alloc; "{shown} {}", refusal_of(is_struck))?;
+            return Err(Fault::NotRun(refusal));
         }
         Ok(())
     }
@@ -163,6 +171,54 @@ impl<'a> Checks<'a> {
         self.reported.push(name.copy()?)?;
         Ok(true)
     }
+}
+
+/// What is said of a script that is not run, and how it is run all the same; `--strike` does it too if that mends it.
+pub fn refusal_of(is_struck: bool) -> &'static str {
+    if is_struck {
+        "is not run (--strike or --lenient runs it)"
+    } else {
+        "is not run (--lenient runs it)"
+    }
+}
+
+/// With `--strike` the script of the command line in which this was found is run.
+pub fn is_struck(found: &[Finding]) -> bool {
+    found
+        .iter()
+        .all(|one| one.problem.is_idle() || !one.problem.is_refused())
+}
+
+// All that is found in the lines of the script of the command line, which has these bytes, is found in its file too, and `--strike`
+// takes that out: no argument and no alias has a part in it.
+fn strike_mends(
+    alloc: Global,
+    dialect: Dialect,
+    found: &[Finding],
+    bytes: &[u8],
+) -> Result<bool, NoMemory> {
+    let lines = lines_of(alloc, bytes)?;
+    let written = check(
+        alloc,
+        dialect,
+        &Aliases::new(alloc),
+        lines.as_slice(),
+        bytes,
+    )?;
+    if found.len() != written.len() {
+        return Ok(false);
+    }
+    for (place, one) in found.iter().enumerate() {
+        if !is_same_finding(alloc, one, &written[place])? {
+            return Ok(false);
+        }
+    }
+    Ok(is_struck(found))
+}
+
+// They say the same of the same line.
+fn is_same_finding(alloc: Global, one: &Finding, other: &Finding) -> Result<bool, NoMemory> {
+    Ok(format!(in alloc; "{one}")? == format!(in alloc; "{other}")?)
 }
 
 // The script of a shell whose first line is taken next, and the shell.

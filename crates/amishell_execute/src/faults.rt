@@ -1,10 +1,11 @@
 //! Why the program ends with a line on standard error.
 ghost use Rattle.std.specs.Prelude.{◌≡◌};
+ghost use Rattle.ados_launch.specs.declared.faults.DriveFault.TheVariants.{Write};
 ghost use Rattle.amishell_execute.specs.Status.{number_of, status_of_fault};
 ghost use Rattle.amishell_execute.specs.declared.faults.Fault.TheVariants.{Drive, Memory};
 
 use crate::status::Status;
-use ados_launch::DriveFault;
+use ados_launch::{DriveFault, WriteFault};
 use ados_text::NoMemory;
 use ados_trace::escaped;
 use ados_transfer::TransferFault;
@@ -61,13 +62,13 @@ pub enum Fault {
     /// The Shell asked for a line of standard input, which was at its end.
     #[error("no answer for {0}")]
     Unanswered(String),
-    /// Lines of the script of this name must not be run as they are.
-    #[error("{0} is not run (--lenient runs it)")]
+    /// Lines of a script must not be run as they are; its name, and how it is run all the same.
+    #[error("{0}")]
     NotRun(String),
     /// There was no memory.
     #[error("out of memory")]
     Memory,
-    /// The help could not be written.
+    /// The help, or what a check found, could not be written.
     #[error("write fault")]
     Write,
     /// The run stopped before its end.
@@ -131,6 +132,14 @@ impl From<DriveFault> for Fault {
 
     fn from(fault: DriveFault) -> Fault {
         Fault::Drive(fault)
+    }
+}
+
+impl From<WriteFault> for Fault {
+    ghost from_gives = { λ _e why. why ≡ Drive Write };
+
+    fn from(_e: WriteFault) -> Fault {
+        Fault::Drive(DriveFault::Write)
     }
 }
 

@@ -52,6 +52,7 @@ pub fn hosts_for<R: AllocGlobal + Files + Env>(
 }
 
 /// A world of a dialect in which nothing happened, with these commands.
+#[inline(always)]
 pub fn world_with(alloc: Global, dialect: Dialect, hosts: &[HostEntry]) -> Result<World, Fault>
     ensures { IfOk result (λ world. world ≡ fresh_world dialect hosts.now) }
 {

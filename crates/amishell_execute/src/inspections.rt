@@ -1,17 +1,21 @@
 //! `--check`: scripts are looked at, and those that they call, and nothing runs.
 
+use crate::called::{Called, Found, called_bytes};
+use crate::checks::{is_struck, refusal_of};
 use crate::faults::{Fault, unread_script};
-use crate::hosts::hosts_for;
 use crate::status::Status;
-use ados_check::{Finding, Problem, inspect, mark, mark_printed, merge_returns, name_in_c, strike};
-use ados_resident::{DiskCommand, HostEntry};
+use ados_check::{
+    Finding, Problem, inspect, mark, mark_printed, may_make_alias, merge_returns, strike,
+};
 use ados_text::{NoMemory, Text};
 use ados_trace::escaped;
-use ados_transfer::{bytes_of, last_piece, parted, read_script, step_into};
+use ados_transfer::{TransferFault, read_script};
 use execute_options::Options;
 use std::alloc::Global;
+use std::collections::BTreeSet;
 use std::io::Write;
 use std::rt::{Env, Files};
+use std::time::Clock;
 use std::{fs, io};
 
 // At most this many scripts are looked at.
@@ -21,38 +25,59 @@ const SCRIPTS: usize = 1024;
 #[derive(Drop)]
 struct Inspector<'a> {
     options: &'a Options<'a>,
-    hosts: Vec<HostEntry>,
+    called: Called<'a>,
     // The lines that are typed before a script.
     typed: Vec<Text>,
-    // The paths of those that were found so far, and the same without links.
-    paths: Vec<String>,
-    whole: Vec<String>,
+    // Those that were found so far.
+    scripts: Vec<Script>,
+    // The lines that were written.
+    told: BTreeSet<String>,
+}
+
+// A script that is looked at.
+#[derive(Drop)]
+struct Script {
+    path: String,
+    // The path without links.
+    whole: String,
+    // It is one of the command line, which is mended before it runs; another one is called, and stays as it is. A file may be both.
+    is_given: bool,
+}
+
+// What a finding is.
+#[derive(Clone, Copy)]
+enum Verdict {
+    Note,
+    Error,
+    // The script is not run because of it, as this text says.
+    Refusal(&'static str),
 }
 
 /// Writes a line on standard output for each thing that is found in the scripts of the command line and in those that they call;
 /// gives `Wrong` if there is an error, otherwise `Done`.
-pub fn inspect_all<R: Env + AllocGlobal + Files + Print>(
+pub fn inspect_all<R: Env + AllocGlobal + Files + Print + Clone + Drop + Clock>(
     rt: &R,
     options: &Options<'_>,
 ) -> Result<Status, Fault> {
     let mut inspector = Inspector {
         options,
-        hosts: hosts_for(rt, options)?,
+        called: Called::of(rt, options)?,
         typed: typed_lines(rt.alloc(), options)?,
-        paths: Vec::new(rt.alloc()),
-        whole: Vec::new(rt.alloc()),
+        scripts: Vec::new(rt.alloc()),
+        told: BTreeSet::new(rt.alloc()),
     };
-    inspector.add(rt, options.script)?;
+    inspector.add(rt, options.script, true)?;
     for path in &options.args {
-        inspector.add(rt, path)?;
+        inspector.add(rt, path, true)?;
     }
     let mut status = Status::Done;
     for place in 0..SCRIPTS {
-        let Some(path) = inspector.paths.get(place) else {
+        let Some(script) = inspector.scripts.get(place) else {
             break;
         };
-        let path = String::from_str(rt.alloc(), path.as_str())?;
-        if inspector.inspect_one(rt, path.as_str())? {
+        let is_given = script.is_given;
+        let path = String::from_str(rt.alloc(), script.path.as_str())?;
+        if inspector.inspect_one(rt, path.as_str(), is_given)? {
             status = Status::Wrong;
         }
     }
@@ -60,197 +85,183 @@ pub fn inspect_all<R: Env + AllocGlobal + Files + Print>(
 }
 
 impl Inspector<'_> {
-    // A script at this path is looked at too, once.
-    fn add<R: AllocGlobal + Files>(&mut self, rt: &R, path: &str) -> Result<(), Fault> {
+    // A script at this path is looked at too, once as one of the command line and once as one that is called.
+    fn add<R: AllocGlobal + Files>(
+        &mut self,
+        rt: &R,
+        path: &str,
+        is_given: bool,
+    ) -> Result<(), Fault> {
         let whole = match fs::canonicalize(rt, path) {
             Ok(whole) => String::from_str(rt.alloc(), whole.as_path().as_str())?,
             Err(_) => String::from_str(rt.alloc(), path)?,
         };
-        if !self.whole.contains(&whole) {
-            self.paths.push(String::from_str(rt.alloc(), path)?)?;
-            self.whole.push(whole)?;
+        let is_there = self.scripts.iter().any(|script| script.is_given == is_given
+            && script.whole == whole);
+        if !is_there {
+            let path = String::from_str(rt.alloc(), path)?;
+            self.scripts.push(Script {
+                path,
+                whole,
+                is_given,
+            })?;
         }
         Ok(())
     }
 
     // Looks at a script; gives whether it has an error.
-    fn inspect_one<R: AllocGlobal + Files + Print>(
+    fn inspect_one<R: AllocGlobal + Files + Print + Clone + Drop>(
         &mut self,
         rt: &R,
         path: &str,
+        is_given: bool,
     ) -> Result<bool, Fault> {
-        let mut script = self.script_at(rt, path)?;
-        if self.options.ascii_marks {
-            mark(&mut script);
-        }
-        if self.options.strike {
-            strike(rt.alloc(), self.options.dialect, &mut script)?;
-        }
+        let Some(mut script) = self.script_at(rt, path, is_given)? else {
+            return Ok(false);
+        };
         let mut found = Vec::new(rt.alloc());
-        if self.is_given(path) {
-            found = mark_printed(rt.alloc(), &mut script)?;
+        if is_given {
+            found = self.mend(rt.alloc(), &mut script)?;
         }
         for finding in inspect(rt.alloc(), self.options.dialect, &self.typed, &script)? {
             found.push(finding)?;
         }
         merge_returns(&mut found);
         found.sort_by(|a, b| a.line.cmp(&b.line))?;
+        let may_strike = is_given && is_struck(&found);
+        let caller = is_given.then_some(path);
         let mut is_wrong = false;
         for finding in &found {
-            if !self.is_known(rt, &finding.problem)? {
-                write_line(rt, path, finding)?;
-                is_wrong = is_wrong || finding.problem.is_error();
+            if !self.is_known(rt, &finding.problem, caller)? {
+                let verdict = self.verdict(rt.alloc(), &finding.problem, may_strike)?;
+                self.tell(rt, path, finding, verdict)?;
+                is_wrong = is_wrong || !matches!(verdict, Verdict::Note);
             }
         }
         Ok(is_wrong)
     }
 
-    // A script as the Shell has it: a carriage return at the end of a line is taken off those of the command line alone.
-    fn script_at<R: AllocGlobal + Files>(&self, rt: &R, path: &str) -> Result<Vec<u8>, Fault> {
-        let limits = self.options.mirror.limits;
-        let script = match read_script(rt, limits, path) {
-            Ok(script) => script,
-            Err(fault) => return Err(unread_script(rt, fault)),
-        };
-        if self.is_given(path) {
-            return Ok(script);
+    // Does to a script of the command line what is done to it before it runs; gives what is found of the bytes that it prints.
+    fn mend(&self, alloc: Global, script: &mut [u8]) -> Result<Vec<Finding>, NoMemory> {
+        if self.options.ascii_marks {
+            mark(script);
         }
-        Ok(bytes_of(rt, path, limits.file()).unwrap_or(script))
+        if self.options.strike {
+            strike(alloc, self.options.dialect, script)?;
+        }
+        mark_printed(alloc, script)
     }
 
-    // It is a script of the command line.
-    fn is_given(&self, path: &str) -> bool {
-        self.options.script == path || self.options.args.iter().any(|given| *given == path)
-    }
-
-    // What a problem misses is there after all; a script is looked at then.
-    fn is_known<R: AllocGlobal + Files>(
-        &mut self,
-        rt: &R,
+    // What a problem is in a run: because of some the script is not run, unless the run is lenient or an alias may be meant.
+    fn verdict(
+        &self,
+        alloc: Global,
         problem: &Problem,
-    ) -> Result<bool, Fault> {
-        match problem {
-            Problem::UnknownCommand(name) => self.is_command(rt, name),
-            Problem::NoScript(name) => {
-                let Ok(word) = std::str::from_utf8(name.as_bytes()) else {
-                    return Ok(false);
-                };
-                match self.file_of(rt, word)? {
-                    Some(path) => self.add(rt, path.as_str())?,
-                    // Where a device leads is not known.
-                    None => return Ok(word.contains(':')),
-                }
-                Ok(true)
-            }
-            _ => Ok(false),
+        may_strike: bool,
+    ) -> Result<Verdict, NoMemory> {
+        let is_refused = problem.is_refused();
+        if is_refused && (self.options.lenient || self.may_be_alias(alloc, problem)?) {
+            return Ok(Verdict::Note);
         }
-    }
-
-    // The Shell will find a command of this name that is none of its own: a program of the host, a file that is brought in or shared,
-    // or a directory, to which it changes.
-    fn is_command<R: AllocGlobal + Files>(&self, rt: &R, name: &Text) -> Result<bool, Fault> {
-        let name = name.as_bytes();
-        let in_c = match name {
-            // A script begins in RAM: unless a folder is shared.
-            [b'C' | b'c', b'/', below @ ..] if !self.is_shared() => below,
-            _ => name_in_c(name),
-        };
-        let is_path_to_c = in_c.len() < name.len();
-        let is_host = self
-            .hosts
-            .iter()
-            .any(|host| in_c.eq_ignore_ascii_case(host.name.as_bytes()));
-        if is_host || is_path_to_c && DiskCommand::named(self.options.dialect, in_c).is_some() {
-            return Ok(true);
-        }
-        let Ok(word) = std::str::from_utf8(name) else {
-            return Ok(false);
-        };
-        // Where another device leads is not known, nor what is above a shared folder.
-        let is_elsewhere = word.contains(':') && !is_path_to_c
-            || word.starts_with('/') && self.is_shared();
-        Ok(is_elsewhere || self.brings(rt, word, in_c) || self.shared(rt, word, true)?.is_some())
-    }
-
-    // A file is brought in under the name of a command: where the script begins, or in C:.
-    fn brings<R: Files>(&self, rt: &R, word: &str, in_c: &[u8]) -> bool {
-        self.options.bring.iter().any(|words| {
-            let (path, target) = parted(rt, words);
-            let target = target.unwrap_or(last_piece(path));
-            let placed = name_in_c(target.as_bytes());
-            let is_in_c = placed.len() < target.len() && placed.eq_ignore_ascii_case(in_c);
-            is_in_c || target.eq_ignore_ascii_case(word)
+        Ok(if problem.is_error() {
+            Verdict::Error
+        } else if is_refused {
+            Verdict::Refusal(refusal_of(may_strike))
+        } else {
+            Verdict::Note
         })
     }
 
-    // A folder is shared, in which the script begins.
-    fn is_shared(&self) -> bool {
-        !self.options.share.is_empty()
+    // A typed line may make the command with an option left out an alias, which is another command then.
+    fn may_be_alias(&self, alloc: Global, problem: &Problem) -> Result<bool, NoMemory> {
+        match problem.command_left_out() {
+            Some(command) => may_make_alias(alloc, self.typed.as_slice(), command.as_bytes()),
+            None => Ok(false),
+        }
     }
 
-    // The file of this machine that the Shell will have under a name: in a shared folder, or brought in.
-    fn file_of<R: AllocGlobal + Files>(&self, rt: &R, name: &str) -> Result<Option<String>, Fault> {
-        if let Some(path) = self.shared(rt, name, false)? {
-            return Ok(Some(path));
-        }
-        for words in &self.options.bring {
-            let (path, target) = parted(rt, words);
-            let target = target.unwrap_or(last_piece(path));
-            if is_name(name, target.strip_prefix("S:").unwrap_or(target)) {
-                return Ok(Some(String::from_str(rt.alloc(), path)?));
-            }
-        }
-        Ok(None)
-    }
-
-    // The file of a shared folder that the Shell will have under a name, or the directory, if that may be.
-    fn shared<R: AllocGlobal + Files>(
-        &self,
+    // A script as the Shell has it: a carriage return at the end of a line is taken off those of the command line alone. One that is called
+    // and can't be read is told of, and passed over.
+    fn script_at<R: AllocGlobal + Files + Print>(
+        &mut self,
         rt: &R,
-        name: &str,
-        may_be_directory: bool,
-    ) -> Result<Option<String>, Fault> {
-        for (number, words) in self.options.share.iter().enumerate() {
-            let (folder, directory) = parted(rt, words);
-            let device = directory.filter(|directory| directory.ends_with(':'));
-            let below = match device.and_then(|device| name.strip_prefix(device)) {
-                Some(below) => below,
-                // The script begins in the first.
-                None if number == 0 => name,
-                None => continue,
+        path: &str,
+        is_given: bool,
+    ) -> Result<Option<Vec<u8>>, Fault> {
+        let limits = self.options.mirror.limits;
+        if is_given {
+            return match read_script(rt, limits, path) {
+                Ok(script) => Ok(Some(script)),
+                Err(fault) => Err(unread_script(rt, fault)),
             };
-            let folder = if folder == "." { "" } else { folder };
-            let path = step_into(rt.alloc(), folder, below)?;
-            if fs::metadata(rt, path.as_str()).is_ok_and(|found| may_be_directory
-                || !found.is_dir())
-            {
-                return Ok(Some(path));
+        }
+        match called_bytes(rt, limits, path) {
+            Ok(script) => Ok(Some(script)),
+            Err(TransferFault::NoMemory) => Err(Fault::Memory),
+            Err(fault) => {
+                let line = format!(in rt.alloc(); "{path}:1: note: {fault}")?;
+                let line = escaped(rt.alloc(), &line)?;
+                self.write_line(rt, line)?;
+                Ok(None)
             }
         }
-        Ok(None)
     }
-}
 
-// A name of the Shell, which S: may stand before, is this one.
-fn is_name(name: &str, other: &str) -> bool {
-    let name = name.strip_prefix("S:").unwrap_or(name);
-    name.as_bytes().eq_ignore_ascii_case(other.as_bytes())
-}
+    // What a problem misses is there after all; a script is looked at then. `caller` is the script's path if it is one of the command line.
+    fn is_known<R: AllocGlobal + Files + Clone + Drop>(
+        &mut self,
+        rt: &R,
+        problem: &Problem,
+        caller: Option<&str>,
+    ) -> Result<bool, Fault> {
+        let found = match problem {
+            Problem::UnknownCommand(word) => self.called.find_command(rt, word)?,
+            Problem::NoScript(name) => self.called.find_script(rt, name, caller)?,
+            _ => Found::Nothing,
+        };
+        match found {
+            Found::Script(path) => {
+                self.add(rt, path.as_str(), false)?;
+                Ok(true)
+            }
+            Found::Other => Ok(true),
+            Found::Nothing => Ok(false),
+        }
+    }
 
-// Writes the line of a finding, as a compiler does.
-fn write_line<R: AllocGlobal + Print>(rt: &R, path: &str, finding: &Finding) -> Result<(), Fault> {
-    let kind = if finding.problem.is_error() {
-        "error"
-    } else {
-        "note"
-    };
-    let line = format!(in rt.alloc(); "{path}:{}: {kind}: {}", finding.line, finding.problem)?;
-    // A terminal obeys control characters, and a newline would begin another line.
-    let mut line = escaped(rt.alloc(), &line)?;
-    line.push('\n')?;
-    match io::writer(rt).write_all(line.as_bytes()) {
-        Ok(()) => Ok(()),
-        Err(_) => Err(Fault::Write),
+    // Writes the line of a finding, as a compiler does.
+    fn tell<R: AllocGlobal + Print>(
+        &mut self,
+        rt: &R,
+        path: &str,
+        finding: &Finding,
+        verdict: Verdict,
+    ) -> Result<(), Fault> {
+        let kind = match verdict {
+            Verdict::Note => "note",
+            Verdict::Error | Verdict::Refusal(_) => "error",
+        };
+        let line = format!(in rt.alloc(); "{path}:{}: {kind}: {}", finding.line, finding.problem)?;
+        // A terminal obeys control characters, and a newline would begin another line.
+        let mut line = escaped(rt.alloc(), &line)?;
+        if let Verdict::Refusal(refusal) = verdict {
+            line.push_str(": the script ")?;
+            line.push_str(refusal)?;
+        }
+        self.write_line(rt, line)
+    }
+
+    // Writes a line, once: of a script that is looked at twice most of it is said twice.
+    fn write_line<R: AllocGlobal + Print>(&mut self, rt: &R, line: String) -> Result<(), Fault> {
+        if self.told.contains(line.as_str()) {
+            return Ok(());
+        }
+        let whole = format!(in rt.alloc(); "{line}\n")?;
+        if io::writer(rt).write_all(whole.as_bytes()).is_err() {
+            return Err(Fault::Write);
+        }
+        self.told.insert(line)?;
+        Ok(())
     }
 }
 

@@ -3,8 +3,12 @@
 
 ghost use Rattle.std.specs.Prelude.{[], OnOk};
 ghost use Rattle.ados_launch.specs.Agreement.{Agrees};
+ghost use Rattle.amishell_execute.specs.Status.{exit_status, number_of};
 
 mod alone;
+mod beginning;
+mod between;
+mod called;
 mod checks;
 mod deadline;
 mod delivery;
@@ -65,14 +69,21 @@ use watched::Watched;
 
 fn main(rt: HostRuntime) -> ExitCode {
     let _held = held_descriptors(&rt);
-    let status = match run(&rt) {
+    let done = run(&rt);
+    ExitCode::from(settle(&rt, done).number())
+}
+
+// The exit status of what was done; a fault is reported.
+fn settle<R: AllocGlobal + Eprint>(rt: &R, done: Result<Status, Fault>) -> Status
+    ensures { number_of result ≡ exit_status done }
+{
+    match done {
         Ok(status) => status,
         Err(fault) => {
-            report(&rt, &fault);
+            report(rt, &fault);
             fault.status()
         }
-    };
-    ExitCode::from(status.number())
+    }
 }
 
 // Does what the words ask for, and gives the exit status.
@@ -122,7 +133,7 @@ fn execute<
 }
 
 // The folders that are shared, if any are.
-fn opened<R: Env + AllocGlobal + Files + Clone + Drop + Clock>(
+pub(crate) fn opened<R: Env + AllocGlobal + Files + Clone + Drop + Clock>(
     rt: &R,
     options: &Options<'_>,
     world: &mut World,
@@ -169,7 +180,7 @@ fn run_script<
     let ended = play_watched(rt, world, script, share.as_mut(), traced);
     let outcome = hand_out(rt, options, world, share.as_mut())?;
     let code = ended.as_ref().ok().map(|end| end.code);
-    let status = status_after(rt, options, world, &origins, ended)?;
+    let status = settle(rt, status_after(rt, options, world, &origins, ended));
     if !options.quiet {
         tell_gone(rt, options, world, share.as_ref(), kept)?;
     }
@@ -202,7 +213,7 @@ fn play_watched<R: AllocGlobal + Files + Input + Print + Eprint + Processes + Cl
 }
 
 // By which paths the scripts are named.
-fn origins_of<'a, R: AllocGlobal + Files>(
+pub(crate) fn origins_of<'a, R: AllocGlobal + Files>(
     rt: &R,
     options: &Options<'_>,
     plan: &'a Plan,

@@ -35,6 +35,12 @@ impl Outcome {
         ensures { exit_status result ≡ (if self.is_alike && self.is_taken then number_of status else 125) }
     {
         if !self.is_alike {
+            // A code that is no status was told.
+            let code = if matches!(status, Status::Failed) {
+                None
+            } else {
+                code
+            };
             report_lacking(rt, code)?;
             return Ok(Status::Failed);
         }

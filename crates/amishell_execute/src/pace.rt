@@ -71,12 +71,19 @@ impl Pace {
         }
     }
 
+    /// Before an event that may change files an update may be due.
+    pub fn may_be_due(&self) -> bool
+        ensures { result ≡ may_be_due self.now Turn }
+    {
+        self.events > 0 && self.events % LOOK == 0
+    }
+
     // Counts an event that may change files, and gives whether an update is due before it.
     fn pass<R: Clock>(&mut self, rt: &R) -> bool
         ensures late { result ≡ true → may_be_due self.old Turn ≡ true }
         ensures events { self.new.events ≡ min (self.old.events + 1) (2 ^ 32 - 1) }
     {
-        let is_due = self.events > 0 && self.events % LOOK == 0 && self.is_late(rt);
+        let is_due = self.may_be_due() && self.is_late(rt);
         self.events = self.events.saturating_add(1);
         is_due
     }

@@ -1,11 +1,11 @@
 //! The run of a script.
 
-ghost use Rattle.std.specs.Prelude.{◌≡◌, ◌<◌, ◌^◌, ◌-◌, [], true, false, None, is_none, IfErr, OnOk};
+ghost use Rattle.std.specs.Prelude.{◌≡◌, ◌<◌, ◌^◌, ◌-◌, [], true, false, None, is_none, OnOk};
 ghost use Rattle.ados_launch.specs.Agreement.{Agrees, AreOver, IsOpenTable};
-ghost use Rattle.ados_launch.specs.Deeds.{Does, DoesByRule, RunsLines};
+ghost use Rattle.ados_launch.specs.Deeds.{Does, DoesByRule};
 ghost use Rattle.ados_launch.specs.Drives.{Drives, HasDriveResult};
 ghost use Rattle.ados_launch.specs.Schedule.{first_schedule_state};
-ghost use Rattle.amishell_execute.specs.Playing.{IfDriven, PlaysAlone, drive_fault_of, may_be_cut, playing_moment};
+ghost use Rattle.amishell_execute.specs.Playing.{IfDriven, PlaysAlone, may_be_cut, playing_moment};
 
 use crate::checks::Checks;
 use crate::deadline::Deadline;
@@ -16,11 +16,9 @@ use crate::origins::Origins;
 use crate::reader::Prompter;
 use crate::share::Share;
 use crate::teller::Teller;
-use crate::trail::{Change, Trail};
 use crate::unanswered::question_asked;
 use crate::watched::Watched;
 use ados_launch::{End, Session, Sink};
-use ados_text::NoMemory;
 use ados_transfer::{Lines, Planned};
 use ados_world::World;
 use execute_options::AtEnd;
@@ -107,16 +105,16 @@ pub fn play<R: AllocGlobal + Files + Input + Eprint + Processes + Clone + Drop +
     ended
 }
 
-// A run: how many events it takes at most, who answers what it asks of this machine, and from where its lines come.
+/// A run: how many events it takes at most, who answers what it asks of this machine, and from where its lines come.
 #[derive(Drop)]
-struct Run<'a, R: Processes, I: Read> {
-    rt: &'a R,
+pub struct Run<'a, R: Processes, I: Read> {
+    pub rt: &'a R,
     turns: u64,
-    deadline: Option<Deadline>,
-    teller: Teller<'a>,
-    launcher: Bringer<'a, R>,
-    reader: Prompter<'a, I>,
-    checks: Checks<'a>,
+    pub deadline: Option<Deadline>,
+    pub teller: Teller<'a>,
+    pub launcher: Bringer<'a, R>,
+    pub reader: Prompter<'a, I>,
+    pub checks: Checks<'a>,
 }
 
 impl<R: AllocGlobal + Files + Eprint + Processes + Clone + Drop + Clock, I: Read> Run<'_, R, I> {
@@ -162,6 +160,7 @@ impl<R: AllocGlobal + Files + Eprint + Processes + Clone + Drop + Clock, I: Read
         requires children { IsOpenTable session.old.children self.old.launcher.calls }
         requires begins { session.old.schedule ≡ first_schedule_state [] }
         requires held { session.old.held ≡ [] }
+        requires gathered { session.old.gathered ≡ [] }
         ensures does { Does world.old world.new (may_be_cut result) (K.contents writer.old.inner) (K.contents writer.new.inner) }
         ensures children { IsOpenTable session.new.children self.new.launcher.calls }
         ensures agrees { OnOk result (Agrees world.new self.new.launcher.calls) }
@@ -190,6 +189,7 @@ impl<R: AllocGlobal + Files + Eprint + Processes + Clone + Drop + Clock, I: Read
     }
 
     // Takes events until nothing comes; a shared folder is attended to before each. What the last one renamed is still to be followed.
+    // What events print is gathered. At each end all of it was written, or a write failed.
     fn drive_session<K: Sink>(
         &mut self,
         world: &mut World,
@@ -203,6 +203,7 @@ impl<R: AllocGlobal + Files + Eprint + Processes + Clone + Drop + Clock, I: Read
         requires children { IsOpenTable session.old.children self.old.launcher.calls }
         requires begins { session.old.schedule ≡ first_schedule_state [] }
         requires held { session.old.held ≡ [] }
+        requires gathered { session.old.gathered ≡ [] }
         ensures does { Does world.old world.new (may_be_cut result) (K.contents writer.old.inner) (K.contents writer.new.inner) }
         ensures children { IsOpenTable session.new.children self.new.launcher.calls }
         ensures agrees { OnOk result (Agrees world.new self.new.launcher.calls) }
@@ -213,74 +214,13 @@ impl<R: AllocGlobal + Files + Eprint + Processes + Clone + Drop + Clock, I: Read
             (playing_moment K.contents K.faults K.stalls world.new self.new.reader writer.new.inner self.new.launcher)) }
     {
         for _ in 0..self.turns {
-            self.attend(world, session, share)?;
-            if !session.take(world, &mut self.launcher, &mut self.reader, writer)? {
+            self.attend(world, session, share, writer)?;
+            if !session.advance(world, &mut self.launcher, &mut self.reader, writer)? {
                 return Ok(session.end(world));
             }
-            self.follow(world, session, &mut writer.trail)?;
+            self.follow(world, session, writer)?;
         }
+        session.release(writer)?;
         Ok(session.finish(world)?)
-    }
-
-    // Follows the shell that had the last event: the scripts that ended are told, what began is to be checked, and once shell 1 has
-    // ended it is told which others run. Mostly nothing changed.
-    #[inline(always)]
-    fn follow(
-        &mut self,
-        world: &World,
-        session: &Session<'_>,
-        trail: &mut Trail,
-    ) -> Result<(), NoMemory>
-        ensures launcher { self.new.launcher ≡ self.old.launcher }
-        ensures reader { self.new.reader ≡ self.old.reader }
-    {
-        // A script that ended early or broken left one frame fewer: in such an event none begins.
-        if trail.is_as_kept(world) {
-            return Ok(());
-        }
-        self.teller
-            .tell_ends(self.rt, world, trail, session.reports())?;
-        match trail.follow(world)? {
-            Change::Begun(number) => self.checks.add_begun(number),
-            Change::Ended(1) => self.teller.tell_waiting(self.rt, world, trail),
-            Change::Same | Change::Ended(_) => Ok(()),
-        }
-    }
-
-    // Attends to the time, to a script that begins, and to the shared folder, if there is one.
-    #[inline(always)]
-    #[tactic(auto, using(crate::proofs::Pairs::lines_stay))]
-    fn attend(
-        &mut self,
-        world: &mut World,
-        session: &mut Session<'_>,
-        share: &mut Option<&mut Share>,
-    ) -> Result<(), Fault>
-        requires count { session.old.schedule.taken < 2 ^ 64 - 1 }
-        requires agrees { Agrees world.old self.old.launcher.calls }
-        requires children { IsOpenTable session.old.children self.old.launcher.calls }
-        ensures agrees { OnOk result (Agrees world.new self.new.launcher.calls) }
-        ensures children { IsOpenTable session.new.children self.new.launcher.calls }
-        ensures schedule { session.new.schedule ≡ session.old.schedule }
-        ensures reader { self.new.reader ≡ self.old.reader }
-        ensures ran { RunsLines world.old world.new }
-        ensures share { is_none share.new ≡ is_none share.old }
-        // Without a shared folder nothing happens.
-        ensures alone { is_none share.old ≡ true → (world.new ≡ world.old) × (session.new ≡ session.old)
-            × (self.new.launcher ≡ self.old.launcher) × IfErr result (λ why. drive_fault_of why ≡ None) }
-    {
-        if let Some(deadline) = &self.deadline {
-            deadline.check(self.rt)?;
-        }
-        if self.checks.are_due()
-            && let Some(next) = session.next(world)
-        {
-            self.checks.attend(self.rt, world, next)?;
-        }
-        let Some(share) = share else {
-            return Ok(());
-        };
-        let is_ready = self.reader.has_brought();
-        share.attend(self.rt, world, &mut self.launcher, session, is_ready)
     }
 }

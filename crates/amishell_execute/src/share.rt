@@ -106,6 +106,7 @@ impl Share {
         ensures children { IsOpenTable session.new.children launcher.new.calls }
         ensures schedule { session.new.schedule ≡ session.old.schedule }
         ensures held { session.new.held ≡ session.old.held }
+        ensures gathered { session.new.gathered ≡ session.old.gathered }
         ensures ran { RunsLines world.old world.new }
     {
         self.follow(world, session)?;
@@ -135,12 +136,27 @@ impl Share {
         Ok(())
     }
 
+    /// The next event is one before which a folder, or a line about one, may be written, or a folder read. `is_ready` as for
+    /// [`attend`](Share::attend).
+    pub fn may_act(&self, session: &Session<'_>, world: &World, is_ready: bool) -> bool
+        requires count { session.now.schedule.taken < 2 ^ 64 - 1 }
+    {
+        if !self.is_filled {
+            return is_ready && world.wants_line();
+        }
+        match Due::next(session, world) {
+            Due::Turn => self.pace.may_be_due(),
+            Due::Start(_) | Due::Read | Due::Wait(_) | Due::Input => true,
+        }
+    }
+
     /// What the event before renamed is followed, and what it deleted no longer.
     pub fn follow(&mut self, world: &World, session: &mut Session<'_>) -> Result<(), Fault>
         ensures taken { session.new.renamed ≡ None }
         ensures children { session.new.children ≡ session.old.children }
         ensures schedule { session.new.schedule ≡ session.old.schedule }
         ensures held { session.new.held ≡ session.old.held }
+        ensures gathered { session.new.gathered ≡ session.old.gathered }
     {
         if let Some(renamed) = session.take_renamed() {
             for object in renamed.as_slice() {
@@ -151,15 +167,16 @@ impl Share {
         Ok(())
     }
 
-    /// Writes what changed to the folders at the end. `false` if the two sides are not alike then.
+    /// Writes what changed to the folders at the end. `false` if the two sides are not alike then; nothing ran if they did not come in.
     pub fn close<R: AllocGlobal + Files + Eprint + Clone + Drop + Clock>(
         &mut self,
         rt: &R,
         world: &World,
     ) -> Result<bool, Fault> {
-        if self.is_filled {
-            self.write_out(rt, world, Moment::End)?;
+        if !self.is_filled {
+            return Ok(true);
         }
+        self.write_out(rt, world, Moment::End)?;
         Ok(!self.mirror.differs())
     }
 
@@ -177,6 +194,7 @@ impl Share {
         ensures children { IsOpenTable session.new.children launcher.new.calls }
         ensures schedule { session.new.schedule ≡ session.old.schedule }
         ensures held { session.new.held ≡ session.old.held }
+        ensures gathered { session.new.gathered ≡ session.old.gathered }
         ensures ran { RunsLines world.old world.new }
     {
         let arrivals = self.mirror.arrivals(rt, world.files());
@@ -243,6 +261,7 @@ fn take_in<R: Processes>(
     ensures children { IsOpenTable session.new.children launcher.new.calls }
     ensures schedule { session.new.schedule ≡ session.old.schedule }
     ensures held { session.new.held ≡ session.old.held }
+    ensures gathered { session.new.gathered ≡ session.old.gathered }
     ensures ran { RunsLines world.old world.new }
 {
     launcher.offer(arrival.bytes.take());

@@ -9,15 +9,15 @@ use crate::origins::Origins;
 use crate::status::Status;
 use ados_flow::Frame;
 use ados_launch::End;
-use ados_text::NoMemory;
+use ados_text::{Code, NoMemory};
 use ados_trace::{ScriptNames, script_name};
 use ados_world::World;
 use execute_options::Options;
 use std::fmt::Display;
 use std::io::Eprint;
 
-/// The exit status of a run. At a limit, and if a script is not run, the lines say where the scripts stand; `Memory` if there was none for
-/// them.
+/// The exit status of a run. At a limit, and if a script is not run, the lines say where the scripts stand, and one tells a code that is no
+/// exit status; `Memory` if there was none for them.
 pub fn status_after<R: AllocGlobal + Eprint>(
     rt: &R,
     options: &Options<'_>,
@@ -29,7 +29,13 @@ pub fn status_after<R: AllocGlobal + Eprint>(
     ensures fault { IfErr result (λ fault. fault ≢ Memory → status_of_fault fault ≡ status_of_run options.now.least ended) }
 {
     match ended {
-        Ok(end) => Ok(Status::of_code(end.code, options.least)),
+        Ok(end) => {
+            let status = Status::of_code(end.code, options.least);
+            if matches!(status, Status::Failed) {
+                tell_code(rt, end.code)?;
+            }
+            Ok(status)
+        }
         Err(fault) => {
             let status = fault.status();
             if matches!(status, Status::Limit) || matches!(fault, Fault::NotRun(..)) {
@@ -40,6 +46,14 @@ pub fn status_after<R: AllocGlobal + Eprint>(
             }
         }
     }
+}
+
+// Tells the code of a script that is no exit status.
+fn tell_code<R: AllocGlobal + Eprint>(rt: &R, code: Code) -> Result<(), NoMemory> {
+    let Code(number) = code;
+    let line = format!(in rt.alloc(); "the script's code was {number}: no exit status")?;
+    report(rt, &line);
+    Ok(())
 }
 
 // Tells why the scripts go no further, and where they stand.

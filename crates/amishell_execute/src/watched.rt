@@ -27,6 +27,10 @@ impl<K: Sink> Sink for Watched<K> {
         self.trail.expect(world, next);
     }
 
+    fn tells(&self) -> bool {
+        self.inner.tells()
+    }
+
     fn heed_ends(&mut self, ends: &[EndReport]) {
         self.inner.heed_ends(ends);
     }

@@ -1,10 +1,10 @@
-use Rattle.std.proofs.Common.{◌≡◌, ◌∙◌, ◌+◌, ◌-◌, ◌^◌, ◌<◌, ◌&&◌, ◌||◌, Bool, true, false, [], ℕ, length, map, drop, get_or, is_some, ap, arith, min, refl, rules, subst, sym}
+use Rattle.std.proofs.Common.{◌≡◌, ◌∙◌, ◌+◌, ◌-◌, ◌^◌, ◌<◌, ◌&&◌, ◌||◌, Bool, true, false, [], ℕ, length, drop, get_or, is_some, ap, arith, refl, subst, sym}
 use Rattle.std.specs.List.{slice_split}
 use Rattle.std.proofs.lemmas.List.{length-map}
 use Rattle.ados_text.specs.Lines.{is_newline}
 use Rattle.ados_check.specs.LeftOut.{is_between}
-use Rattle.ados_check.specs.Marks.{IsMarked, is_in_printed, prints_sign}
-use Rattle.ados_check.specs.Signs.{file_line, is_dotted, sign_of}
+use Rattle.ados_check.specs.Marks.{is_in_printed, prints_sign}
+use Rattle.ados_check.specs.Signs.{is_dotted, sign_of}
 use Rattle.ados_check.proofs.MarkLemmas.{LeavesMarked, line_parted, marks_less, marks_same, with_test}
 use Rattle.ados_check.proofs.marks.mark_lines.Goals as goal
 use Rattle.ados_check.proofs.marks.mark_lines.Goals.{in_default, in-Some+in_ok-push_problem}

@@ -12,5 +12,6 @@ loop-line-preserved g c = record {
   children = c.run_alone.ensures.children;
   schedule = c.run_alone.ensures.schedule ∙ c.loop-line.invariant.schedule;
   held = c.run_alone.ensures.held ∙ c.loop-line.invariant.held;
+  gathered = c.run_alone.ensures.gathered ∙ c.loop-line.invariant.gathered;
   ran = lines-then c.args.world.now c.loop-line.world c.run_alone.new.world c.loop-line.invariant.ran c.run_alone.ensures.ran;
 }

@@ -9,5 +9,6 @@ invariant-loop-line g l = record {
   children : IsOpenTable l.session.children (g.L.Launcher.calls l.launcher);
   schedule : l.session.schedule ≡ l.fn.session.schedule;
   held : l.session.held ≡ l.fn.session.held;
+  gathered : l.session.gathered ≡ l.fn.session.gathered;
   ran : RunsLines l.fn.world l.world;
 }

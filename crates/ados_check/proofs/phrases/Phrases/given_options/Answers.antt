@@ -1,4 +1,4 @@
-use Rattle.std.proofs.Common.{◌≡◌, ◌∙◌, ◌+◌, ◌++◌, Some, ◌-◌, append-nil, ap, sym, arith, drop, length, take}
+use Rattle.std.proofs.Common.{◌≡◌, ◌∙◌, ◌++◌, ◌-◌, append-nil, ap, sym, arith, drop, length, take}
 use Rattle.std.proofs.lemmas.List.{drop_more, length-drop, take_all}
 use Rattle.ados_check.specs.Phrases.{one_or_none, phrase_after, phrase_of}
 use Rattle.ados_check.specs.declared.arguments.Word.{Word}

@@ -1,4 +1,3 @@
-use Rattle.std.proofs.Common.{rules}
 use Rattle.ados_launch.proofs.Gathering.{gathers-then, on-err, on-ok, part-then}
 use Rattle.ados_launch.proofs.gathered.Gathered.add.Goals as goal
 

@@ -95,6 +95,7 @@ returns-in_err-add-clause-takes g c =
       takes = c.in_default-take.ensures.took;
       agrees = c.in_default-take.ensures.agrees;
       gets = part-rest _ _ _ _ _ _ c.in_ok-release_if.ensures.gathers (rw (c.as_slice-2.ensures.value, c.heed_ends.ensures.contents, c.show.ensures.contents) at c.in_err-add.ensures.part);
+      reports_are = refl;
       cause = rw (c.heed_ends.ensures.faults, c.show.ensures.faults, c.in_ok-release_if.ensures.honest.0, c.heed_ends.ensures.stalls, c.show.ensures.stalls, c.in_ok-release_if.ensures.honest.1) at c.in_err-add.ensures.cause;
       reads_well = c.in_default-take.ensures.honest;
     }))
@@ -112,6 +113,7 @@ returns-clause-takes g c = rw (← c.self.view_is) (record {
   takes = c.in_default-take.ensures.took;
   schedule_is = c.pass.ensures ∙ c.in-Some.ensures.passed;
   gathers = gathers-both _ _ _ _ _ _ _ c.in_ok-release_if.ensures.gathers (rw (c.as_slice-2.ensures.value, c.heed_ends.ensures.contents, c.show.ensures.contents) at c.in_ok-add.ensures.gathers);
+  reports_are = refl;
   reads_well = c.in_default-take.ensures.honest;
   writes_well = (
     c.in_ok-add.ensures.honest.0 ∙ (c.heed_ends.ensures.faults ∙ (c.show.ensures.faults ∙ c.in_ok-release_if.ensures.honest.0)),

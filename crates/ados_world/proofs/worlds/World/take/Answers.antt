@@ -1,5 +1,4 @@
-use Rattle.std.proofs.Common.{rules, List, subst}
-use Rattle.ados_find.specs.declared.outcomes.Renamed.{Renamed}
+use Rattle.std.proofs.Common.{rules, subst}
 use Rattle.ados_machine.specs.Limits.{IsSane}
 use Rattle.ados_world.proofs.TakenLemmas.{taken-by}
 use Rattle.ados_world.proofs.worlds.World.take.Goals as goal
@@ -8,9 +7,8 @@ pub invariant_of-self-2 : goal.invariant_of-self-2
 invariant_of-self-2 c =
     let w = c.args.self.now in
     let draft = c.args.draft.now in
-    let moved : List Renamed = c.in-Ok-moved_by.moved.items in
     subst IsSane
-    (taken-by w c.args.number draft c.in-Ok-new_shell.begun moved c.change_shell.new.shells c.join.new.shells c.break_other.new.shells c.end_done.new.shells c.end_done.new.ended
+    (taken-by w c.args.number draft c.change_shells.new.shells c.break_other.new.shells c.end_done.new.shells c.end_done.new.ended
     c.self.inside.queue.items c.self.inside.input_ended c.renew.new.shared
-    (search rules) (search rules) (search rules) (search rules) (search rules) (search rules) (search rules) (search rules) (search rules) (search rules))
+    (search rules) (search rules) (search rules) (search rules) (search rules) (search rules) (search rules))
     c.requires.sane

@@ -1,7 +1,7 @@
-use Rattle.std.proofs.Common.{◌≡◌, ◌≤◌, true, false, is_none}
+use Rattle.std.proofs.Common.{◌≡◌, ◌≤◌, true, is_none}
 use Rattle.ados_launch.specs.Agreement.{Agrees, IsOpenTable}
-use Rattle.ados_launch.specs.Deeds.{Does}
 use Rattle.amishell_execute.specs.Playing.{playing_moment}
+use Rattle.amishell_execute.proofs.DeedsGathering.{DoesGathering}
 use Rattle.amishell_execute.proofs.Driving.{DrivenAlone}
 use Rattle.amishell_execute.proofs.play.Run.drive_session.Given as goal
 
@@ -11,7 +11,7 @@ invariant-loop g l = record {
   writer : g.K.Sink.faults l.writer.inner ≡ g.K.Sink.faults l.fn.writer.inner;
   count : l.session.schedule.taken ≤ l.counter;
   agrees : Agrees l.world l.self.launcher.calls;
-  does : Does l.fn.world l.world false (g.K.Sink.contents l.fn.writer.inner) (g.K.Sink.contents l.writer.inner);
+  does : DoesGathering l.fn.world l.world (g.K.Sink.contents l.fn.writer.inner) (g.K.Sink.contents l.writer.inner) l.session.gathered;
   children : IsOpenTable l.session.children l.self.launcher.calls;
   share : is_none l.share ≡ is_none l.fn.share;
   alone : is_none l.fn.share ≡ true → DrivenAlone

@@ -16,5 +16,6 @@ loop-arrival-preserved g c = record {
   children = c.take_in.ensures.children;
   schedule = c.take_in.ensures.schedule ∙ c.loop-arrival.invariant.schedule;
   held = c.take_in.ensures.held ∙ c.loop-arrival.invariant.held;
+  gathered = c.take_in.ensures.gathered ∙ c.loop-arrival.invariant.gathered;
   ran = lines-then c.args.world.now c.loop-arrival.world c.take_in.new.world c.loop-arrival.invariant.ran c.take_in.ensures.ran;
 }
