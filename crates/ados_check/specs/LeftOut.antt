@@ -1,5 +1,7 @@
 -- The commands of a line that are given an option of Release 2 which the Shell leaves out; what is told of them, and struck.
 use Rattle.std.specs.Prelude.{ℕ, ◌+◌, ◌≡◌, ◌<◌, ◌==◌, ◌&&◌, ◌||◌, Bool, true, false, List, [], ◌∷◌, ◌++◌, Option, Some, None, flat_map, length, nat_le, nat_lt, slice_index, if◌then◌else◌}
+use Rattle.std.specs.Borrow.{Bor}
+use Rattle.std.specs.Option.{option_map}
 use Rattle.std.specs.List.{list_all, list_any}
 use Rattle.ados_text.specs.Lines.{lines_of}
 use Rattle.ados_text.specs.Text.{Bytes, Text}
@@ -37,6 +39,18 @@ given_from commands dialect aliases text (word ∷ words) = given_by dialect tex
 -- the options that the command of a text without back-ticks is given, and that are left out
 abbrev pub given_in : List Command → Dialect → Pairs → Bytes → List Given
 given_in commands dialect aliases text = given_from commands dialect aliases text (from_command (lead_of aliases text) 0 (argument_words text))
+
+-- the name of the command that is the first of some words, if it has more options in Release 2
+abbrev pub name_from : List Command → Pairs → Bytes → List Word → Option (Bor Bytes)
+name_from commands aliases text [] = None
+name_from commands aliases text (word ∷ words) = option_map (λ command. command.name) (named_command commands (command_name aliases text word))
+
+-- that of the command of a text without back-ticks
+abbrev pub name_in : List Command → Pairs → Bytes → Option (Bor Bytes)
+name_in commands aliases text = name_from commands aliases text (from_command (lead_of aliases text) 0 (argument_words text))
+
+abbrev pub name_of : LeftOut → Bor Bytes
+name_of one = one.command
 
 abbrev pub given_of : Option LeftOut → List Given
 given_of None = []

@@ -1,5 +1,7 @@
 -- What problems mean for a run and for a check.
-use Rattle.std.specs.Prelude.{Bool, true, false}
+use Rattle.std.specs.Prelude.{Bool, true, false, Option, Some, None}
+use Rattle.std.specs.Borrow.{Bor}
+use Rattle.ados_text.specs.Text.{Bytes}
 use Rattle.ados_check.specs.LeftOut.{are_idle}
 use Rattle.ados_check.specs.declared.findings.Problem.{Problem}
 use Rattle.ados_check.specs.declared.findings.Problem.TheVariants as problem
@@ -43,6 +45,11 @@ is_refused other = false
 abbrev pub is_idle : Problem → Bool
 is_idle (problem.LeftOut one) = are_idle one.options.items
 is_idle other = false
+
+-- the command that is given options which the Shell leaves out
+abbrev pub command_left_out : Problem → Option (Bor Bytes)
+command_left_out (problem.LeftOut one) = Some one.command
+command_left_out other = None
 
 -- whenever the line is taken, it fails, or it must not be run
 abbrev pub is_error : Problem → Bool

@@ -1,7 +1,7 @@
 //! What is found in a line of a script: its number and the problem, as texts.
 
 ghost use Rattle.std.specs.Prelude.{◌≡◌};
-ghost use Rattle.ados_check.specs.Problems.{is_error, is_harmless, is_idle, is_refused, refused, speaks_of_return};
+ghost use Rattle.ados_check.specs.Problems.{command_left_out, is_error, is_harmless, is_idle, is_refused, refused, speaks_of_return};
 
 use crate::left_out::LeftOut;
 use ados_line::LineFault;
@@ -130,7 +130,9 @@ impl Problem {
     }
 
     /// The command that is given options which the Shell leaves out, if it is of that.
-    pub fn command_left_out(&self) -> Option<&'static str> {
+    pub fn command_left_out(&self) -> Option<&'static str>
+        ensures { result ≡ command_left_out self.now }
+    {
         match self {
             Problem::LeftOut(options) => Some(options.command()),
             _ => None,

@@ -1,6 +1,7 @@
 //! The commands of a line that are given an option of Release 2 which the Shell leaves out, and so takes for a plain word.
 ghost use Rattle.std.specs.Prelude.{◌≡◌, ◌++◌, map, IfOk, IfSome, OnOk};
-ghost use Rattle.ados_check.specs.LeftOut.{IsBlanked, IsRidOfIdle, IsStruck, are_idle, given_in, given_of, is_between, is_idle_in_line, is_in_idle, left_out_in, part_of, shown};
+ghost use Rattle.std.specs.Option.{option_map};
+ghost use Rattle.ados_check.specs.LeftOut.{IsBlanked, IsRidOfIdle, IsStruck, are_idle, given_in, given_of, is_between, is_idle_in_line, is_in_idle, left_out_in, name_in, name_of, part_of, shown};
 ghost use Rattle.ados_check.specs.Table.{AreReleaseTwo};
 
 use crate::arguments::argument_words;
@@ -49,7 +50,9 @@ impl fmt::Display for LeftOut {
 
 impl LeftOut {
     /// The command's name.
-    pub fn command(&self) -> &'static str {
+    pub fn command(&self) -> &'static str
+        ensures { result ≡ self.now.command }
+    {
         self.command
     }
 
@@ -164,6 +167,7 @@ impl<'a> Reader<'a> {
 
     // The command of a text without back-ticks, which begins at a place of the line, with the options that it is given.
     fn command_given(&self, from: usize, text: &[u8]) -> Result<Option<LeftOut>, NoMemory>
+        ensures command { IfOk result (λ found. option_map name_of found ≡ name_in self.now.commands.now self.now.aliases.now text.now) }
         ensures given { IfOk result (λ found. given_of found ≡ given_in self.now.commands.now self.now.dialect self.now.aliases.now text.now) }
         ensures place { IfOk result (λ found. IfSome found (λ one. one.from ≡ from)) }
     {

@@ -81,14 +81,19 @@ fn script_place(
     ensures { Gives result (script_place shared.now directory.now word.now place) }
 {
     if !is_path(word) && shared.ram.look(&place).is_none() {
-        in_scripts(alloc, shared, directory, word)
+        place_in_scripts(alloc, shared, directory, word)
     } else {
         Ok(place)
     }
 }
 
-/// The place of a word in S:.
-fn in_scripts(alloc: Global, shared: &Shared, directory: &Place, word: &Text) -> Lookup<Place>
+/// The place of a word in S:, where Execute looks too for one that is not a path. `Stopped` if it leads to none.
+pub fn place_in_scripts(
+    alloc: Global,
+    shared: &Shared,
+    directory: &Place,
+    word: &Text,
+) -> Lookup<Place>
     ensures { Gives result (place_of shared.now directory.now (codes "S:" ++ word.now)) }
 {
     let mut path = Text::from_bytes(alloc, b"S:")?;

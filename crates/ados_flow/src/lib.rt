@@ -24,7 +24,7 @@ pub use branches::{label_sought, skip_from};
 pub use called::Called;
 pub use code_rule::{FIRST_LIMIT, is_reached};
 pub use devices::push_devices;
-pub use execute::call_script;
+pub use execute::{call_script, place_in_scripts};
 pub use frames::{FRAME_LIMIT, Frame};
 pub use gathering::{
     Gathered, RUN_LIMIT, before_plus, gather, has_no_command, number_line, without_plus,

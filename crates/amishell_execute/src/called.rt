@@ -3,7 +3,8 @@
 use crate::beginning::Beginning;
 use crate::faults::Fault;
 use crate::origins_of;
-use ados_find::{Refusal, find_file, is_path, place_of};
+use ados_find::{Lookup, Refusal, find_file, is_path, place_of};
+use ados_flow::place_in_scripts;
 use ados_ram::{Limits, Place, Ram};
 use ados_text::{NoMemory, Text};
 use ados_trace::ScriptNames;
@@ -72,11 +73,9 @@ impl<'a> Called<'a> {
         name: &Text,
         caller: Option<&str>,
     ) -> Result<Found, Fault> {
-        let mut found = self.look(rt, name, caller)?;
+        let mut found = self.look(rt, self.place(rt.alloc(), name)?, caller)?;
         if found.is_none() && !is_path(name) {
-            let mut path = Text::from_bytes(rt.alloc(), b"S:")?;
-            path.push_bytes(name.as_bytes())?;
-            found = self.look(rt, &path, caller)?;
+            found = self.look(rt, self.place_in_scripts(rt.alloc(), name)?, caller)?;
         }
         match found {
             Some(found) => Ok(found),
@@ -100,14 +99,14 @@ impl<'a> Called<'a> {
         }
     }
 
-    // What Execute finds at the place to which a path leads, if an object is there.
+    // What Execute finds at a place, if a path leads to one and an object is there.
     fn look<R: AllocGlobal + Files>(
         &self,
         rt: &R,
-        path: &Text,
+        place: Option<Place>,
         caller: Option<&str>,
     ) -> Result<Option<Found>, Fault> {
-        let Some(place) = self.place(rt.alloc(), path)? else {
+        let Some(place) = place else {
             return Ok(None);
         };
         if self.is_own(&place, caller) {
@@ -123,11 +122,13 @@ impl<'a> Called<'a> {
     // The place to which a path leads, if it leads to one.
     fn place(&self, alloc: Global, path: &Text) -> Result<Option<Place>, NoMemory> {
         let beginning = &self.beginning;
-        match place_of(alloc, &beginning.state, &beginning.directory, path) {
-            Ok(place) => Ok(Some(place)),
-            Err(Refusal::NoMemory) => Err(NoMemory),
-            Err(Refusal::Stopped(_)) => Ok(None),
-        }
+        found_place(place_of(alloc, &beginning.state, &beginning.directory, path))
+    }
+
+    // The place of a name in S:, if it leads to one.
+    fn place_in_scripts(&self, alloc: Global, name: &Text) -> Result<Option<Place>, NoMemory> {
+        let beginning = &self.beginning;
+        found_place(place_in_scripts(alloc, &beginning.state, &beginning.directory, name))
     }
 
     // The place is that of a script of the command line: of the caller, if that is one.
@@ -188,6 +189,15 @@ impl<'a> Called<'a> {
         } else {
             Found::Nothing
         }
+    }
+}
+
+// A place that was looked up, if there is one.
+fn found_place(found: Lookup<Place>) -> Result<Option<Place>, NoMemory> {
+    match found {
+        Ok(place) => Ok(Some(place)),
+        Err(Refusal::NoMemory) => Err(NoMemory),
+        Err(Refusal::Stopped(_)) => Ok(None),
     }
 }
 
