@@ -1,5 +1,5 @@
 //! A share: folders of this machine and directories of the Shell's files that are kept alike.
-ghost use Rattle.std.specs.Prelude.{None, Some, OnOk, string_bytes};
+ghost use Rattle.std.specs.Prelude.{◌≡◌, true, None, Some, OnOk, string_bytes};
 ghost use Rattle.std.specs.BTreeMap.{IsOrdered};
 ghost use Rattle.std.specs.String.{string_cmp};
 ghost use Rattle.ados_share.specs.Records.{Sets};
@@ -95,7 +95,9 @@ impl Mirror {
     /// The two sides are not alike: something could not be read, written or brought in, and has not been since, or something is not
     /// deleted because of that, or since its bytes would be only in memory; what was written over stays under a name of its own, for the
     /// same reason; a temporary file is left; or the script changed something that the folder does not have as the script left it.
-    pub fn differs(&self) -> bool {
+    pub fn differs(&self) -> bool
+        ensures spoilt { self.now.reports.is_spoilt ≡ true → result ≡ true }
+    {
         self.is_holding
             || self.is_lacking
             || self.stand_ins.differ()

@@ -1,5 +1,7 @@
 //! What a share reports on standard error: each line about an object once in a run, or once until it is settled.
 
+ghost use Rattle.std.specs.Prelude.{◌≡◌, true, false, OnOk, is_none};
+
 use crate::failures::Failures;
 use ados_ram::Limits;
 use ados_transfer::{TransferFault, Volumes};
@@ -65,7 +67,9 @@ impl Reports {
 
     /// Something could not be read, written or brought in, and has not been since, or a change of the script is lost, or a file that it
     /// renamed.
-    pub fn has_failed(&self) -> bool {
+    pub fn has_failed(&self) -> bool
+        ensures spoilt { self.now.is_spoilt ≡ true → result ≡ true }
+    {
         !self.failing.is_empty()
             || !self.unread.is_empty()
             || !self.lost.is_empty()
@@ -145,28 +149,40 @@ impl Reports {
     }
 
     /// Reports that another program deleted a large file whose stand-in the script renamed, before it got its new name.
-    pub fn report_gone(&mut self, path: &str) -> Result<(), TransferFault> {
+    pub fn report_gone(&mut self, path: &str) -> Result<(), TransferFault>
+        ensures spoilt { OnOk result (self.new.is_spoilt ≡ true) }
+    {
+        self.report_once("gone, though the script renamed it", path)?;
         self.is_spoilt = true;
-        self.report_once("gone, though the script renamed it", path)
+        Ok(())
     }
 
     /// Reports that another program wrote another file in place of such a one.
-    pub fn report_replaced(&mut self, path: &str) -> Result<(), TransferFault> {
+    pub fn report_replaced(&mut self, path: &str) -> Result<(), TransferFault>
+        ensures spoilt { OnOk result (self.new.is_spoilt ≡ true) }
+    {
+        self.report_once("written over, though the script renamed it", path)?;
         self.is_spoilt = true;
-        self.report_once("written over, though the script renamed it", path)
+        Ok(())
     }
 
     /// Reports by this text that another program took the new name of such a one, which keeps its old one.
-    pub fn report_taken(&mut self, text: &str, path: &str, new: &str) -> Result<(), TransferFault> {
+    pub fn report_taken(&mut self, text: &str, path: &str, new: &str) -> Result<(), TransferFault>
+        ensures spoilt { OnOk result (self.new.is_spoilt ≡ true) }
+        ensures taken { OnOk result (is_none self.new.taken ≡ false) }
+    {
+        self.report_once(text, path)?;
         self.is_spoilt = true;
         if self.taken.is_none() {
             self.taken = Some(String::from_str(self.alloc, new)?);
         }
-        self.report_once(text, path)
+        Ok(())
     }
 
     /// The first new name that was taken so.
-    pub fn taken(&self) -> Option<&str> {
+    pub fn taken(&self) -> Option<&str>
+        ensures { is_none result ≡ is_none self.now.taken }
+    {
         self.taken.as_deref()
     }
 

@@ -3,8 +3,8 @@
 use Rattle.std.specs.Prelude.{ℕ, Bool, true, false, Option, Some, None, not, ◌==◌, ◌*◌, ◌&&◌, if◌then◌else◌, bit_and, bit_or}
 use Rattle.ados_transfer.specs.declared.rights.Owner.{Owner}
 use Rattle.ados_transfer.specs.declared.rights.Rights.{Rights}
-use Rattle.ados_transfer.specs.declared.writing.Manner.{Manner}
-use Rattle.ados_transfer.specs.declared.writing.Manner.TheVariants.{Plain, Executable, Mode, Kept, Copied}
+use Rattle.ados_transfer.specs.declared.manner.Manner.{Manner}
+use Rattle.ados_transfer.specs.declared.manner.Manner.TheVariants.{Plain, Executable, Mode, Kept, Copied}
 
 -- a mode has a right
 abbrev pub has_right : ℕ → ℕ → Bool

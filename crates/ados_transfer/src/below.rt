@@ -2,8 +2,9 @@
 //! it is used by its descriptor, which means this folder whatever takes its name, so that no link leads out of it.
 
 use crate::faults::TransferFault;
+use crate::file_number::is_one;
 use crate::here::Here;
-use crate::open_folders::{OpenFolder, is_one};
+use crate::open_folders::OpenFolder;
 use crate::paths::last_piece;
 use crate::stamps::Stamp;
 use crate::volumes::{Volume, Volumes};

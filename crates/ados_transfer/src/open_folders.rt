@@ -2,11 +2,11 @@
 //!
 //! Where there is no `/proc` a folder is used by its name: then a link that takes the name between the look and the call is followed.
 
+use crate::file_number::is_one;
 use crate::writing::joined;
 use std::fs::{Metadata, OpenFile};
 use std::io::{Error, ErrorKind};
 use std::mem::forget;
-use std::os::unix::fs::MetadataExt;
 use std::rt::Files;
 use std::{fs, io};
 
@@ -80,9 +80,4 @@ fn own_path<R: AllocGlobal + Files>(rt: &R, opened: &Metadata) -> io::Result<Opt
         }
     }
     Ok(None)
-}
-
-/// Two looks were at one object, by whatever path.
-pub fn is_one(found: &Metadata, other: &Metadata) -> bool {
-    found.dev() == other.dev() && found.ino() == other.ino()
 }

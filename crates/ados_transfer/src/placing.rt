@@ -4,9 +4,11 @@
 //! in its place: what was written to it meanwhile is found there, and it gets its place back.
 
 use crate::contents::contents_of;
+use crate::file_number::is_one;
 use crate::here::{Here, is_nothing};
+use crate::manner::Manner;
 use crate::paths::{folder_of, last_piece};
-use crate::writing::{Manner, link_beside, open_beside, place_new, write_beside};
+use crate::writing::{link_beside, open_beside, place_new, write_beside};
 use ados_ram::{Entry, FileBytes};
 use std::fs::Metadata;
 use std::io::{Error, ErrorKind};
@@ -212,7 +214,7 @@ pub fn is_one_name<R: Files>(rt: &R, path: &str, other: &str) -> bool {
 fn is_one_file<R: Files>(rt: &R, path: &str, other: &str) -> io::Result<bool> {
     let one = fs::symlink_metadata(rt, path)?;
     match fs::symlink_metadata(rt, other) {
-        Ok(two) => Ok(one.ino() == two.ino() && one.dev() == two.dev()),
+        Ok(two) => Ok(is_one(&one, &two)),
         Err(error) if is_nothing(error.kind()) => Ok(false),
         Err(error) => Err(error),
     }

@@ -4,8 +4,9 @@ ghost use Rattle.ados_transfer.specs.Volumes.{is_within, meet};
 
 use crate::bringing::parted;
 use crate::faults::{TransferFault, named};
+use crate::file_number::is_one;
 use crate::folders::is_descendant;
-use crate::open_folders::{OpenFolder, is_one};
+use crate::open_folders::OpenFolder;
 use crate::paths::{ascii, is_free, place_in, step_into};
 use crate::places::shell_path;
 use crate::volumes::{Volume, Volumes};

@@ -1,6 +1,7 @@
 //! What is written out at the end: files and directories of the Shell, as files and folders of this machine.
 
 use crate::faults::{TransferFault, named};
+use crate::file_number::FileNumber;
 use crate::paths::{ascii, last_piece};
 use crate::reasons::with_reason;
 use crate::stand_ins::own_entry;
@@ -11,9 +12,7 @@ use ados_ram::{Entry, Place, Ram};
 use ados_text::Name;
 use std::alloc::{AllocFailed, Global};
 use std::collections::BTreeSet;
-use std::fs::Metadata;
 use std::io::ErrorKind;
-use std::os::unix::fs::MetadataExt;
 use std::rt::Files;
 use std::{fs, io};
 
@@ -25,13 +24,6 @@ pub struct Taker<'a, R> {
     assigns: &'a Assigns,
     // The files that were written.
     written: BTreeSet<FileNumber>,
-}
-
-// The numbers by which the system tells a file, by whatever path it is found.
-#[derive(Clone, Copy, PartialEq, Eq, PartialOrd, Ord)]
-struct FileNumber {
-    device: u64,
-    inode: u64,
 }
 
 // Why an object is not taken.
@@ -182,16 +174,6 @@ impl Refusal {
                 TransferFault::NoMemory
             }
             Refusal::Failure(error) => not_taken(alloc, words, error.kind()),
-        }
-    }
-}
-
-impl FileNumber {
-    // Those of a file that was looked at.
-    fn of(found: &Metadata) -> FileNumber {
-        FileNumber {
-            device: found.dev(),
-            inode: found.ino(),
         }
     }
 }

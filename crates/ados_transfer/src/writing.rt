@@ -2,8 +2,8 @@
 //! name. No link is followed.
 ghost use Rattle.std.specs.Prelude.{◌≡◌, true, IfOk, IfSome, OnOk, string_bytes};
 ghost use Rattle.ados_transfer.specs.Paths.{IsBelow, is_file_name, path_in};
-ghost use Rattle.ados_transfer.specs.Rights.{mode_of_folder};
 
+use crate::manner::Manner;
 use crate::paths::{is_file_name, step_into};
 use crate::rights::{Owner, Rights};
 use crate::stamps::Stamp;
@@ -18,51 +18,6 @@ use std::{fs, io};
 
 /// The names of temporary files begin like this.
 pub const BESIDE: &str = ".amishell-execute.";
-
-/// The permissions of a file that is written.
-#[derive(Clone, Copy)]
-pub enum Manner {
-    /// Those that a new file gets.
-    Plain,
-    /// The same, and whoever may read it may execute it.
-    Executable,
-    /// Those of this mode.
-    Mode(u32),
-    /// Those of the file that is replaced, or that had another name before, and its owner.
-    Kept(Rights),
-    /// Those of the file of which it is a copy, which is this user's: nobody else may write it.
-    Copied(Rights),
-}
-
-impl Manner {
-    /// The permissions of a file in place of one with these; one that may not be written is refused: `PermissionDenied`.
-    pub fn over(rights: Rights) -> io::Result<Manner> {
-        if rights.mode & 0o222 == 0 {
-            return Err(io::Error::from(ErrorKind::PermissionDenied));
-        }
-        Ok(Manner::Kept(rights))
-    }
-
-    /// The mode of a folder that was made with this owner, if it is not that of a new one.
-    pub fn folder_mode(self, own: Owner) -> Option<u32>
-        ensures { result ≡ mode_of_folder self own.group }
-    {
-        match self {
-            Manner::Plain | Manner::Executable => None,
-            Manner::Mode(mode) => Some(mode),
-            Manner::Kept(rights) => Some(rights.folder_mode(own, false)),
-            Manner::Copied(rights) => Some(rights.folder_mode(own, true)),
-        }
-    }
-
-    // The permissions that the file has until all of it is written: a file that others may not read must not be open to them.
-    fn first_mode(self) -> u32 {
-        match self {
-            Manner::Plain | Manner::Executable => 0o666,
-            Manner::Mode(_) | Manner::Kept(_) | Manner::Copied(_) => 0o600,
-        }
-    }
-}
 
 /// The path of a folder in a folder; it is made if it is not there. One that is a link is refused.
 pub fn enter<R: AllocGlobal + Files>(rt: &R, folder: &str, name: &str) -> io::Result<String>
