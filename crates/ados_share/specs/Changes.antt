@@ -12,12 +12,18 @@ use Rattle.ados_transfer.specs.declared.folders.Kind.{Kind}
 use Rattle.ados_transfer.specs.declared.folders.Kind.TheVariants.{Directory as Folder, File as AnyFile, Foreign}
 use Rattle.ados_transfer.specs.declared.folders.Look.{Look}
 use Rattle.ados_transfer.specs.declared.folders.Seen.{Seen}
+use Rattle.ados_transfer.specs.declared.decision.Decision.{Decision}
+use Rattle.ados_transfer.specs.declared.decision.Decision.TheVariants.{Bring, Conflict}
+use Rattle.ados_transfer.specs.declared.here.Here.{Here}
+use Rattle.ados_transfer.specs.declared.here.Here.TheVariants.{File as AFile}
+use Rattle.ados_transfer.specs.declared.stamps.Stamp.{Stamp}
 use Rattle.ados_transfer.specs.declared.records.Record.{Record}
 use Rattle.ados_transfer.specs.declared.records.Last.{Last}
 use Rattle.ados_transfer.specs.declared.records.Last.TheVariants.{Directory, File, StandIn}
 use Rattle.ados_share.specs.Records.{has_key}
 use Rattle.ados_transfer.specs.Decisions.{is_same_stamp}
 use Rattle.ados_transfer.specs.Folders.{hides}
+use Rattle.ados_transfer.specs.Stamps.{is_same_file}
 use Rattle.ados_transfer.specs.StandIns.{is_stand_in_of}
 
 -- the stand-in that has this comment is there
@@ -38,6 +44,25 @@ is_of_kind Directory Folder = true
 is_of_kind (File bytes) (AnyFile is_executable) = true
 is_of_kind (StandIn comment) (AnyFile is_executable) = true
 is_of_kind _ _ = false
+
+-- another file is there than one that had a stamp, whatever their bytes are
+abbrev pub is_another : Last → Stamp → Here → Bool
+is_another (File bytes) stamp (AFile found own rights) = not (is_same_file stamp own)
+is_another _ stamp _ = false
+
+-- another program made the file of a record anew, or wrote to it
+abbrev pub is_made_anew : Record → Here → Bool
+is_made_anew object here = is_another object.last object.stamp here
+
+abbrev pub has_made_anew : Option Record → Here → Bool
+has_made_anew None here = false
+has_made_anew (Some object) here = is_made_anew object here
+
+-- by this decision what this machine has comes in
+abbrev pub comes_in : Decision → Bool
+comes_in Bring = true
+comes_in Conflict = true
+comes_in other = false
 
 -- it is neither a file nor a folder
 abbrev pub is_foreign : Kind → Bool

@@ -6,9 +6,9 @@ ghost use Rattle.std.specs.Option.{option_map, is_some};
 ghost use Rattle.ados_share.specs.Account.{contents_of, first_path, is_in_unwritten, path_left_out, paths_of, with_bytes_of, with_fresh, with_path_of};
 ghost use Rattle.ados_transfer.specs.Within.{is_substring};
 
+use crate::failures::with_more;
 use crate::left_out::{LeftOut, Reason};
 use crate::moves::Destination;
-use crate::reports::with_more;
 use crate::syncs::NamedFile;
 use ados_ram::{Body, Entry, FileBytes};
 use ados_text::NoMemory;

@@ -1,6 +1,7 @@
 //! What is planned for one object of the folder of a share.
-ghost use Rattle.std.specs.Prelude.{◌≡◌};
-ghost use Rattle.ados_share.specs.Changes.{is_of_kind};
+ghost use Rattle.std.specs.Prelude.{◌≡◌, true};
+ghost use Rattle.std.specs.Option.{is_none, option_copied};
+ghost use Rattle.ados_share.specs.Changes.{comes_in, has_made_anew, is_made_anew, is_of_kind};
 
 use crate::arrival_plan::ArrivalPlan;
 use crate::arrivals::{Arrival, Coming};
@@ -138,7 +139,7 @@ impl Mirror {
         if record.is_some_and(|record| record.place != place && is_replaced(record, &here)) {
             self.reports.report_replaced(seen.path.as_str())?;
         }
-        match here.decision(record, entry) {
+        match self.decision_for(key, record, &here, entry) {
             Decision::Keep => return self.keep_alike(plan, key, seen, &here, entry),
             Decision::Write => return self.keep_stamp(plan, key, seen, &here),
             Decision::Conflict => {
@@ -150,6 +151,29 @@ impl Mirror {
         }
         self.release(rt, key, seen.path.as_str(), &place)?;
         plan.add_object(self, key, seen, here, &place)
+    }
+
+    // What is done with an object that may have changed. A file that another program made anew, where the Shell has none any longer, comes in,
+    // whatever its bytes are. If the Shell's deletion of the old one waited, or was refused, both agree that the old one is gone.
+    fn decision_for(
+        &self,
+        key: &str,
+        record: Option<&Record>,
+        here: &Here,
+        entry: Option<&Entry>,
+    ) -> Decision
+        ensures anew { is_none entry.entry ≡ true → has_made_anew (option_copied record.entry) here.now ≡ true → comes_in result ≡ true }
+    {
+        match record {
+            Some(record) if entry.is_none() && is_made_anew(record, here) => {
+                if self.waiting.has(key) || self.reports.is_failing(key) {
+                    Decision::Bring
+                } else {
+                    Decision::Conflict
+                }
+            }
+            _ => here.decision(record, entry),
+        }
     }
 
     // Keeps the path and the stamp of an object in whose place the Shell's is to be written.
@@ -203,6 +227,16 @@ fn is_of_kind(record: &Record, kind: Kind) -> bool
     match (&record.last, kind) {
         (Last::Directory, Kind::Directory) => true,
         (Last::File(_) | Last::StandIn(_), Kind::File { .. }) => true,
+        _ => false,
+    }
+}
+
+/// Another file is there than that of a record, whatever its bytes are: another program made it, or wrote to it.
+pub fn is_made_anew(record: &Record, here: &Here) -> bool
+    ensures { result ≡ is_made_anew «record».now here.now }
+{
+    match (&record.last, here) {
+        (Last::File(_), Here::File { stamp, .. }) => !record.stamp.is_same_file(stamp),
         _ => false,
     }
 }

@@ -78,6 +78,7 @@ impl Mirror {
     fn end_update(&mut self, files: &Ram, account: &mut Account) -> Result<(), TransferFault> {
         if account.moment == Moment::End {
             self.report_waiting(files)?;
+            self.report_beside(files)?;
         }
         self.bar_copies(files, account)?;
         if let Some(path) = self.reports.taken() {

@@ -72,3 +72,11 @@ impl Failures {
         with_reason(self.alloc, text.as_str(), self.kind)
     }
 }
+
+/// A line that names the first of several objects, and tells how many more there are.
+pub fn with_more(alloc: Global, line: String, more: usize) -> Result<String, TransferFault> {
+    match more {
+        0 => Ok(line),
+        more => Ok(format!(in alloc; "{line} and {more} more")?),
+    }
+}

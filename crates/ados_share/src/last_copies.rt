@@ -5,9 +5,9 @@ ghost use Rattle.std.specs.BTreeMap.{get_by_text};
 ghost use Rattle.ados_share.specs.Contents.{if_file_of, is_file_of};
 
 use crate::departure::{Departure, Departures};
+use crate::failures::with_more;
 use crate::mirror::Mirror;
 use crate::moves::{Destination, Elsewhere};
-use crate::reports::with_more;
 use ados_ram::{FileBytes, Place, Ram};
 use ados_transfer::{
     Here, Last, Record, Records, Rights, TransferFault, Volumes, is_descendant, is_one_name,
@@ -47,6 +47,11 @@ impl Waiting {
     /// Nothing waits.
     pub fn is_empty(&self) -> bool {
         self.by_key.is_empty()
+    }
+
+    /// The object with this key waits.
+    pub fn has(&self, key: &str) -> bool {
+        self.by_key.contains_key(key)
     }
 
     /// The permissions of a file that waits.

@@ -1,10 +1,13 @@
 //! How an object of the folder of a share that is gone in the Shell's files, or of another kind there, is deleted.
-ghost use Rattle.std.specs.Prelude.{◌≡◌, None, OnOk, true, false, string_bytes};
+ghost use Rattle.std.specs.Prelude.{◌≡◌, None, IfOk, OnOk, true, false, string_bytes};
+ghost use Rattle.std.specs.BTreeMap.{get_by_text};
 ghost use Rattle.std.specs.Option.{option_map};
 ghost use Rattle.ados_share.specs.Account.{first_path, is_end};
+ghost use Rattle.ados_share.specs.Changes.{has_made_anew};
 ghost use Rattle.ados_share.specs.Records.{Sets};
 
 use crate::account::{Account, Moment};
+use crate::changes::is_made_anew;
 use crate::departure::{Departure, remove};
 use crate::mirror::Mirror;
 use ados_ram::Ram;
@@ -45,7 +48,7 @@ impl Mirror {
         }
     }
 
-    // What is done with an object that was looked at. One that is not known is left.
+    // What is done with an object that was looked at. One that is not known is left, and a file stays that another program made anew.
     fn removal<R: AllocGlobal + Files>(
         &mut self,
         rt: &R,
@@ -53,7 +56,16 @@ impl Mirror {
         departure: &Departure<'_>,
         here: &Here,
         account: &mut Account,
-    ) -> Result<Removal, TransferFault> {
+    ) -> Result<Removal, TransferFault>
+        ensures anew { IfOk result (λ removal. has_made_anew (get_by_text self.old.records key.now) here.now ≡ true → removal ≡ Removal.Conflict) }
+    {
+        if self
+            .records
+            .get(key)
+            .is_some_and(|record| is_made_anew(record, here))
+        {
+            return Ok(Removal::Conflict);
+        }
         let object = (key, departure.path.as_str());
         let is_last_copy = self.is_last_copy(rt, key, departure)?
             && !self.is_backed_up(rt, object, departure, here, account)?;

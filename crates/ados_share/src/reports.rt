@@ -32,8 +32,8 @@ pub struct Reports {
     unread_before: BTreeSet<String>,
     // The Shell's files had no place for an object.
     is_full: bool,
-    // Another program deleted a large file that the script had renamed, wrote another in its place, or took its new name, before it had
-    // that: nothing undoes it.
+    // Nothing undoes it: another program deleted a large file that the script had renamed, wrote another in its place, or took its new name,
+    // before it had that; or the script made something above the top of a disk.
     is_spoilt: bool,
     // The first new name that was taken so.
     taken: Option<String>,
@@ -179,6 +179,17 @@ impl Reports {
         Ok(())
     }
 
+    /// Reports that the script made an object outside of a device, above its top: this machine does not get it.
+    pub fn report_beside(&mut self, device: &str, path: &str) -> Result<(), TransferFault>
+        ensures spoilt { OnOk result (self.new.is_spoilt ≡ true) }
+    {
+        self.report_line(format!(in self.alloc;
+            "outside of {device}:, and gone at the end: {path}"
+        )?)?;
+        self.is_spoilt = true;
+        Ok(())
+    }
+
     /// The first new name that was taken so.
     pub fn taken(&self) -> Option<&str>
         ensures { is_none result ≡ is_none self.now.taken }
@@ -285,13 +296,5 @@ impl Reports {
             return Ok(());
         }
         self.report("cannot read", path)
-    }
-}
-
-/// A line that names the first of several objects, and tells how many more there are.
-pub fn with_more(alloc: Global, line: String, more: usize) -> Result<String, TransferFault> {
-    match more {
-        0 => Ok(line),
-        more => Ok(format!(in alloc; "{line} and {more} more")?),
     }
 }

@@ -2,8 +2,8 @@
 
 use crate::account::Account;
 use crate::backups::Backup;
+use crate::failures::with_more;
 use crate::mirror::Mirror;
-use crate::reports::with_more;
 use crate::syncs::write_synced;
 use ados_transfer::{Below, Look, Obstacle, TransferFault, no_memory, path_of};
 use std::rt::Files;

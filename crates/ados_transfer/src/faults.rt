@@ -42,6 +42,9 @@ pub enum TransferFault {
     /// The directory of a share is a file, or files are in it at the beginning.
     #[error("no empty directory for the share: {0}")]
     NoPlace(String),
+    /// This device, which the Shell has, does not lead to an empty directory.
+    #[error("the Shell has its own {0}: share another device, and assign that")]
+    OwnDevice(String),
     /// The folder of this name that is to be shared cannot be opened.
     #[error("cannot read {0}")]
     FolderUnread(String),

@@ -21,15 +21,20 @@ use std::rt::Files;
 // The directory of a folder for which none is named.
 const DIRECTORY: &str = "RAM:Work";
 
+// The directory of a device stands alone in one of this name and a number.
+const ABOVE: &str = "share";
+
 // The device of the console, which no directory may have.
 const CONSOLE: &str = "CON";
 
 /// The volumes for the words of each `--share`, as `FOLDER` or `FOLDER=PATH`. PATH is a directory of the Shell's files, or the name of
-/// a device that they do not have yet, as `Work:`, which then leads to RAM:Work; it defaults to RAM:Work. The folders stay open.
+/// a device that they do not have yet, as `Work:`, which leads to a directory that stands alone in another; it defaults to RAM:Work. The
+/// folders stay open.
 ///
-/// `CannotRead` if a FOLDER is not a folder, `FolderUnread` if it can't be opened; `BadName` if PATH does not name a directory, or names the root; `NoPlace` if in these
-/// files it is one of a file or of a directory that is not empty, or is that of the script; `FoldersMeet` and `DirectoriesMeet` if
-/// two folders, or two directories, are the same or one is in the other.
+/// `CannotRead` if a FOLDER is not a folder, `FolderUnread` if it can't be opened; `BadName` if PATH does not name a directory; `OwnDevice` if
+/// it is a device that the Shell has, which leads to the root or to a directory that is not empty; `NoPlace` if in these files it is one of a
+/// file or of a directory that is not empty, or is that of the script; `FoldersMeet` and `DirectoriesMeet` if two folders, or two directories
+/// or devices, are the same or one is in the other.
 pub fn volumes_of<R: AllocGlobal + Files>(
     rt: &R,
     words: &[&str],
@@ -39,7 +44,7 @@ pub fn volumes_of<R: AllocGlobal + Files>(
     let alloc = rt.alloc();
     let mut all: Vec<Volume> = Vec::new(alloc);
     for (number, one) in words.iter().enumerate() {
-        let mut volume = volume_of(rt, one, files, assigns)?;
+        let mut volume = volume_of(rt, one, number.saturating_add(1), files, assigns)?;
         if words.len() == 1 {
             volume.prefix = String::new(alloc);
         } else {
@@ -53,10 +58,11 @@ pub fn volumes_of<R: AllocGlobal + Files>(
     Volumes::new(alloc, all)
 }
 
-// The volume for the words of one `--share`, without a label.
+// The volume for the words of the `--share` of this number, without a label.
 fn volume_of<R: AllocGlobal + Files>(
     rt: &R,
     words: &str,
+    number: usize,
     files: &Ram,
     assigns: &Assigns,
 ) -> Result<Volume, TransferFault> {
@@ -66,14 +72,11 @@ fn volume_of<R: AllocGlobal + Files>(
     let directory = directory.unwrap_or(DIRECTORY);
     let device = device_of(alloc, directory, assigns)?;
     let place = match &device {
-        Some(name) => Place::root(alloc).with(name.copy()?)?,
+        Some(name) => device_place(alloc, number, name)?,
         None => place_in(alloc, directory)?,
     };
-    if place.names().is_empty() {
-        return Err(named(alloc, directory, TransferFault::BadName));
-    }
-    if !is_free(alloc, files, &place)? {
-        return Err(named(alloc, directory, TransferFault::NoPlace));
+    if place.names().is_empty() || !is_free(alloc, files, &place)? {
+        return Err(not_free(alloc, directory));
     }
     let Ok(open) = OpenFolder::new(rt, folder.as_str()) else {
         return Err(named(alloc, path, TransferFault::FolderUnread));
@@ -90,6 +93,23 @@ fn volume_of<R: AllocGlobal + Files>(
         place,
         device,
     })
+}
+
+// The directory of a device, for the `--share` of this number. It stands alone in another one, so that a path which leads above the top of
+// a disk leads to no other disk.
+fn device_place(alloc: Global, number: usize, device: &Name) -> Result<Place, TransferFault> {
+    let above = format!(in alloc; "{ABOVE}{number}")?;
+    let above = Name::from_bytes(alloc, above.as_bytes())?;
+    Ok(Place::root(alloc).with(above)?.with(device.copy()?)?)
+}
+
+// The fault of a directory that can't be that of a share.
+fn not_free(alloc: Global, directory: &str) -> TransferFault {
+    if directory.ends_with(':') {
+        named(alloc, directory, TransferFault::OwnDevice)
+    } else {
+        named(alloc, directory, TransferFault::NoPlace)
+    }
 }
 
 // The whole path of a folder, in which no name is that of a link.
@@ -132,12 +152,24 @@ fn check_apart<R: AllocGlobal + Files>(
         let (one, other) = (one.folder.clone()?, other.folder.clone()?);
         return Err(TransferFault::FoldersMeet(one, other));
     }
+    if have_one_device(one, other) {
+        let (one, other) = (one.prefix.clone()?, other.prefix.clone()?);
+        return Err(TransferFault::DirectoriesMeet(one, other));
+    }
     if one.has(&other.place) || other.has(&one.place) {
         let one = shell_path(alloc, &one.place)?;
         let other = shell_path(alloc, &other.place)?;
         return Err(TransferFault::DirectoriesMeet(one, other));
     }
     Ok(())
+}
+
+// Both have a device, and it is the same.
+fn have_one_device(one: &Volume, other: &Volume) -> bool {
+    match (&one.device, &other.device) {
+        (Some(one), Some(other)) => one == other,
+        _ => false,
+    }
 }
 
 // The folder of a volume, or one above it, is that of another volume, by whatever path (`mount --bind`).

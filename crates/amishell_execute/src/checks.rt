@@ -104,7 +104,7 @@ impl<'a> Checks<'a> {
     /// Before an event, while checks are due: if a shell is to take the first line of a script, all lines of that script are checked,
     /// with its arguments in them.
     ///
-    /// `NotRun` if one of them must not be run as it is; with `--lenient` they are only reported, once for each script.
+    /// `NotRun` if one of them must not be run as it is, `NothingRun` if that is the script of the command line; with `--lenient` they are only reported, once for each script.
     pub fn attend<R: AllocGlobal + Eprint>(
         &mut self,
         rt: &R,
@@ -155,10 +155,14 @@ impl<'a> Checks<'a> {
         }
         let shown = self.origins.name(name)?;
         if report_all(rt, shown.as_str(), &found, is_new)? && !self.is_lenient {
-            let is_struck = *name == self.script
-                && strike_mends(alloc, world.dialect(), &found, &bytes)?;
+            let is_first = *name == self.script;
+            let is_struck = is_first && strike_mends(alloc, world.dialect(), &found, &bytes)?;
             let refusal = format!(in alloc; "{shown} {}", refusal_of(is_struck))?;
-            return Err(Fault::NotRun(refusal));
+            return Err(if is_first {
+                Fault::NothingRun(refusal)
+            } else {
+                Fault::NotRun(refusal)
+            });
         }
         Ok(())
     }

@@ -65,6 +65,9 @@ pub enum Fault {
     /// Lines of a script must not be run as they are; its name, and how it is run all the same.
     #[error("{0}")]
     NotRun(String),
+    /// The same of the script of the command line: nothing ran.
+    #[error("{0}")]
+    NothingRun(String),
     /// There was no memory.
     #[error("out of memory")]
     Memory,
@@ -91,7 +94,8 @@ impl Drop for Fault {
             | Fault::HostWords(_text)
             | Fault::NotInPath(_text)
             | Fault::Unanswered(_text)
-            | Fault::NotRun(_text) => {}
+            | Fault::NotRun(_text)
+            | Fault::NothingRun(_text) => {}
             Fault::CannotRead(_unread) | Fault::ScriptUnread(_unread) => {}
             Fault::HostLine {
                 file: _file,

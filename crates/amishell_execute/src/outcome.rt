@@ -53,21 +53,22 @@ impl Outcome {
 }
 
 /// Brings the shared folders up to date, if there are any, and takes what is asked for: even if they could not be brought up to date, but
-/// not if they did not come in.
+/// not if they did not come in, or if nothing ran (`has_begun`).
 pub fn hand_out<R: AllocGlobal + Files + Eprint + Clone + Drop + Clock>(
     rt: &R,
     options: &Options<'_>,
     world: &World,
     share: Option<&mut Share>,
+    has_begun: bool,
 ) -> Result<Outcome, Fault> {
     let Some(share) = share else {
         return Ok(Outcome {
             is_alike: true,
-            is_taken: take_all(rt, options, world),
+            is_taken: has_begun && take_all(rt, options, world),
         });
     };
     let closed = share.close(rt, world);
-    let is_taken = share.is_filled() && take_all(rt, options, world);
+    let is_taken = has_begun && share.is_filled() && take_all(rt, options, world);
     Ok(Outcome {
         is_alike: closed?,
         is_taken,

@@ -38,7 +38,9 @@ pub fn status_after<R: AllocGlobal + Eprint>(
         }
         Err(fault) => {
             let status = fault.status();
-            if matches!(status, Status::Limit) || matches!(fault, Fault::NotRun(..)) {
+            if matches!(status, Status::Limit)
+                || matches!(fault, Fault::NotRun(..) | Fault::NothingRun(..))
+            {
                 tell_stop(rt, options, world, origins, fault)?;
                 Ok(status)
             } else {

@@ -69,15 +69,15 @@ impl<'a> Given<'a> {
         }
     }
 
-    /// Whether lines that must not be run as they are run all the same: `--strict` of the command line undoes `--lenient` of the file.
+    /// Whether lines that must not be run as they are run all the same: `--strict` of the command line undoes `--lenient`, wherever that is.
     pub fn is_lenient(&self) -> bool
-        ensures typed { IsFlagOf (found_of self.now.typed) (codes "lenient") → result ≡ true }
+        ensures typed { IsFlagOf (found_of self.now.typed) (codes "lenient") → IsLeftOutOf (found_of self.now.typed) (codes "strict") → result ≡ true }
         ensures file { IsFlagOf (found_of self.now.file) (codes "lenient") → IsLeftOutOf (found_of self.now.typed) (codes "strict") → result ≡ true }
-        ensures strict { IsLeftOutOf (found_of self.now.typed) (codes "lenient") → IsFlagOf (found_of self.now.typed) (codes "strict") → result ≡ false }
+        ensures strict { IsFlagOf (found_of self.now.typed) (codes "strict") → result ≡ false }
         ensures neither { IsLeftOutOf (found_of self.now.typed) (codes "lenient") → IsLeftOutOf (found_of self.now.file) (codes "lenient") → result ≡ false }
     {
-        has_flag(&self.typed, "lenient")
-            || has_flag(&self.file, "lenient") && !has_flag(&self.typed, "strict")
+        !has_flag(&self.typed, "strict")
+            && (has_flag(&self.typed, "lenient") || has_flag(&self.file, "lenient"))
     }
 }
 
