@@ -178,7 +178,7 @@ fn run_script<
     };
     let traced = options.trace.then_some(&origins);
     let ended = play_watched(rt, world, script, share.as_mut(), traced);
-    let has_begun = !matches!(ended, Err(Fault::NothingRun(_)));
+    let has_begun = !matches!(ended, Err(Fault::NothingRun(..)));
     let outcome = hand_out(rt, options, world, share.as_mut(), has_begun)?;
     let code = ended.as_ref().ok().map(|end| end.code);
     let status = settle(rt, status_after(rt, options, world, &origins, ended));
