@@ -192,8 +192,8 @@ impl<'a> Called<'a> {
     }
 }
 
-// A place that was looked up, if there is one.
-fn found_place(found: Lookup<Place>) -> Result<Option<Place>, NoMemory> {
+/// A place that was looked up, if there is one.
+pub fn found_place(found: Lookup<Place>) -> Result<Option<Place>, NoMemory> {
     match found {
         Ok(place) => Ok(Some(place)),
         Err(Refusal::NoMemory) => Err(NoMemory),

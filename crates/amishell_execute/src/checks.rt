@@ -2,13 +2,14 @@
 ghost use Rattle.std.specs.Prelude.{◌≡◌, None, IfErr};
 ghost use Rattle.amishell_execute.specs.Playing.{drive_fault_of};
 
+use crate::callees::refused_callee;
 use crate::faults::{Fault, report, unread_script};
 use crate::origins::Origins;
+use crate::refusals::{refusal_of, strike_mends};
 use ados_check::{Finding, bad_directive, check, mark, mark_printed, merge_returns, strike};
 use ados_flow::{Frame, FrameKind};
 use ados_launch::Next;
 use ados_ram::Place;
-use ados_resident::Dialect;
 use ados_shell::Shell;
 use ados_text::{Name, NoMemory, Text, lines_of};
 use ados_trace::ScriptNames;
@@ -118,7 +119,10 @@ impl<'a> Checks<'a> {
         };
         self.begun.retain(|begun| *begun != number);
         match begun_script(world, number) {
-            Some((shell, frame)) => self.check_frame(rt, world, shell, frame),
+            Some((shell, frame)) => {
+                self.check_frame(rt, world, shell, frame)?;
+                self.check_callees(rt, world, shell, frame)
+            }
             None => Ok(()),
         }
     }
@@ -155,16 +159,48 @@ impl<'a> Checks<'a> {
         }
         let shown = self.origins.name(name)?;
         if report_all(rt, shown.as_str(), &found, is_new)? && !self.is_lenient {
-            let is_first = *name == self.script;
-            let is_struck = is_first && strike_mends(alloc, world.dialect(), &found, &bytes)?;
+            let is_struck = *name == self.script
+                && strike_mends(alloc, world.dialect(), &found, &bytes)?;
             let refusal = format!(in alloc; "{shown} {}", refusal_of(is_struck))?;
-            return Err(if is_first {
-                Fault::NothingRun(refusal)
-            } else {
-                Fault::NotRun(refusal)
-            });
+            return Err(self.refused(name, refusal));
         }
         Ok(())
+    }
+
+    // Checks the scripts that those lines call by name, and that would not begin.
+    fn check_callees<R: AllocGlobal + Eprint>(
+        &self,
+        rt: &R,
+        world: &World,
+        shell: &Shell,
+        frame: &Frame,
+    ) -> Result<(), Fault>
+        ensures { IfErr result (λ why. drive_fault_of why ≡ None) }
+    {
+        let FrameKind::Script { name, .. } = frame.kind() else {
+            return Ok(());
+        };
+        if self.is_lenient {
+            return Ok(());
+        }
+        let Some(callee) = refused_callee(rt.alloc(), world, shell, frame.further())? else {
+            return Ok(());
+        };
+        let shown = self.origins.name(&callee.name)?;
+        let _ = report_all(rt, shown.as_str(), &callee.found, true)?;
+        let refusal = format!(in rt.alloc(); "{shown} {}", refusal_of(false))?;
+        Err(self.refused(name, refusal))
+    }
+
+    // The fault of a script that is not run, or that calls one which must not be.
+    fn refused(&self, name: &Text, refusal: String) -> Fault
+        ensures { drive_fault_of result ≡ None }
+    {
+        if *name == self.script {
+            Fault::NothingRun(refusal)
+        } else {
+            Fault::NotRun(refusal)
+        }
     }
 
     // Problems of this script were not reported yet; from now on they were.
@@ -175,54 +211,6 @@ impl<'a> Checks<'a> {
         self.reported.push(name.copy()?)?;
         Ok(true)
     }
-}
-
-/// What is said of a script that is not run, and how it is run all the same; `--strike` does it too if that mends it.
-pub fn refusal_of(is_struck: bool) -> &'static str {
-    if is_struck {
-        "is not run (--strike or --lenient runs it)"
-    } else {
-        "is not run (--lenient runs it)"
-    }
-}
-
-/// With `--strike` the script of the command line in which this was found is run.
-pub fn is_struck(found: &[Finding]) -> bool {
-    found
-        .iter()
-        .all(|one| one.problem.is_idle() || !one.problem.is_refused())
-}
-
-// All that is found in the lines of the script of the command line, which has these bytes, is found in its file too, and `--strike`
-// takes that out: no argument and no alias has a part in it.
-fn strike_mends(
-    alloc: Global,
-    dialect: Dialect,
-    found: &[Finding],
-    bytes: &[u8],
-) -> Result<bool, NoMemory> {
-    let lines = lines_of(alloc, bytes)?;
-    let written = check(
-        alloc,
-        dialect,
-        &Aliases::new(alloc),
-        lines.as_slice(),
-        bytes,
-    )?;
-    if found.len() != written.len() {
-        return Ok(false);
-    }
-    for (place, one) in found.iter().enumerate() {
-        if !is_same_finding(alloc, one, &written[place])? {
-            return Ok(false);
-        }
-    }
-    Ok(is_struck(found))
-}
-
-// They say the same of the same line.
-fn is_same_finding(alloc: Global, one: &Finding, other: &Finding) -> Result<bool, NoMemory> {
-    Ok(format!(in alloc; "{one}")? == format!(in alloc; "{other}")?)
 }
 
 // The script of a shell whose first line is taken next, and the shell.

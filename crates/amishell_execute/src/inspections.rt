@@ -1,8 +1,8 @@
 //! `--check`: scripts are looked at, and those that they call, and nothing runs.
 
 use crate::called::{Called, Found, called_bytes};
-use crate::checks::{is_struck, refusal_of};
 use crate::faults::{Fault, unread_script};
+use crate::refusals::{is_struck, refusal_of};
 use crate::status::Status;
 use ados_check::{
     Finding, Problem, inspect, mark, mark_printed, may_make_alias, merge_returns, strike,
