@@ -23,7 +23,7 @@ SCRIPTS = [
     ("a directory goes to the other, and a file of it is in its place", TREE, ["Rename Work:d Backup:d", "Rename Backup:k Work:d"]),
     ("a file goes to the other, and a directory is in its place", TREE, ["Rename Backup:k Work:k", "Rename Work:d Backup:k"]),
     ("the directories of both change places", TREE,
-     ["CD RAM:", "Assign Work:", "Assign Backup:", "Rename RAM:Work RAM:z", "Rename RAM:Backup RAM:Work", "Rename RAM:z RAM:Backup"]),
+     ["CD RAM:", "Assign Work:", "Assign Backup:", "Rename RAM:share1/Work RAM:z", "Rename RAM:share2/Backup RAM:share1/Work", "Rename RAM:z RAM:share2/Backup"]),
     ("two large files change places", LARGE, ["Rename Work:big Work:z", "Rename Backup:big Work:big", "Rename Work:z Backup:big"]),
     ("a large file and a small one change places", LARGE, ["Rename Work:big Work:z", "Rename Backup:old Work:big", "Rename Work:z Backup:old"]),
 ]

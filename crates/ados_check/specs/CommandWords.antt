@@ -1,5 +1,6 @@
 -- The word of a line that is its command, and the name of the command that it stands for.
-use Rattle.std.specs.Prelude.{ℕ, zero, suc, ◌-◌, ◌==◌, List, [], ◌∷◌, Option, Some, None, codes, length, map, slice_index, take, if◌then◌else◌}
+use Rattle.std.specs.Prelude.{ℕ, zero, suc, ◌-◌, ◌==◌, ◌||◌, List, [], ◌∷◌, Bool, Option, Some, None, codes, drop, length, map, not, slice_index, take, if◌then◌else◌}
+use Rattle.std.specs.List.{suffix_len}
 use Rattle.ados_text.specs.Text.{Bytes, Text, is_same, to_ascii}
 use Rattle.ados_items.specs.Items.{bytes_between}
 use Rattle.ados_items.specs.Parts.{first_word, trimmed_text}
@@ -23,12 +24,24 @@ unquoted word = without_last (without_first word)
 abbrev pub name_in : Bytes → Bytes
 name_in word = name_in_c (unquoted word)
 
+-- neither `:` nor `/`
+abbrev pub is_name_byte : ℕ → Bool
+is_name_byte c = not (c == 58 || c == 47)
+
+-- what follows the last `:` or `/` of a path
+abbrev pub after_path : Bytes → Bytes
+after_path path = drop (length path - suffix_len is_name_byte path) path
+
+-- the name of a command, as a word has it: there may be quotes, and any path before it
+abbrev pub last_name : Bytes → Bytes
+last_name word = after_path (unquoted word)
+
 -- that of the first word of an alias's text, or otherwise of the word itself
 abbrev pub name_by : Bytes → Option Text → Bytes
-name_by word None = name_in word
-name_by word (Some text) = name_in (first_word (trimmed_text text))
+name_by word None = last_name word
+name_by word (Some text) = last_name (first_word (trimmed_text text))
 
--- the name of the command for which a word of a line stands
+-- the name of the command for which a word of a line stands, whatever path it has
 abbrev pub command_name : Pairs → Bytes → Word → Bytes
 command_name aliases line word = let written = bytes_between line word.from word.to in name_by written (value_in aliases (map to_ascii written))
 

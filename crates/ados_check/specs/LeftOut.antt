@@ -5,6 +5,7 @@ use Rattle.std.specs.Option.{option_map}
 use Rattle.std.specs.List.{list_all, list_any}
 use Rattle.ados_text.specs.Lines.{lines_of}
 use Rattle.ados_text.specs.Text.{Bytes, Text}
+use Rattle.ados_flow.specs.Gathering.{without_plus}
 use Rattle.ados_items.specs.Items.{bytes_between}
 use Rattle.ados_line.specs.Comment.{without_comment}
 use Rattle.ados_resident.specs.declared.dialects.Dialect.{Dialect}
@@ -67,14 +68,18 @@ part_of from (one ∷ more) = (from, one ∷ more) ∷ []
 abbrev pub ticked_part : List Command → Dialect → Pairs → Bytes → Ticked → List (ℕ × List Given)
 ticked_part commands dialect aliases line text = part_of text.from (given_in commands dialect aliases (bytes_between line text.from text.to))
 
--- those of a line without its comment: of the texts between back-ticks, and of the line around them
+-- what is looked at of a line: all but its comment, and but the `+` at the end of that by which a Run takes the next line
+abbrev pub command_text : Bytes → Bytes
+command_text line = without_plus (without_comment line)
+
+-- those of what is looked at of a line: of the texts between back-ticks, and of the line around them
 abbrev pub left_out_around : List Command → Dialect → Pairs → Bytes → List (ℕ × List Given)
 left_out_around commands dialect aliases line =
     flat_map (ticked_part commands dialect aliases line) (texts_in_ticks line) ++ part_of 0 (given_in commands dialect aliases (around line))
 
 -- the options that are left out and that the commands of a line are given, each with the place at which the command's text begins
 abbrev pub left_out_in : List Command → Dialect → Pairs → Bytes → List (ℕ × List Given)
-left_out_in commands dialect aliases line = left_out_around commands dialect aliases (without_comment line)
+left_out_in commands dialect aliases line = left_out_around commands dialect aliases (command_text line)
 
 abbrev pub has_any : {A : Type 0} → List A → Bool
 has_any [] = false

@@ -1,5 +1,5 @@
 -- The options of Release 2: which of them a word names, and whether the Shell leaves it out.
-use Rattle.std.specs.Prelude.{List, [], ◌∷◌, Bool, Option, Some, None, is_some, if◌then◌else◌}
+use Rattle.std.specs.Prelude.{◌&&◌, List, [], ◌∷◌, Bool, Option, Some, None, is_some, not, if◌then◌else◌}
 use Rattle.std.specs.Borrow.{Bor}
 use Rattle.std.specs.List.{find, list_any}
 use Rattle.std.specs.Option.{option_map, option_or}
@@ -50,9 +50,14 @@ kept_by Nothing = None
 kept_by Word = Some Kept
 kept_by Number = Some Kept
 
--- the Shell has the option of a command in a dialect
+-- the option of a command with this name is not implemented
+abbrev pub is_unimplemented : Command → Bytes → Bool
+is_unimplemented command name = is_some (first_named text_of name command.unimplemented.now)
+
+-- the Shell has the option of a command in a dialect, and implements it
 abbrev pub is_kept : Dialect → Command → Omission → Bool
-is_kept dialect command option = list_any (has_name option.name.now) (options_of (template_of dialect command.builtin))
+is_kept dialect command option =
+    list_any (has_name option.name.now) (options_of (template_of dialect command.builtin)) && not (is_unimplemented command option.name.now)
 
 abbrev pub naming_by : (Omission → Bool) → Option Omission → Option Naming
 naming_by kept None = None

@@ -8,7 +8,7 @@ use Rattle.ados_resident.specs.declared.commands.EnvCommand.TheVariants as env
 use Rattle.ados_resident.specs.declared.commands.FilesCommand.TheVariants as files
 use Rattle.ados_check.specs.declared.release_two.Command.{Command}
 
--- a command: its options that take nothing, a word, or a number; and those of them that have no effect which matters here
+-- a command: its options that take nothing, a word, or a number; those of them that have no effect which matters here; and those that are not implemented
 pub record Row : Type 0 where
   pub name : Bytes
   pub builtin : Builtin
@@ -16,6 +16,7 @@ pub record Row : Type 0 where
   pub values : List Bytes
   pub numbers : List Bytes
   pub idle : List Bytes
+  pub unimplemented : List Bytes
 
 abbrev pub release_two : List Row
 release_two =
@@ -26,6 +27,7 @@ release_two =
       values = codes "NAME" ∷ codes "TARGET" ∷ [];
       numbers = [];
       idle = [];
+      unimplemented = codes "DISMOUNT" ∷ [];
     } ∷
     record {
       name = codes "Break";
@@ -34,6 +36,7 @@ release_two =
       values = codes "PROCESS" ∷ [];
       numbers = [];
       idle = [];
+      unimplemented = [];
     } ∷
     record {
       name = codes "Copy";
@@ -42,6 +45,7 @@ release_two =
       values = codes "FROM" ∷ codes "TO" ∷ [];
       numbers = codes "BUF" ∷ codes "BUFFER" ∷ [];
       idle = codes "CLONE" ∷ codes "DATES" ∷ codes "NOREQ" ∷ codes "BUF" ∷ codes "BUFFER" ∷ [];
+      unimplemented = [];
     } ∷
     record {
       name = codes "Delete";
@@ -50,6 +54,7 @@ release_two =
       values = codes "FILE" ∷ [];
       numbers = [];
       idle = codes "FORCE" ∷ [];
+      unimplemented = [];
     } ∷
     record {
       name = codes "Dir";
@@ -58,6 +63,7 @@ release_two =
       values = codes "DIR" ∷ codes "OPT" ∷ [];
       numbers = [];
       idle = [];
+      unimplemented = codes "INTER" ∷ [];
     } ∷
     record {
       name = codes "Echo";
@@ -66,6 +72,7 @@ release_two =
       values = [];
       numbers = codes "FIRST" ∷ codes "LEN" ∷ [];
       idle = [];
+      unimplemented = [];
     } ∷
     record {
       name = codes "Eval";
@@ -74,6 +81,7 @@ release_two =
       values = codes "VALUE1" ∷ codes "OP" ∷ codes "VALUE2" ∷ codes "TO" ∷ codes "LFORMAT" ∷ [];
       numbers = [];
       idle = [];
+      unimplemented = [];
     } ∷
     record {
       name = codes "Filenote";
@@ -82,6 +90,7 @@ release_two =
       values = codes "FILE" ∷ codes "COMMENT" ∷ [];
       numbers = [];
       idle = codes "QUIET" ∷ [];
+      unimplemented = [];
     } ∷
     record {
       name = codes "List";
@@ -90,6 +99,7 @@ release_two =
       values = codes "DIR" ∷ codes "P" ∷ codes "PAT" ∷ codes "TO" ∷ codes "SUB" ∷ codes "SINCE" ∷ codes "UPTO" ∷ codes "LFORMAT" ∷ [];
       numbers = [];
       idle = codes "KEYS" ∷ codes "DATES" ∷ codes "NODATES" ∷ codes "BLOCK" ∷ codes "NOHEAD" ∷ [];
+      unimplemented = codes "SINCE" ∷ codes "UPTO" ∷ [];
     } ∷
     record {
       name = codes "Path";
@@ -98,6 +108,7 @@ release_two =
       values = codes "PATH" ∷ [];
       numbers = [];
       idle = codes "QUIET" ∷ [];
+      unimplemented = [];
     } ∷
     record {
       name = codes "Protect";
@@ -106,6 +117,7 @@ release_two =
       values = codes "FILE" ∷ codes "FLAGS" ∷ [];
       numbers = [];
       idle = codes "QUIET" ∷ [];
+      unimplemented = [];
     } ∷
     record {
       name = codes "Rename";
@@ -114,6 +126,7 @@ release_two =
       values = codes "FROM" ∷ codes "TO" ∷ codes "AS" ∷ [];
       numbers = [];
       idle = codes "QUIET" ∷ [];
+      unimplemented = [];
     } ∷
     record {
       name = codes "Status";
@@ -122,6 +135,7 @@ release_two =
       values = codes "PROCESS" ∷ codes "COM" ∷ codes "COMMAND" ∷ [];
       numbers = [];
       idle = [];
+      unimplemented = [];
     } ∷
     record {
       name = codes "Type";
@@ -130,6 +144,7 @@ release_two =
       values = codes "FROM" ∷ codes "TO" ∷ codes "OPT" ∷ [];
       numbers = [];
       idle = [];
+      unimplemented = [];
     } ∷
     record {
       name = codes "Which";
@@ -138,6 +153,7 @@ release_two =
       values = codes "FILE" ∷ [];
       numbers = [];
       idle = [];
+      unimplemented = [];
     } ∷ []
 
 abbrev pub texts : List (Bor Bytes) → List Bytes
@@ -145,7 +161,15 @@ texts names = map (λ (name : Bor Bytes). name.now) names
 
 abbrev pub row_of : Command → Row
 row_of command =
-    record { name = command.name.now; builtin = command.builtin; switches = texts command.switches.now; values = texts command.values.now; numbers = texts command.numbers.now; idle = texts command.idle.now }
+    record {
+      name = command.name.now;
+      builtin = command.builtin;
+      switches = texts command.switches.now;
+      values = texts command.values.now;
+      numbers = texts command.numbers.now;
+      idle = texts command.idle.now;
+      unimplemented = texts command.unimplemented.now;
+    }
 
 -- these are the commands, in order
 abbrev pub AreReleaseTwo : List Command → Type 0

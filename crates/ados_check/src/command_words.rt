@@ -1,9 +1,10 @@
 //! The word of a line that is its command, and the name of the command that it stands for.
-ghost use Rattle.std.specs.Prelude.{◌≡◌, map, IfOk};
+ghost use Rattle.std.specs.Prelude.{◌≡◌, ◌≤◌, length, map, IfOk};
+ghost use Rattle.std.specs.List.{suffix_len};
 ghost use Rattle.std.specs.Option.{option_copied};
 ghost use Rattle.ados_text.specs.Text.{to_ascii};
 ghost use Rattle.ados_vars.specs.Vars.{value_in};
-ghost use Rattle.ados_check.specs.CommandWords.{command_name, from_command, lead_after, lead_of, name_in, unquoted, without_first};
+ghost use Rattle.ados_check.specs.CommandWords.{command_name, from_command, is_name_byte, last_name, lead_after, lead_of, name_in, unquoted, without_first};
 
 use crate::arguments::Word;
 use crate::commands::name_in_c;
@@ -62,14 +63,14 @@ impl<'a> CommandWords<'a> {
         })
     }
 
-    /// The name of the command for which a word stands: the first word of its text if it is an alias.
+    /// The name of the command for which a word stands, whatever path it has: that of the first word of its text if it is an alias.
     pub fn command_name(&self, word: Word) -> Result<&'a [u8], NoMemory>
         ensures { IfOk result (λ name. name.now ≡ command_name self.now.aliases.now self.now.line.now word) }
     {
         let written = between(self.line, word.from, word.to);
         Ok(match alias_text(self.alloc, self.aliases, written)? {
-            Some(text) => name_in(first_word(trimmed(text.as_bytes()))),
-            None => name_in(written),
+            Some(text) => last_name(first_word(trimmed(text.as_bytes()))),
+            None => last_name(written),
         })
     }
 }
@@ -95,6 +96,32 @@ pub fn name_in(word: &[u8]) -> &[u8]
     ensures { result.now ≡ name_in word.now }
 {
     name_in_c(unquoted(word))
+}
+
+// The name at the end of a word, which may have quotes: what follows its last `:` or `/`.
+fn last_name(word: &[u8]) -> &[u8]
+    ensures { result.now ≡ last_name word.now }
+{
+    let path = unquoted(word);
+    &path[path.len() - last_len(path)..]
+}
+
+// How many bytes the name at the end of a path has.
+fn last_len(path: &[u8]) -> usize
+    ensures value { result ≡ suffix_len is_name_byte path.now }
+    ensures within { result ≤ length path.now }
+{
+    path.iter()
+        .rev()
+        .take_while(|byte| is_name_byte(**byte))
+        .count()
+}
+
+// The byte does not end a part of a path.
+fn is_name_byte(byte: u8) -> bool
+    ensures { result ≡ is_name_byte byte }
+{
+    byte != b':' && byte != b'/'
 }
 
 // A word without the quote before it and the one after it.

@@ -1,14 +1,16 @@
 //! The commands of a line that are given an option of Release 2 which the Shell leaves out, and so takes for a plain word.
 ghost use Rattle.std.specs.Prelude.{◌≡◌, ◌++◌, map, IfOk, IfSome, OnOk};
 ghost use Rattle.std.specs.Option.{option_map};
-ghost use Rattle.ados_check.specs.LeftOut.{IsBlanked, IsRidOfIdle, IsStruck, are_idle, given_in, given_of, is_between, is_idle_in_line, is_in_idle, left_out_in, name_in, name_of, part_of, shown};
+ghost use Rattle.ados_check.specs.LeftOut.{IsBlanked, IsRidOfIdle, IsStruck, are_idle, command_text, given_in, given_of, is_between, is_idle_in_line, is_in_idle, left_out_in, name_in, name_of, part_of, shown};
 ghost use Rattle.ados_check.specs.Table.{AreReleaseTwo};
 
 use crate::arguments::argument_words;
 use crate::command_words::CommandWords;
 use crate::phrases::{Given, Phrases};
-use crate::release_two::{Command, command_in, commands};
+use crate::release_two::{Command, command_in};
+use crate::table::commands;
 use crate::ticks::{around, texts_in_ticks};
+use ados_flow::before_plus;
 use ados_items::between;
 use ados_line::without_comment;
 use ados_resident::Dialect;
@@ -118,6 +120,17 @@ fn blank(script: &mut [u8], from: usize, to: usize)
     }
 }
 
+// A line without its comment, and then without the `+` at its end by which a Run takes the next line.
+fn command_text(line: &[u8]) -> &[u8]
+    ensures { result.now ≡ command_text line.now }
+{
+    let plain = without_comment(line);
+    match before_plus(plain) {
+        Some(front) => front,
+        None => plain,
+    }
+}
+
 impl<'a> Reader<'a> {
     /// That of a shell with these aliases in a world of a dialect.
     pub fn new(alloc: Global, dialect: Dialect, aliases: &'a Aliases) -> Reader<'a>
@@ -136,13 +149,13 @@ impl<'a> Reader<'a> {
     /// The commands of a line that are given options which the Shell leaves out: those between back-ticks, and then that of the line
     /// itself.
     ///
-    /// A line is read as it is, before its variables are put in. An alias is the first word of its text. A command after Run and one
-    /// that an alias is to stand for count like any other. What is in quotes or in a comment, the name in a redirection, and the value
-    /// of an option are not options.
+    /// A line is read as it is, before its variables are put in, and without the `+` at its end by which a Run takes the next line. An
+    /// alias is the first word of its text. A command after Run and one that an alias is to stand for count like any other. What is in
+    /// quotes or in a comment, the name in a redirection, and the value of an option are not options.
     pub fn options_left_out(&self, line: &[u8]) -> Result<Vec<LeftOut>, NoMemory>
         ensures { IfOk result (λ found. map shown found.items ≡ left_out_in self.now.commands.now self.now.dialect self.now.aliases.now line.now) }
     {
-        let plain = without_comment(line);
+        let plain = command_text(line);
         let mut found = Vec::new(self.alloc);
         let texts = texts_in_ticks(self.alloc, plain)?;
         for text in &texts {

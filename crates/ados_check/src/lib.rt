@@ -20,6 +20,7 @@ mod release_two;
 mod renames;
 mod returns;
 mod signs;
+mod table;
 mod targets;
 mod ticks;
 

@@ -1,19 +1,18 @@
-//! The options of Release 2 by the commands that have them, and which of them the Shell leaves out in a dialect: those of whose name
-//! its template has none.
-ghost use Rattle.std.specs.Prelude.{◌≡◌, false, IfOk};
+//! Which option of Release 2 a word names, and which of them the Shell leaves out in a dialect: those of whose name its template has none,
+//! and those that are not implemented.
+ghost use Rattle.std.specs.Prelude.{◌≡◌, ◌||◌, not, true, IfOk};
 ghost use Rattle.std.specs.List.{list_any};
 ghost use Rattle.std.specs.Option.{option_copied};
 ghost use Rattle.ados_text.specs.Text.{is_same};
 ghost use Rattle.ados_readargs.specs.Options.{has_name};
 ghost use Rattle.ados_readargs.specs.Template.{options_of};
 ghost use Rattle.ados_machine.specs.Commands.{template_of};
-ghost use Rattle.ados_check.specs.ReleaseTwo.{first_named, IfLeftOut, named, named_command, naming_of, omission_of};
-ghost use Rattle.ados_check.specs.Table.{AreReleaseTwo};
+ghost use Rattle.ados_check.specs.ReleaseTwo.{first_named, IfLeftOut, is_unimplemented, named, named_command, naming_of, omission_of};
 
 use crate::commands::template_in;
 use ados_machine::Builtin;
 use ados_readargs::Template;
-use ados_resident::{Dialect, EnvCommand, FilesCommand};
+use ados_resident::Dialect;
 use ados_text::NoMemory;
 use std::alloc::Global;
 
@@ -21,153 +20,18 @@ use std::alloc::Global;
 pub struct Command {
     /// Its name.
     pub name: &'static str,
-    // The command itself.
-    builtin: Builtin,
-    // Its options by their names: those that take no value,
-    switches: &'static [&'static str],
-    // those that take the word after their name,
-    values: &'static [&'static str],
-    // and those that take it if it is a number.
-    numbers: &'static [&'static str],
-    // Those of all these that have no effect which matters here.
-    idle: &'static [&'static str],
-}
-
-static COMMANDS: [Command; 15] = [
-    Command {
-        name: "Assign",
-        builtin: Builtin::Env(EnvCommand::Assign),
-        switches: &[
-            "LIST", "EXISTS", "DISMOUNT", "DEFER", "PATH", "ADD", "REMOVE", "VOLS", "DIRS",
-            "DEVICES",
-        ],
-        values: &["NAME", "TARGET"],
-        numbers: &[],
-        idle: &[],
-    },
-    Command {
-        name: "Break",
-        builtin: Builtin::Env(EnvCommand::Break),
-        switches: &["ALL", "C", "D", "E", "F"],
-        values: &["PROCESS"],
-        numbers: &[],
-        idle: &[],
-    },
-    Command {
-        name: "Copy",
-        builtin: Builtin::Files(FilesCommand::Copy),
-        switches: &[
-            "ALL", "QUIET", "CLONE", "DATES", "NOPRO", "COM", "NOREQ", "NEWER",
-        ],
-        values: &["FROM", "TO"],
-        numbers: &["BUF", "BUFFER"],
-        idle: &["CLONE", "DATES", "NOREQ", "BUF", "BUFFER"],
-    },
-    Command {
-        name: "Delete",
-        builtin: Builtin::Files(FilesCommand::Delete),
-        switches: &["ALL", "QUIET", "FORCE"],
-        values: &["FILE"],
-        numbers: &[],
-        idle: &["FORCE"],
-    },
-    Command {
-        name: "Dir",
-        builtin: Builtin::Files(FilesCommand::Dir),
-        switches: &["ALL", "DIRS", "FILES", "INTER"],
-        values: &["DIR", "OPT"],
-        numbers: &[],
-        idle: &[],
-    },
-    Command {
-        name: "Echo",
-        builtin: Builtin::Env(EnvCommand::Echo),
-        switches: &["NOLINE"],
-        values: &[],
-        numbers: &["FIRST", "LEN"],
-        idle: &[],
-    },
-    Command {
-        name: "Eval",
-        builtin: Builtin::Env(EnvCommand::Eval),
-        switches: &[],
-        values: &["VALUE1", "OP", "VALUE2", "TO", "LFORMAT"],
-        numbers: &[],
-        idle: &[],
-    },
-    Command {
-        name: "Filenote",
-        builtin: Builtin::Files(FilesCommand::Filenote),
-        switches: &["ALL", "QUIET"],
-        values: &["FILE", "COMMENT"],
-        numbers: &[],
-        idle: &["QUIET"],
-    },
-    Command {
-        name: "List",
-        builtin: Builtin::Files(FilesCommand::List),
-        switches: &[
-            "KEYS", "DATES", "NODATES", "QUICK", "BLOCK", "NOHEAD", "FILES", "DIRS", "ALL",
-        ],
-        values: &["DIR", "P", "PAT", "TO", "SUB", "SINCE", "UPTO", "LFORMAT"],
-        numbers: &[],
-        idle: &["KEYS", "DATES", "NODATES", "BLOCK", "NOHEAD"],
-    },
-    Command {
-        name: "Path",
-        builtin: Builtin::Env(EnvCommand::Path),
-        switches: &["ADD", "SHOW", "RESET", "REMOVE", "QUIET"],
-        values: &["PATH"],
-        numbers: &[],
-        idle: &["QUIET"],
-    },
-    Command {
-        name: "Protect",
-        builtin: Builtin::Files(FilesCommand::Protect),
-        switches: &["ADD", "SUB", "ALL", "QUIET"],
-        values: &["FILE", "FLAGS"],
-        numbers: &[],
-        idle: &["QUIET"],
-    },
-    Command {
-        name: "Rename",
-        builtin: Builtin::Files(FilesCommand::Rename),
-        switches: &["QUIET"],
-        values: &["FROM", "TO", "AS"],
-        numbers: &[],
-        idle: &["QUIET"],
-    },
-    Command {
-        name: "Status",
-        builtin: Builtin::Env(EnvCommand::Status),
-        switches: &["FULL", "TCB", "CLI", "ALL"],
-        values: &["PROCESS", "COM", "COMMAND"],
-        numbers: &[],
-        idle: &[],
-    },
-    Command {
-        name: "Type",
-        builtin: Builtin::Files(FilesCommand::Type),
-        switches: &["HEX", "NUMBER"],
-        values: &["FROM", "TO", "OPT"],
-        numbers: &[],
-        idle: &[],
-    },
-    Command {
-        name: "Which",
-        builtin: Builtin::Env(EnvCommand::Which),
-        switches: &["NORES", "RES", "ALL"],
-        values: &["FILE"],
-        numbers: &[],
-        idle: &[],
-    },
-];
-
-/// The commands that have more options in Release 2.
-pub fn commands() -> &'static [Command]
-    ensures { AreReleaseTwo result.now }
-{
-    &COMMANDS
+    /// The command itself.
+    pub builtin: Builtin,
+    /// Its options by their names: those that take no value,
+    pub switches: &'static [&'static str],
+    /// those that take the word after their name,
+    pub values: &'static [&'static str],
+    /// and those that take it if it is a number.
+    pub numbers: &'static [&'static str],
+    /// Those of all these that have no effect which matters here.
+    pub idle: &'static [&'static str],
+    /// Those that are not implemented: with one of them the command does nothing.
+    pub unimplemented: &'static [&'static str],
 }
 
 /// The one of this name among some commands; case is ignored.
@@ -224,20 +88,28 @@ impl Command {
         word: &[u8],
     ) -> Result<Option<Naming>, NoMemory>
         ensures value { IfOk result (λ naming. naming ≡ naming_of dialect self.now word.now) }
-        // What is left out is no option of the command in this dialect.
-        ensures omitted { IfOk result (IfLeftOut (λ name. list_any (has_name name) (options_of (template_of dialect self.now.builtin)) ≡ false)) }
+        // What is left out is no option of the command in this dialect, or one that is not implemented.
+        ensures omitted { IfOk result (IfLeftOut (λ name. (not (list_any (has_name name) (options_of (template_of dialect self.now.builtin))) || is_unimplemented self.now name) ≡ true)) }
     {
         let Some(option) = self.option(word) else {
             return Ok(None);
         };
+        let name = option.name.as_bytes();
         let template = template_in(alloc, dialect, self.builtin)?;
-        if !has_option(&template, option.name.as_bytes()) {
+        if !has_option(&template, name) || self.is_unimplemented(name) {
             return Ok(Some(Naming::LeftOut(option)));
         }
         Ok(match option.takes {
             Takes::Nothing => None,
             Takes::Word | Takes::Number => Some(Naming::Kept),
         })
+    }
+
+    // The option with this name is not implemented.
+    fn is_unimplemented(&self, name: &[u8]) -> bool
+        ensures { result ≡ is_unimplemented self.now name.now }
+    {
+        first_named(self.unimplemented, name).is_some()
     }
 
     // The option of Release 2 that a word names.
