@@ -7,7 +7,7 @@ A script changes files and directories, starts a program, which changes some too
 model says what must stand: what one side changed comes to the other; where both changed this machine's stands; what the Shell
 changed and this machine deleted is written again; what is not as it was at the last time is never deleted; and nothing is deleted
 while something that the Shell has is not written, or after it gave way. What changed is written before a question too. What the script
-moves to T: stays here until it comes in again elsewhere, or is kept if a program deletes it. Of names that differ in case alone, which programs
+moves to T: stays here until it comes in again elsewhere, or is kept if a program deletes it; what a program makes in its place comes in. Of names that differ in case alone, which programs
 make, the one that the Shell knew is shared, and otherwise none. share_losses.py tries what the model leaves out.
 The last line is 'N changes, M starts: ok'.
 """
@@ -46,6 +46,8 @@ class Model:
         self.shell, self.machine, self.last, self.out = {}, {}, {}, {}
         self.names, self.known, self.twice = {}, {}, set()
         self.told, self.let_go, self.copied, self.origins = set(), set(), set(), {}
+        # what was moved to T: and is not deleted here yet, at the last time
+        self.waiting = set()
 
     def of(self, path):
         return (side.get(path, GONE) for side in (self.shell, self.machine, self.last))
@@ -136,6 +138,7 @@ class Model:
         that could not be written; then what is gone is deleted, the deepest first, unless something could not be written: then it waits."""
         self.check_twice()
         self.note_copied()
+        self.waiting = set()
         paths = sorted(set(self.shell) | set(self.last))
         new, owes, unwritten = set(self.shell) - set(self.last), False, []
         for path in ([p for p in paths if p in new] + [p for p in paths if p in self.shell and p not in new]
@@ -150,6 +153,7 @@ class Model:
             if self.is_held(path):
                 if shell != GONE or owes:
                     raise Unsure
+                self.waiting.add(path)
                 continue
             if shell == GONE and machine == FOLDER and any(self.is_held(one) for one in below(self.machine, path)):
                 raise Unsure
@@ -218,7 +222,10 @@ class Model:
             if machine == GONE and (shell != last or shell == FOLDER and below(self.shell, path)):
                 self.put(self.last, path, GONE)
                 continue
-            if machine != GONE and shell not in (last, machine):
+            if machine != GONE and shell == GONE and path in self.waiting:
+                # a program made it anew, or wrote to it: what was moved away is gone for both
+                pass
+            elif machine != GONE and shell not in (last, machine):
                 self.told.add(path)
                 overrules = overrules or shell != GONE
             # so is a directory that was deleted in the Shell
