@@ -131,6 +131,7 @@ impl Mirror {
             return self.reports.report_unread(key, seen.path.as_str());
         }
         self.note_vanished(key, &here, entry)?;
+        let is_over = self.waiting.has(key) || self.reports.is_failing(key);
         let record = self.records.get(key).filter(|_| !plan.deletes(key));
         if entry.is_some() && record.is_some_and(|record| !is_of_kind(record, seen.kind)) {
             return Ok(());
@@ -139,7 +140,7 @@ impl Mirror {
         if record.is_some_and(|record| record.place != place && is_replaced(record, &here)) {
             self.reports.report_replaced(seen.path.as_str())?;
         }
-        match self.decision_for(key, record, &here, entry) {
+        match decision_for(record, &here, entry, is_over) {
             Decision::Keep => return self.keep_alike(plan, key, seen, &here, entry),
             Decision::Write => return self.keep_stamp(plan, key, seen, &here),
             Decision::Conflict => {
@@ -151,29 +152,6 @@ impl Mirror {
         }
         self.release(rt, key, seen.path.as_str(), &place)?;
         plan.add_object(self, key, seen, here, &place)
-    }
-
-    // What is done with an object that may have changed. A file that another program made anew, where the Shell has none any longer, comes in,
-    // whatever its bytes are. If the Shell's deletion of the old one waited, or was refused, both agree that the old one is gone.
-    fn decision_for(
-        &self,
-        key: &str,
-        record: Option<&Record>,
-        here: &Here,
-        entry: Option<&Entry>,
-    ) -> Decision
-        ensures anew { is_none entry.entry ≡ true → has_made_anew (option_copied record.entry) here.now ≡ true → comes_in result ≡ true }
-    {
-        match record {
-            Some(record) if entry.is_none() && is_made_anew(record, here) => {
-                if self.waiting.has(key) || self.reports.is_failing(key) {
-                    Decision::Bring
-                } else {
-                    Decision::Conflict
-                }
-            }
-            _ => here.decision(record, entry),
-        }
     }
 
     // Keeps the path and the stamp of an object in whose place the Shell's is to be written.
@@ -228,6 +206,28 @@ fn is_of_kind(record: &Record, kind: Kind) -> bool
         (Last::Directory, Kind::Directory) => true,
         (Last::File(_) | Last::StandIn(_), Kind::File { .. }) => true,
         _ => false,
+    }
+}
+
+// What is done with an object that may have changed. A file that another program made anew, where the Shell has none any longer, comes in,
+// whatever its bytes are. If the Shell's deletion of the old one waited, or was refused (`is_over`), both agree that the old one is gone.
+fn decision_for(
+    record: Option<&Record>,
+    here: &Here,
+    entry: Option<&Entry>,
+    is_over: bool,
+) -> Decision
+    ensures anew { is_none entry.entry ≡ true → has_made_anew (option_copied record.entry) here.now ≡ true → comes_in result ≡ true }
+{
+    match record {
+        Some(record) if entry.is_none() && is_made_anew(record, here) => {
+            if is_over {
+                Decision::Bring
+            } else {
+                Decision::Conflict
+            }
+        }
+        _ => here.decision(record, entry),
     }
 }
 
