@@ -7,7 +7,8 @@ A script changes files and directories, starts a program, which changes some too
 model says what must stand: what one side changed comes to the other; where both changed this machine's stands; what the Shell
 changed and this machine deleted is written again; what is not as it was at the last time is never deleted; and nothing is deleted
 while something that the Shell has is not written, or after it gave way. What changed is written before a question too. What the script
-moves to T: stays here until it comes in again elsewhere, or is kept if a program deletes it; what a program makes in its place comes in. Of names that differ in case alone, which programs
+moves to T: stays here until it comes in again elsewhere, or is kept if a program deletes it; what a program makes in its place comes in. The model
+leaves out a file that a program makes anew with the same bytes. Of names that differ in case alone, which programs
 make, the one that the Shell knew is shared, and otherwise none. share_losses.py tries what the model leaves out.
 The last line is 'N changes, M starts: ok'.
 """
@@ -126,6 +127,15 @@ class Model:
             # the Shell does not know yet that there is another
             raise Unsure
         return not others
+
+    def check_anew(self, before, lines, is_seen):
+        """Whether the model says what comes of changes here: not if one makes anew, with the same bytes, what the Shell no longer has, or, if
+        no look sees it before, may delete."""
+        for _, line in lines:
+            path = line.rpartition('>')[2] if '>' in line else line.split()[-1]
+            small = path.lower()
+            if path in before and before[path] == self.names.get(path) and small in self.last and not (is_seen and small in self.shell):
+                raise Unsure
 
     def note_copied(self):
         """Notes what is in T: and stands here in another place than it had."""
@@ -350,13 +360,17 @@ class Plan:
         self.done += len(lines)
         if random_.random() < 0.4:
             model.write_out('question')
+            before = dict(model.names)
             lines = changes_meanwhile(random_, model, 2, count)
+            model.check_anew(before, lines, False)
             self.script.append(f'Ask {len(self.asks)}?')
             self.asks.append([line for _, line in lines])
         else:
             model.write_out()
             self.wanted.append(dict(model.names))
+            before = dict(model.names)
             lines = changes_here(random_, model, 3, count)
+            model.check_anew(before, lines, True)
             self.script.append(f'act {len(self.acts)}')
             self.acts.append([line for _, line in lines])
             model.come_in()
