@@ -32,6 +32,7 @@ mod removals;
 mod renaming;
 mod reports;
 mod second_look;
+mod spoils;
 mod start_place;
 mod syncs;
 mod temporaries;
