@@ -59,7 +59,7 @@ impl Mirror {
             self.forgive_undone(files)?;
         }
         self.watch(files)?;
-        self.settle_moves(files);
+        self.settle_moves(rt, files)?;
         self.note_copies(files, account)?;
         let asides = self.begin_moves(rt, files, account)?;
         let mut departures = self.departures(files, account)?;

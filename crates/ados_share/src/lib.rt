@@ -22,6 +22,7 @@ mod large_copies;
 mod large_moves;
 mod last_copies;
 mod left_out;
+mod made_again;
 mod mirror;
 mod modes;
 mod moves;
