@@ -131,12 +131,14 @@ class Model:
         return not others
 
     def check_anew(self, before, lines, is_seen):
-        """Whether the model says what comes of changes here: not if one makes anew, with the same bytes, what the Shell no longer has, or, if
-        no look sees it before, may delete."""
+        """Whether the model says what comes of changes here: not if one makes anew, with the same bytes, or those of the last time, what the
+        Shell no longer has, or, if no look sees it before, may delete."""
         for _, line in lines:
             path = line.rpartition('>')[2] if '>' in line else line.split()[-1]
             small = path.lower()
-            if path in before and before[path] == self.names.get(path) and small in self.last and not (is_seen and small in self.shell):
+            made = self.names.get(path)
+            is_same = path in before and before[path] == made or made != FOLDER and made == self.last.get(small)
+            if is_same and small in self.last and not (is_seen and small in self.shell):
                 raise Unsure
 
     def note_copied(self):
