@@ -15,7 +15,7 @@ use std::io::Write;
 
 /// What was found in a script.
 #[derive(Drop)]
-pub struct Looked {
+pub struct ScriptReport {
     /// The script's path.
     pub path: String,
     /// It is one of the command line.
@@ -69,10 +69,10 @@ impl<'a> Lines<'a> {
     pub fn tell_all<R: AllocGlobal + Print>(
         &mut self,
         rt: &R,
-        looked: &[Looked],
+        reports: &[ScriptReport],
     ) -> Result<Status, Fault> {
         let mut status = Status::Done;
-        for script in looked {
+        for script in reports {
             if let Some(line) = &script.unread {
                 self.write_line(rt, String::from_str(rt.alloc(), line.as_str())?)?;
             }

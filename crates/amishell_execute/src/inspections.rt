@@ -2,7 +2,7 @@
 
 use crate::called::{Called, Found, called_bytes};
 use crate::faults::{Fault, unread_script};
-use crate::inspection_lines::{Lines, Looked};
+use crate::inspection_lines::{Lines, ScriptReport};
 use crate::missing_devices::Devices;
 use crate::refusals::is_struck;
 use crate::status::Status;
@@ -33,7 +33,7 @@ struct Inspector<'a> {
     // The devices that they find.
     devices: Devices,
     // What was found in them, which is told at the end: a script that is called may assign a device for its caller.
-    looked: Vec<Looked>,
+    reports: Vec<ScriptReport>,
 }
 
 // A script that is looked at.
@@ -59,7 +59,7 @@ pub fn inspect_all<R: Env + AllocGlobal + Files + Print + Clone + Drop + Clock>(
         devices: Devices::of(rt, options, &typed)?,
         typed,
         scripts: Vec::new(rt.alloc()),
-        looked: Vec::new(rt.alloc()),
+        reports: Vec::new(rt.alloc()),
     };
     inspector.add(rt, options.script, true)?;
     for path in &options.args {
@@ -67,7 +67,7 @@ pub fn inspect_all<R: Env + AllocGlobal + Files + Print + Clone + Drop + Clock>(
     }
     let looked = inspector.look_at_all(rt);
     let mut lines = Lines::of(rt.alloc(), options, &inspector.typed, &inspector.devices);
-    let status = lines.tell_all(rt, &inspector.looked)?;
+    let status = lines.tell_all(rt, &inspector.reports)?;
     looked?;
     Ok(status)
 }
@@ -134,7 +134,7 @@ impl Inspector<'_> {
                 missed.push(finding)?;
             }
         }
-        self.looked.push(Looked {
+        self.reports.push(ScriptReport {
             path,
             is_given,
             may_strike,
@@ -196,7 +196,7 @@ impl Inspector<'_> {
             Err(TransferFault::NoMemory) => Err(Fault::Memory),
             Err(fault) => {
                 let line = format!(in rt.alloc(); "{path}:1: note: {fault}")?;
-                self.looked.push(Looked {
+                self.reports.push(ScriptReport {
                     path: String::from_str(rt.alloc(), path)?,
                     is_given,
                     may_strike: false,
