@@ -34,6 +34,8 @@ mod pace;
 mod play;
 mod reader;
 mod refusals;
+mod script_places;
+mod script_turn;
 mod share;
 mod stands;
 mod status;
