@@ -4,7 +4,7 @@ use crate::beginning::Beginning;
 use crate::faults::Fault;
 use crate::origins_of;
 use crate::script_places::script_places;
-use ados_find::{Refusal, find_file, place_of};
+use ados_find::{Lookup, Refusal, find_file, place_of};
 use ados_ram::{Limits, Place, Ram};
 use ados_text::{NoMemory, Text};
 use ados_trace::ScriptNames;
@@ -119,11 +119,7 @@ impl<'a> Called<'a> {
     // The place to which a path leads, if it leads to one.
     fn place(&self, alloc: Global, path: &Text) -> Result<Option<Place>, NoMemory> {
         let beginning = &self.beginning;
-        match place_of(alloc, &beginning.state, &beginning.directory, path) {
-            Ok(place) => Ok(Some(place)),
-            Err(Refusal::NoMemory) => Err(NoMemory),
-            Err(Refusal::Stopped(_)) => Ok(None),
-        }
+        found_place(place_of(alloc, &beginning.state, &beginning.directory, path))
     }
 
     // The place is that of a script of the command line: of the caller, if that is one.
@@ -184,6 +180,15 @@ impl<'a> Called<'a> {
         } else {
             Found::Nothing
         }
+    }
+}
+
+/// A place that was looked up, if there is one.
+pub fn found_place(found: Lookup<Place>) -> Result<Option<Place>, NoMemory> {
+    match found {
+        Ok(place) => Ok(Some(place)),
+        Err(Refusal::NoMemory) => Err(NoMemory),
+        Err(Refusal::Stopped(_)) => Ok(None),
     }
 }
 
