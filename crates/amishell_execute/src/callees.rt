@@ -12,6 +12,9 @@ use std::alloc::Global;
 // The command that calls a script.
 const EXECUTE: &[u8] = b"Execute";
 
+// The option by which it may get the name.
+const OPTION: &[u8] = b"FILE=";
+
 // With one of these a word is no plain name.
 const SIGNS: &[u8] = b"\"'$*;<>?`#|";
 
@@ -53,24 +56,55 @@ pub fn calls_by_name(line: &Text) -> bool {
     called_word(line.as_bytes()).is_some()
 }
 
-// The name that a line gives to Execute, if it is a plain one.
+// The name that a line gives to Execute, if it is a plain one. It may stand after one redirection and after `FILE=`, and in quotes.
 fn called_word(line: &[u8]) -> Option<&[u8]> {
     // Most lines end here: each one that is taken may be looked at.
     let first = line.iter().find(|byte| !is_space(**byte))?;
-    if !matches!(*first, b'E' | b'e') {
+    if !matches!(*first, b'E' | b'e' | b'C' | b'c') {
         return None;
     }
     let mut words = line
         .split(|byte| is_space(*byte))
         .filter(|word| !word.is_empty());
-    if !words.next()?.eq_ignore_ascii_case(EXECUTE) {
+    if !is_execute(words.next()?) {
         return None;
     }
     let word = words.next()?;
-    if word.iter().any(|byte| SIGNS.contains(byte)) {
+    if !matches!(word, [b'>' | b'<', ..]) {
+        return plain_name(word);
+    }
+    if matches!(word, b">" | b">>" | b"<") {
+        words.next()?;
+    }
+    plain_name(words.next()?)
+}
+
+// The word calls a script.
+fn is_execute(word: &[u8]) -> bool {
+    let name = match word {
+        [b'C' | b'c', b':', name @ ..] => name,
+        _ => word,
+    };
+    name.eq_ignore_ascii_case(EXECUTE)
+}
+
+// The name in a word, without its option and quotes, if it has no other sign.
+fn plain_name(word: &[u8]) -> Option<&[u8]> {
+    let name = match word.get(..OPTION.len()) {
+        Some(option) if option.eq_ignore_ascii_case(OPTION) => word.get(OPTION.len()..)?,
+        _ => word,
+    };
+    let name = match name {
+        [b'"', name @ ..] => match name {
+            [name @ .., b'"'] => name,
+            _ => return None,
+        },
+        _ => name,
+    };
+    if name.is_empty() || name.iter().any(|byte| SIGNS.contains(byte)) {
         None
     } else {
-        Some(word)
+        Some(name)
     }
 }
 

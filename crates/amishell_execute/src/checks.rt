@@ -219,7 +219,7 @@ impl<'a> Checks<'a> {
         };
         let shown = self.origins.name(&callee.name)?;
         let _ = report_all(rt, shown.as_str(), &callee.found, true)?;
-        let refusal = format!(in rt.alloc(); "{shown} {}", refusal_of(false))?;
+        let refusal = format!(in rt.alloc(); "{shown} is not run, since it has a bad directive")?;
         Err(self.not_called(turn, refusal))
     }
 
