@@ -23,7 +23,6 @@ mod plan;
 mod planned;
 mod reasons;
 mod records;
-mod refusals;
 mod rights;
 mod room;
 mod script;

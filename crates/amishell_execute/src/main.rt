@@ -7,7 +7,6 @@ ghost use Rattle.amishell_execute.specs.Status.{exit_status, number_of};
 
 mod alone;
 mod beginning;
-mod begun;
 mod between;
 mod called;
 mod callees;
@@ -22,20 +21,16 @@ mod faults;
 mod home;
 mod host_faults;
 mod hosts;
-mod inspection_lines;
 mod inspections;
 mod launcher;
 mod losses;
 mod lost_jumps;
-mod missing_devices;
 mod origins;
 mod outcome;
 mod pace;
 mod play;
 mod reader;
 mod refusals;
-mod script_places;
-mod script_turn;
 mod share;
 mod stands;
 mod status;
@@ -50,7 +45,6 @@ use ados_text::{NoMemory, Text};
 use ados_trace::Traced;
 use ados_transfer::{Lines, Plan, bring, bring_script, taken_place};
 use ados_world::World;
-use begun::pass_tick;
 use checks::{Checks, read_checked};
 use deadline::Deadline;
 use descriptors::held_descriptors;
@@ -61,7 +55,7 @@ use hosts::{hosts_for, world_with};
 use inspections::inspect_all;
 use losses::{Kept, tell_losses};
 use origins::Origins;
-use outcome::{Taking, hand_out};
+use outcome::hand_out;
 use play::{Script, play};
 use share::Share;
 use stands::status_after;
@@ -69,7 +63,7 @@ use status::Status;
 use std::io::{Eprint, Write};
 use std::process::{ExitCode, Processes};
 use std::rt::{Env, Files};
-use std::time::{Clock, SystemTime};
+use std::time::Clock;
 use std::{fs, io};
 use teller::Teller;
 use trail::Trail;
@@ -168,7 +162,6 @@ fn run_script<
 ) -> Result<Status, Fault>
     requires agrees { Agrees world.old [] }
 {
-    let begun = SystemTime::now(rt).ok();
     let mut plan = Plan::new(rt.alloc(), options.mirror.limits, world.files())?;
     let place = add_files(rt, options, world, &mut plan)?;
     let lines = lines_for(rt, options, share.as_ref(), &plan, &place)?;
@@ -186,13 +179,14 @@ fn run_script<
         origins: &origins,
     };
     let traced = options.trace.then_some(&origins);
-    pass_tick(rt, options, begun);
     let ended = play_watched(rt, world, script, share.as_mut(), traced);
-    let taking = Taking::after(&ended, begun);
-    let outcome = hand_out(rt, options, world, share.as_mut(), taking)?;
+    let has_begun = !matches!(ended, Err(Fault::NothingRun(..)));
+    let outcome = hand_out(rt, options, world, share.as_mut(), has_begun)?;
     let code = ended.as_ref().ok().map(|end| end.code);
     let status = settle(rt, status_after(rt, options, world, &origins, ended));
-    tell_gone(rt, options, world, share.as_ref(), kept)?;
+    if !options.quiet {
+        tell_gone(rt, options, world, share.as_ref(), kept)?;
+    }
     outcome.status(rt, code, status)
 }
 
@@ -254,7 +248,7 @@ fn add_files<R: AllocGlobal + Files + Eprint + Clone + Drop>(
     Ok(bring_script(rt, world.files(), options.script, &bytes, plan)?)
 }
 
-// Tells which files are gone, unless no such line is wanted.
+// Tells which files are gone.
 fn tell_gone<R: AllocGlobal + Eprint>(
     rt: &R,
     options: &Options<'_>,
@@ -262,9 +256,6 @@ fn tell_gone<R: AllocGlobal + Eprint>(
     share: Option<&Share>,
     mut kept: Kept<'_>,
 ) -> Result<(), Fault> {
-    if options.quiet {
-        return Ok(());
-    }
     if let Some(share) = share {
         for volume in share.volumes() {
             kept.add(&volume.place)?;

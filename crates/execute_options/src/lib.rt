@@ -3,7 +3,6 @@
 
 mod command;
 mod config;
-mod error_names;
 mod faults;
 mod given;
 mod mistakes;
