@@ -6,7 +6,7 @@ usage: share_random.py PROGRAM ROOM [CHANGES [SEED]]
 A script changes files and directories, starts a program, which changes some too, and asks, and meanwhile others are changed. The
 model says what must stand: what one side changed comes to the other; where both changed this machine's stands; what the Shell
 changed and this machine deleted is written again; what is not as it was at the last time is never deleted; and nothing is deleted
-while something that the Shell has is not written, or after it gave way. What changed is written before a question too. What the script
+while something that the Shell has is not written, or, to the end, after it gave way. What changed is written before a question too. What the script
 moves to T: stays here until it comes in again elsewhere, or is kept if a program deletes it; what a program makes in its place comes in. The model
 leaves out a file that a program makes anew with the same bytes. Of names that differ in case alone, which programs
 make, the one that the Shell knew is shared, and otherwise none. share_losses.py tries what the model leaves out.
@@ -49,6 +49,8 @@ class Model:
         self.told, self.let_go, self.copied, self.origins = set(), set(), set(), {}
         # what was moved to T: and is not deleted here yet, at the last time
         self.waiting = set()
+        # something of the Shell gave way; it may do so
+        self.gave_way, self.may_give_way = False, False
 
     def of(self, path):
         return (side.get(path, GONE) for side in (self.shell, self.machine, self.last))
@@ -129,12 +131,14 @@ class Model:
         return not others
 
     def check_anew(self, before, lines, is_seen):
-        """Whether the model says what comes of changes here: not if one makes anew, with the same bytes, what the Shell no longer has, or, if
-        no look sees it before, may delete."""
+        """Whether the model says what comes of changes here: not if one makes anew, with the same bytes, or those of the last time, what the
+        Shell no longer has, or, if no look sees it before, may delete."""
         for _, line in lines:
             path = line.rpartition('>')[2] if '>' in line else line.split()[-1]
             small = path.lower()
-            if path in before and before[path] == self.names.get(path) and small in self.last and not (is_seen and small in self.shell):
+            made = self.names.get(path)
+            is_same = path in before and before[path] == made or made != FOLDER and made == self.last.get(small)
+            if is_same and small in self.last and not (is_seen and small in self.shell):
                 raise Unsure
 
     def note_copied(self):
@@ -150,7 +154,7 @@ class Model:
         self.note_copied()
         self.waiting = set()
         paths = sorted(set(self.shell) | set(self.last))
-        new, owes, unwritten = set(self.shell) - set(self.last), False, []
+        new, owes, unwritten = set(self.shell) - set(self.last), self.gave_way, []
         for path in ([p for p in paths if p in new] + [p for p in paths if p in self.shell and p not in new]
                      + [p for p in reversed(paths) if p not in self.shell]):
             shell, machine, last = self.of(path)
@@ -243,7 +247,10 @@ class Model:
                 if machine != GONE or one == path:
                     self.put(self.shell, one, self.machine.get(one, GONE))
                     self.put(self.last, one, self.machine.get(one, GONE))
+        if overrules and (self.out or not self.may_give_way):
+            raise Unsure
         if overrules:
+            self.gave_way = True
             # what the Shell deleted may have been moved to what gave way: it comes in again
             for path in deleted:
                 if path not in self.shell:
@@ -355,7 +362,9 @@ class Plan:
         model = self.model
         lines = changes(random_, model.shell, 3, count)
         self.script += [line for line, _ in lines]
-        move = model.move(random_) if random_.random() < 0.2 else None
+        # from then on nothing is deleted: that comes late
+        model.may_give_way = len(self.acts) + len(self.asks) > STEPS * 2 / 3
+        move = model.move(random_) if random_.random() < 0.2 and not model.gave_way else None
         self.script += [move] if move else []
         self.done += len(lines)
         if random_.random() < 0.4:

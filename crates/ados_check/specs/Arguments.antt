@@ -94,3 +94,33 @@ redirection_search (suc count) line place = redirection_after (λ to. redirectio
 
 abbrev pub has_redirection : Text → Bool
 has_redirection line = redirection_search (length line) line 0
+
+-- the name of a redirection, if an item is one
+abbrev pub name_after : Item → Option Word
+name_after (item.Word from to) = Some (record { from = from; name_to = to; to = to })
+name_after (item.Quoted from to) = Some (record { from = from - 1; name_to = from - 1; to = to + 1 })
+name_after (item.Equal at) = None
+name_after (item.End at) = None
+name_after (item.Unmatched from) = None
+
+-- the names from that of a redirection on, if `next` gives those from a place on
+abbrev pub redirected_past : (ℕ → List Word) → Option Word → List Word
+redirected_past next None = []
+redirected_past next (Some name) = name ∷ next name.to
+
+-- those from a word on that begins with so wide a redirection sign
+abbrev pub redirected_with : (ℕ → List Word) → Text → Word → ℕ → List Word
+redirected_with next line word zero = next word.to
+redirected_with next line word (suc n) = redirected_past next (name_after (item_at false line (word.from + suc n)))
+
+abbrev pub redirected_found : (ℕ → List Word) → Text → Option Word → List Word
+redirected_found next line None = []
+redirected_found next line (Some word) = redirected_with next line word (sign_width (bytes_between line word.from word.to))
+
+-- the names after the redirections of a line from a place on, of at most `count` words
+abbrev pub redirected_from : ℕ → Text → ℕ → List Word
+redirected_from zero line place = []
+redirected_from (suc count) line place = redirected_found (λ to. redirected_from count line to) line (word_at line place)
+
+abbrev pub redirected_words : Text → List Word
+redirected_words line = redirected_from (length line) line 0

@@ -3,6 +3,9 @@ pub mod Arguments
 pub mod CommandWords
 pub mod Commands
 pub mod Copies
+pub mod DeviceNews
+pub mod DevicePaths
+pub mod Devices
 pub mod Directives
 pub mod Errors
 pub mod Jumps

@@ -2,7 +2,7 @@
 
 ghost use Rattle.std.specs.Prelude.{◌≡◌, ◌==◌, ◌≤◌, length, false, true, IfOk, IfSome};
 ghost use Rattle.ados_items.specs.Items.{bytes_between, item_at};
-ghost use Rattle.ados_check.specs.Arguments.{argument_words, has_redirection, name_end, next_end_of_run, run_end, sign_width, word_at};
+ghost use Rattle.ados_check.specs.Arguments.{argument_words, has_redirection, name_after, name_end, next_end_of_run, redirected_words, run_end, sign_width, word_at};
 
 use ados_items::{Item, between, next_item, next_word};
 use std::alloc::{AllocError, Global};
@@ -44,6 +44,30 @@ pub fn argument_words(alloc: Global, line: &[u8]) -> Result<Vec<Word>, AllocErro
             }
             width => match name_end(line, word.from + width) {
                 Some(to) => place = to,
+                None => return Ok(words),
+            },
+        }
+    }
+    Ok(words)
+}
+
+/// The names after the redirections of a line, as far as `argument_words` reads the line.
+pub fn redirected_words(alloc: Global, line: &[u8]) -> Result<Vec<Word>, AllocError>
+    ensures { IfOk result (λ words. words.items ≡ redirected_words line.now) }
+{
+    let mut words = Vec::new(alloc);
+    let mut place = 0;
+    for step in 0..line.len() {
+        let Some(word) = word_at(line, place) else {
+            return Ok(words);
+        };
+        match sign_width(line, word) {
+            0 => place = word.to,
+            width => match name_after(line, word.from + width) {
+                Some(name) => {
+                    words.push(name)?;
+                    place = name.to;
+                }
                 None => return Ok(words),
             },
         }
@@ -131,6 +155,25 @@ fn sign_width(line: &[u8], word: Word) -> usize
         [b'>', ..] => 1,
         [b'<', rest @ ..] if !rest.contains(&b'>') => 1,
         _ => 0,
+    }
+}
+
+// The name of a redirection whose sign ends at a place.
+fn name_after(line: &[u8], place: usize) -> Option<Word>
+    ensures { result ≡ name_after (item_at false line.now place) }
+{
+    match next_word(line, place) {
+        Item::Word { from, to } => Some(Word {
+            from,
+            name_to: to,
+            to,
+        }),
+        Item::Quoted { from, to } => Some(Word {
+            from: from.saturating_sub(1),
+            name_to: from.saturating_sub(1),
+            to: to + 1,
+        }),
+        Item::Equal(_) | Item::End(_) | Item::Unmatched(_) => None,
     }
 }
 

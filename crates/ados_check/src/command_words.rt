@@ -124,8 +124,8 @@ fn is_name_byte(byte: u8) -> bool
     byte != b':' && byte != b'/'
 }
 
-// A word without the quote before it and the one after it.
-fn unquoted(word: &[u8]) -> &[u8]
+/// A word without the quote before it and the one after it.
+pub fn unquoted(word: &[u8]) -> &[u8]
     ensures { result.now ≡ unquoted word.now }
 {
     match without_first(word) {

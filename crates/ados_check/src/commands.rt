@@ -16,6 +16,7 @@ use ados_text::{NoMemory, Text, same_name};
 use std::alloc::Global;
 
 /// What a word of a script stands for.
+#[derive(Clone, Copy)]
 pub enum Meaning {
     /// A command of the Shell with a template.
     Builtin(Builtin),

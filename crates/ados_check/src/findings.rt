@@ -78,6 +78,8 @@ pub enum Problem {
     NoScript(Text),
     /// A Copy with ALL puts what is in the directories that a pattern finds into one.
     FlatCopy,
+    /// As far as is known nobody has a device of this name.
+    NoDevice(Text),
 }
 
 impl Problem {
@@ -193,6 +195,13 @@ impl fmt::Display for Problem {
             Problem::UnknownCommand(name) => write!(f, "{}: unknown command", shown(name)),
             Problem::NoScript(name) => write!(f, "{}: no such script", shown(name)),
             Problem::FlatCopy => f.write_str(FLAT),
+            Problem::NoDevice(name) => {
+                let name = shown(name);
+                write!(
+                    f,
+                    "{name}: is no device here: --share FOLDER={name}:, or Assign it (device not mounted)"
+                )
+            }
         }
     }
 }

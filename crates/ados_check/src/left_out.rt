@@ -120,8 +120,8 @@ fn blank(script: &mut [u8], from: usize, to: usize)
     }
 }
 
-// A line without its comment, and then without the `+` at its end by which a Run takes the next line.
-fn command_text(line: &[u8]) -> &[u8]
+/// A line without its comment, and then without the `+` at its end by which a Run takes the next line.
+pub fn command_text(line: &[u8]) -> &[u8]
     ensures { result.now ≡ command_text line.now }
 {
     let plain = without_comment(line);

@@ -5,6 +5,9 @@ mod arguments;
 mod command_words;
 mod commands;
 mod copies;
+mod device_news;
+mod device_paths;
+mod devices;
 mod directives;
 mod findings;
 mod inspection;
@@ -25,6 +28,7 @@ mod targets;
 mod ticks;
 
 pub use commands::name_in_c;
+pub use device_news::{assigned_devices, new_devices};
 pub use directives::bad_directive;
 pub use findings::{Finding, Problem};
 pub use inspection::inspect;

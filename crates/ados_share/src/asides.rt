@@ -13,7 +13,7 @@ use std::{fs, io};
 
 impl Mirror {
     // Makes way for what is of another kind now, and writes what needs the place. What is moved aside for it is deleted only if all of
-    // it is written and nothing changed aside, otherwise it gets its place back.
+    // it is written, and on the disk, and nothing changed aside by then; otherwise it gets its place back.
     pub(crate) fn change_kinds<R: AllocGlobal + Files + Clock>(
         &mut self,
         rt: &Below<'_, R>,
@@ -22,9 +22,10 @@ impl Mirror {
         account: &mut Account,
     ) -> Result<(), TransferFault> {
         let written = self.exchange_kinds(rt, files, departures, account);
-        let is_written = written.is_ok()
+        let is_safe = written.is_ok()
+            && (account.aside.is_empty() || matches!(self.is_synced(rt, account), Ok(true)))
             && self.heed_changes_aside(rt, departures, account).is_ok();
-        let finished = self.finish_kind_changes(rt, account, is_written);
+        let finished = self.finish_kind_changes(rt, account, is_safe);
         written?;
         finished
     }
@@ -95,15 +96,13 @@ impl Mirror {
         &mut self,
         rt: &R,
         account: &mut Account,
-        is_written: bool,
+        is_safe: bool,
     ) -> Result<(), TransferFault> {
-        let is_safe = is_written
-            && (account.aside.is_empty() || matches!(self.is_synced(rt, account), Ok(true)));
         for one in account.take_aside().into_iter().rev() {
             if account.has_unwritten() || !is_safe {
                 self.put_back(rt, one, account)?;
-            } else if let Some(beside) = &one.beside {
-                let _ = fs::remove_file(rt, beside.as_str());
+            } else {
+                self.delete_aside(rt, one, account)?;
             }
         }
         Ok(())

@@ -117,6 +117,11 @@ impl Backups {
 }
 
 impl Backup {
+    /// It is of the file of this path, which had these bytes.
+    pub fn is_of(&self, path: &str, bytes: &FileBytes) -> bool {
+        self.original.as_str() == path && self.bytes == *bytes
+    }
+
     // What the script deleted is followed no longer.
     fn forget_deleted(&mut self, files: &Ram) {
         if self
@@ -164,7 +169,7 @@ impl Mirror {
         let Last::File(bytes) = &record.last else {
             return Ok(());
         };
-        let Ok(moved) = self.moves.copy(key) else {
+        let Ok(moved) = self.copy_followed(key) else {
             return Err(no_memory());
         };
         let backup = Backup {

@@ -2,6 +2,7 @@
 //! changed the file that waited. Once no file there has them any longer a backup is made of what the Shell has.
 
 use crate::backups::{Backup, Backups};
+use crate::changes::is_made_anew;
 use crate::departure::Departure;
 use crate::holders::Holders;
 use crate::mirror::Mirror;
@@ -12,12 +13,14 @@ use std::rt::Files;
 use std::{fs, mem};
 
 // The mode of a file that was gone before its mode was seen.
-const PRIVATE: u32 = 0o600;
+pub(crate) const PRIVATE: u32 = 0o600;
 
 impl Backups {
-    /// A file with this path and these bytes is one of those that were deleted.
-    pub fn is_noted(&self, path: &str, bytes: &FileBytes) -> bool {
-        self.deleted.iter().any(|backup| backup.original.as_str() == path && backup.bytes == *bytes)
+    /// A file with this path and these bytes is one of those that were deleted; if it `is_followed`, with the place to which the script moved
+    /// it.
+    pub fn is_noted(&self, path: &str, bytes: &FileBytes, is_followed: bool) -> bool {
+        self.deleted.iter().any(|backup| (!is_followed || backup.moved.is_some())
+            && backup.is_of(path, bytes))
     }
 
     /// The backups whose files do not hold their bytes any longer, which are no backups from now on, each with its path.
@@ -57,7 +60,8 @@ impl Mirror {
         }
     }
 
-    // Notes that a file of which there is no backup is to be written over, unless what is written begins with its bytes.
+    // Notes that a file of which there is no backup is to be written over, unless what is written begins with its bytes: then they count as
+    // kept.
     pub(crate) fn note_written_over(
         &mut self,
         key: &str,
@@ -65,8 +69,12 @@ impl Mirror {
         draft: &Draft<'_>,
     ) -> Result<(), TransferFault> {
         match draft.here {
-            Here::File { bytes, .. } if departure.elsewhere.is_some() && !draft.is_last_copy => {
+            Here::File { bytes, .. } if departure.elsewhere.is_some() => {
                 if is_beginning_of(self.alloc, bytes, draft.entry)? {
+                    self.backups.leave_out(departure.path.as_str(), bytes);
+                    return Ok(());
+                }
+                if draft.is_last_copy {
                     return Ok(());
                 }
                 self.note_gone(key, departure, draft.here)
@@ -88,7 +96,7 @@ impl Mirror {
     }
 
     // Notes that another program deleted or changed a file which the Shell does not have in its place either: it may have its bytes
-    // elsewhere. It still has its record.
+    // elsewhere. So it is with one that the script moved, and of which there is another of the same bytes. It still has its record.
     pub(crate) fn note_vanished(
         &mut self,
         key: &str,
@@ -100,25 +108,31 @@ impl Mirror {
         };
         let last = record.state();
         let is_here = here.is_unread() || here.state(Some(record)).is_same(&last);
-        if is_here || record.state_there(entry).is_same(&last) {
+        let is_there = record.state_there(entry).is_same(&last);
+        let is_again = self.is_away(key, &record.place) && (is_there || is_made_anew(record, here));
+        if (is_here || is_there) && !is_again {
             return Ok(());
         }
-        let manner = match self.waiting.rights(key) {
-            Some(rights) => Manner::Kept(rights),
-            None => Manner::Mode(PRIVATE),
+        let manner = match (self.waiting.rights(key), here.rights()) {
+            (Some(rights), _) => Manner::Kept(rights),
+            (None, Some(rights)) if is_here => Manner::Kept(rights),
+            (None, _) => Manner::Mode(PRIVATE),
         };
         self.note(key, manner)
     }
 
     // Notes what was the file of a record, once.
-    fn note(&mut self, key: &str, manner: Manner) -> Result<(), TransferFault> {
+    pub(crate) fn note(&mut self, key: &str, manner: Manner) -> Result<(), TransferFault> {
         let Some(record) = self.records.get(key) else {
             return Ok(());
         };
         let Last::File(bytes) = &record.last else {
             return Ok(());
         };
-        let is_noted = self.backups.is_noted(record.path.as_str(), bytes);
+        let is_followed = self.moves.destination(key).is_some();
+        let is_noted = self
+            .backups
+            .is_noted(record.path.as_str(), bytes, is_followed);
         if bytes.len() == 0 || is_noted || self.options.dry {
             return Ok(());
         }

@@ -1,6 +1,7 @@
 //! What changed in the Shell's files below the directories of a share, on its way to the folders.
-ghost use Rattle.std.specs.Prelude.{◌≡◌, IfOk};
+ghost use Rattle.std.specs.Prelude.{◌≡◌, true, false, IfOk, OnOk, is_none, string_bytes};
 ghost use Rattle.std.specs.List.{list_any};
+ghost use Rattle.std.specs.Option.{is_some, option_map};
 ghost use Rattle.ados_text.specs.Text.{Bytes};
 ghost use Rattle.std.specs.BTreeMap.{get_by_text};
 ghost use Rattle.ados_share.specs.Records.{has_key, has_left, is_kept_there};
@@ -53,11 +54,12 @@ impl Mirror {
         if away.len() == self.volumes.all().len() {
             return Ok(());
         }
+        self.owe_overruled(account)?;
         if account.moment == Moment::End {
             self.forgive_undone(files)?;
         }
         self.watch(files)?;
-        self.settle_moves(files);
+        self.settle_moves(rt, files)?;
         self.note_copies(files, account)?;
         let asides = self.begin_moves(rt, files, account)?;
         let mut departures = self.departures(files, account)?;
@@ -74,6 +76,18 @@ impl Mirror {
         self.end_update(files, account)
     }
 
+    // What the script made and gave way to this machine's counts as not written to the end of the run: what it held may be only in what the
+    // script deletes from then on, so that nothing is deleted.
+    #[tactic(auto, using(crate::proofs::AccountLemmas::first_is_some))]
+    fn owe_overruled(&self, account: &mut Account) -> Result<(), TransferFault>
+        ensures owed { OnOk result (is_none self.now.reports.spoils.overruled ≡ false → is_some (option_map string_bytes account.new.unwritten) ≡ true) }
+    {
+        match self.reports.spoils.overruled() {
+            Some(path) => account.add_unwritten(path),
+            None => Ok(()),
+        }
+    }
+
     // Reports what waits and what is not deleted. By now what the script made has its record too.
     fn end_update(&mut self, files: &Ram, account: &mut Account) -> Result<(), TransferFault> {
         if account.moment == Moment::End {
@@ -81,7 +95,7 @@ impl Mirror {
             self.report_beside(files)?;
         }
         self.bar_copies(files, account)?;
-        if let Some(path) = self.reports.taken() {
+        if let Some(path) = self.reports.spoils.taken() {
             account.refuse(path)?;
         }
         self.report_account(account)

@@ -100,7 +100,7 @@ impl Mirror {
             if let Some(bytes) = bytes_of(&self.records, key.as_str()) {
                 departure.elsewhere = match holders.copy_of(departure, bytes, is_moved) {
                     Some(found) => Some(Elsewhere::Copy(self.copy_path(files, found.place())?)),
-                    None => self.destined_elsewhere(files, self.moves.destination(key.as_str()))?,
+                    None => self.destined_elsewhere(files, self.followed(key.as_str()))?,
                 };
             }
         }
@@ -140,7 +140,7 @@ impl Mirror {
         key: &str,
         departure: &Departure<'_>,
     ) -> Result<bool, TransferFault> {
-        let is_unwritten = match self.moves.destination(key) {
+        let is_unwritten = match self.followed(key) {
             Some(Destination::At(place)) => self.is_unwritten(files, place)?,
             Some(Destination::Replaced) | None => false,
         };

@@ -96,7 +96,7 @@ impl Mirror {
     /// deleted because of that, or since its bytes would be only in memory; what was written over stays under a name of its own, for the
     /// same reason; a temporary file is left; or the script changed something that the folder does not have as the script left it.
     pub fn differs(&self) -> bool
-        ensures spoilt { self.now.reports.is_spoilt ≡ true → result ≡ true }
+        ensures spoilt { self.now.reports.spoils.is_spoilt ≡ true → result ≡ true }
     {
         self.is_holding
             || self.is_lacking
@@ -155,21 +155,26 @@ impl Mirror {
         self.records.remove(key);
     }
 
-    // Notes that an object gives way to this machine's, if the Shell has one.
+    // Notes that an object gives way to this machine's, if the Shell has one. That is a loss to the end of the run, also if the script
+    // writes to that name again: what it held may be nowhere else.
     pub(crate) fn overrule(
         &mut self,
         files: &Ram,
         key: &str,
         path: &str,
         is_there: bool,
-    ) -> Result<(), TransferFault> {
-        if is_there {
-            self.reports.add_lost(key)?;
-            let place = self.place_of(key)?;
-            self.moves.note_replaced(&place);
-            self.backups.note_replaced(files, &place)?;
+    ) -> Result<(), TransferFault>
+        ensures spoilt { OnOk result (is_there ≡ true → self.new.reports.spoils.is_spoilt ≡ true) }
+    {
+        if !is_there {
+            return Ok(());
         }
-        if is_there && self.overruled.is_none() {
+        self.reports.add_lost(key)?;
+        let place = self.place_of(key)?;
+        self.moves.note_replaced(&place);
+        self.backups.note_replaced(files, &place)?;
+        self.reports.spoils.note_overruled(path)?;
+        if self.overruled.is_none() {
             self.overruled = Some(String::from_str(self.alloc, path)?);
         }
         Ok(())

@@ -215,8 +215,8 @@ impl Mirror {
         self.backups.forget_deleted(files);
     }
 
-    // What is in its place again as it was at the last comparison is followed no longer.
-    pub(crate) fn settle_moves(&mut self, files: &Ram) {
+    // What is in its place again as it was at the last comparison is followed here no longer.
+    pub(crate) fn drop_settled(&mut self, files: &Ram) {
         let records = &self.records;
         self.moves
             .by_key

@@ -3,6 +3,7 @@
 ghost use Rattle.std.specs.Prelude.{◌≡◌, true, false, OnOk, is_none};
 
 use crate::failures::Failures;
+use crate::spoils::Spoils;
 use ados_ram::Limits;
 use ados_transfer::{TransferFault, Volumes};
 use std::alloc::Global;
@@ -32,11 +33,8 @@ pub struct Reports {
     unread_before: BTreeSet<String>,
     // The Shell's files had no place for an object.
     is_full: bool,
-    // Nothing undoes it: another program deleted a large file that the script had renamed, wrote another in its place, or took its new name,
-    // before it had that; or the script made something above the top of a disk.
-    is_spoilt: bool,
-    // The first new name that was taken so.
-    taken: Option<String>,
+    /// What nothing undoes.
+    pub spoils: Spoils,
 }
 
 impl Reports {
@@ -55,8 +53,7 @@ impl Reports {
             unread: BTreeSet::new(alloc),
             unread_before: BTreeSet::new(alloc),
             is_full: false,
-            is_spoilt: false,
-            taken: None,
+            spoils: Spoils::new(alloc),
         }
     }
 
@@ -68,12 +65,12 @@ impl Reports {
     /// Something could not be read, written or brought in, and has not been since, or a change of the script is lost, or a file that it
     /// renamed.
     pub fn has_failed(&self) -> bool
-        ensures spoilt { self.now.is_spoilt ≡ true → result ≡ true }
+        ensures spoilt { self.now.spoils.is_spoilt ≡ true → result ≡ true }
     {
         !self.failing.is_empty()
             || !self.unread.is_empty()
             || !self.lost.is_empty()
-            || self.is_spoilt
+            || self.spoils.is_spoilt()
     }
 
     /// A change of the script is lost, since this machine's object stood.
@@ -150,51 +147,40 @@ impl Reports {
 
     /// Reports that another program deleted a large file whose stand-in the script renamed, before it got its new name.
     pub fn report_gone(&mut self, path: &str) -> Result<(), TransferFault>
-        ensures spoilt { OnOk result (self.new.is_spoilt ≡ true) }
+        ensures spoilt { OnOk result (self.new.spoils.is_spoilt ≡ true) }
     {
         self.report_once("gone, though the script renamed it", path)?;
-        self.is_spoilt = true;
+        self.spoils.spoil();
         Ok(())
     }
 
     /// Reports that another program wrote another file in place of such a one.
     pub fn report_replaced(&mut self, path: &str) -> Result<(), TransferFault>
-        ensures spoilt { OnOk result (self.new.is_spoilt ≡ true) }
+        ensures spoilt { OnOk result (self.new.spoils.is_spoilt ≡ true) }
     {
         self.report_once("written over, though the script renamed it", path)?;
-        self.is_spoilt = true;
+        self.spoils.spoil();
         Ok(())
     }
 
     /// Reports by this text that another program took the new name of such a one, which keeps its old one.
     pub fn report_taken(&mut self, text: &str, path: &str, new: &str) -> Result<(), TransferFault>
-        ensures spoilt { OnOk result (self.new.is_spoilt ≡ true) }
-        ensures taken { OnOk result (is_none self.new.taken ≡ false) }
+        ensures spoilt { OnOk result (self.new.spoils.is_spoilt ≡ true) }
+        ensures taken { OnOk result (is_none self.new.spoils.taken ≡ false) }
     {
         self.report_once(text, path)?;
-        self.is_spoilt = true;
-        if self.taken.is_none() {
-            self.taken = Some(String::from_str(self.alloc, new)?);
-        }
-        Ok(())
+        self.spoils.note_taken(new)
     }
 
     /// Reports that the script made an object outside of a device, above its top: this machine does not get it.
     pub fn report_beside(&mut self, device: &str, path: &str) -> Result<(), TransferFault>
-        ensures spoilt { OnOk result (self.new.is_spoilt ≡ true) }
+        ensures spoilt { OnOk result (self.new.spoils.is_spoilt ≡ true) }
     {
         self.report_line(format!(in self.alloc;
             "outside of {device}:, and gone at the end: {path}"
         )?)?;
-        self.is_spoilt = true;
+        self.spoils.spoil();
         Ok(())
-    }
-
-    /// The first new name that was taken so.
-    pub fn taken(&self) -> Option<&str>
-        ensures { is_none result ≡ is_none self.now.taken }
-    {
-        self.taken.as_deref()
     }
 
     /// Reports that a folder stays, since more is in it than the Shell knows, as this object, once until that is settled.

@@ -47,6 +47,27 @@ impl Mirror {
         Ok(())
     }
 
+    // Deletes a file that was moved aside, after one more look: those before it took their time. If it has changed it stays where it is, and
+    // a line says so.
+    pub(crate) fn delete_aside<R: AllocGlobal + Files>(
+        &mut self,
+        rt: &R,
+        aside: Aside,
+        account: &mut Account,
+    ) -> Result<(), TransferFault> {
+        let is_same = matches!(has_changed(rt, &aside), Ok(false));
+        let Aside { beside, record, .. } = aside;
+        match beside {
+            Some(beside) if is_same => {
+                // What cannot be deleted is told at the end of the update.
+                let _ = fs::remove_file(rt, beside.as_str());
+                Ok(())
+            }
+            Some(beside) => self.report_aside(beside, record.path.as_str(), account),
+            None => Ok(()),
+        }
+    }
+
     // Deletes an object that was written, if it is still that.
     fn take_back<R: AllocGlobal + Files>(
         &mut self,

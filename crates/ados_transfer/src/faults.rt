@@ -43,7 +43,7 @@ pub enum TransferFault {
     #[error("no empty directory for the share: {0}")]
     NoPlace(String),
     /// This device, which the Shell has, does not lead to an empty directory.
-    #[error("the Shell has its own {0}: share another device, and assign that")]
+    #[error("{0} is the Shell's own: share another device, and assign that")]
     OwnDevice(String),
     /// The folder of this name that is to be shared cannot be opened.
     #[error("cannot read {0}")]

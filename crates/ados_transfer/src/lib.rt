@@ -23,6 +23,7 @@ mod plan;
 mod planned;
 mod reasons;
 mod records;
+mod refusals;
 mod rights;
 mod room;
 mod script;

@@ -1,11 +1,15 @@
 //! Stamps of files of this machine, by which a change of one is noticed.
-ghost use Rattle.std.specs.Prelude.{◌≡◌};
+ghost use Rattle.std.specs.Prelude.{◌≡◌, nat_le};
+ghost use Rattle.std.specs.Time.{system_time_nanos};
 ghost use Rattle.ados_transfer.specs.Decisions.{is_same_time, is_same_stamp};
-ghost use Rattle.ados_transfer.specs.Stamps.{is_same_file};
+ghost use Rattle.ados_transfer.specs.Stamps.{is_same_file, last_nanos, time_nanos};
 
 use std::fs::Metadata;
 use std::os::unix::fs::MetadataExt;
 use std::time::{Duration, SystemTime};
+
+// A time without a fraction of a second may be that of a clock which stands still for so many nanoseconds.
+const WHOLE_TICK: u128 = 2_000_000_000;
 
 /// A time of a file.
 #[derive(Clone, Copy)]
@@ -35,6 +39,24 @@ impl Time {
         ensures { result ≡ is_same_time self.now other.now }
     {
         self.seconds == other.seconds && self.nanoseconds == other.nanoseconds
+    }
+
+    // Its nanoseconds since 1970.
+    fn since_1970(&self) -> u128
+        ensures { result ≡ time_nanos self.now }
+    {
+        u128::from(self.seconds) * 1_000_000_000 + u128::from(self.nanoseconds)
+    }
+
+    // The nanoseconds since 1970 at which the last change with this time may have been.
+    fn latest(&self) -> u128
+        ensures { result ≡ last_nanos self.now }
+    {
+        if self.nanoseconds == 0 {
+            self.since_1970() + WHOLE_TICK
+        } else {
+            self.since_1970()
+        }
     }
 }
 
@@ -100,6 +122,21 @@ impl Stamp {
         ));
         match now.duration_since(SystemTime::UNIX_EPOCH) {
             Ok(now) => changed.saturating_add(tick) >= now,
+            Err(_) => true,
+        }
+    }
+
+    /// The file may have been changed since this moment, by the time of the system, which no program can set.
+    ///
+    /// That clock stands still for up to 10 milliseconds, so a change so soon after the moment seems to be before it: the caller sees to it
+    /// that none comes then. To count as changed what seems to be just before it would be wrong: a script that writes a file and then
+    /// starts this program does so in less than that. But where a time has no fraction of a second, and the clock may stand still for two
+    /// seconds, nobody waits for it: what may have been changed was.
+    pub fn is_changed_since(&self, moment: &SystemTime) -> bool
+        ensures { result ≡ nat_le (system_time_nanos moment.now) (last_nanos self.now.changed) }
+    {
+        match moment.duration_since(SystemTime::UNIX_EPOCH) {
+            Ok(since_1970) => since_1970.as_nanos() <= self.changed.latest(),
             Err(_) => true,
         }
     }

@@ -1,61 +1,49 @@
 //! What is written out at the end: files and directories of the Shell, as files and folders of this machine.
 
-use crate::faults::{TransferFault, named};
+use crate::faults::TransferFault;
 use crate::file_number::FileNumber;
 use crate::paths::{ascii, last_piece};
-use crate::reasons::with_reason;
+use crate::refusals::{Refusal, not_taken};
+use crate::stamps::Stamp;
 use crate::stand_ins::own_entry;
 use crate::writing::{enter, no_memory, path_of, spelled, write_whole};
 use ados_assign::Assigns;
 use ados_names::Path;
 use ados_ram::{Entry, Place, Ram};
 use ados_text::Name;
-use std::alloc::{AllocFailed, Global};
+use std::alloc::Global;
 use std::collections::BTreeSet;
+use std::fs::Metadata;
 use std::io::ErrorKind;
 use std::rt::Files;
+use std::time::SystemTime;
 use std::{fs, io};
 
-/// Writes out what words of `--take` name. What some words wrote no others replace.
+/// Writes out what words of `--take` name. No words replace what others wrote, or what was changed since the run began.
 #[derive(Drop)]
 pub struct Taker<'a, R> {
     rt: &'a R,
     files: &'a Ram,
     assigns: &'a Assigns,
+    // When the run began; each file counts as changed since then if that is not known.
+    begun: Option<SystemTime>,
     // The files that were written.
     written: BTreeSet<FileNumber>,
 }
 
-// Why an object is not taken.
-#[derive(Drop)]
-enum Refusal {
-    // It is the stand-in of a file that is too large for the Shell, and holds nothing of it.
-    StandIn,
-    // Other words of --take wrote the file that is there.
-    OtherTake,
-    // The system refused.
-    Failure(io::Error),
-}
-
-impl From<io::Error> for Refusal {
-    fn from(error: io::Error) -> Refusal {
-        Refusal::Failure(error)
-    }
-}
-
-impl<T: Drop> From<AllocFailed<T>> for Refusal {
-    fn from(_error: AllocFailed<T>) -> Refusal {
-        Refusal::Failure(no_memory())
-    }
-}
-
 impl<'a, R: AllocGlobal + Files> Taker<'a, R> {
-    /// Nothing was written yet.
-    pub fn new(rt: &'a R, files: &'a Ram, assigns: &'a Assigns) -> Taker<'a, R> {
+    /// Nothing was written yet. The run began at this moment, before a program of it could write; `None` if no clock told it.
+    pub fn new(
+        rt: &'a R,
+        files: &'a Ram,
+        assigns: &'a Assigns,
+        begun: Option<SystemTime>,
+    ) -> Taker<'a, R> {
         Taker {
             rt,
             files,
             assigns,
+            begun,
             written: BTreeSet::new(rt.alloc()),
         }
     }
@@ -63,8 +51,8 @@ impl<'a, R: AllocGlobal + Files> Taker<'a, R> {
     /// Writes what words of `--take` name, as `NAME` or `NAME=PATH`.
     ///
     /// A file is written whole or not at all. Nothing is written outside the folder that is given. `StandIn` if an object is the
-    /// stand-in of a file that is too large for the Shell, which is never written; `CannotTake` if one could not be written, or words
-    /// before these wrote a file of its name. All others are.
+    /// stand-in of a file that is too large for the Shell, which is never written; `CannotTake` if one could not be written, or if a file
+    /// of its name is there that words before these wrote, or that was changed since the run began. All others are.
     pub fn take(&mut self, words: &str) -> Result<(), TransferFault> {
         let alloc = self.rt.alloc();
         let (name, path) = parted(alloc, self.files, self.assigns, words)?;
@@ -150,30 +138,31 @@ impl<'a, R: AllocGlobal + Files> Taker<'a, R> {
             return Err(Refusal::StandIn);
         };
         let target = path_of(self.rt.alloc(), folder, name)?;
-        if let Ok(found) = fs::symlink_metadata(self.rt, target.as_str())
-            && self.written.contains(&FileNumber::of(&found))
-        {
-            return Err(Refusal::OtherTake);
-        }
+        self.check_unchanged(target.as_str())?;
         let found = write_whole(self.rt, folder, name, bytes)?;
         self.written.insert(FileNumber::of(&found))?;
         Ok(())
     }
-}
 
-impl Refusal {
-    // The fault of words that name what is not taken.
-    fn into_fault(self, alloc: Global, words: &str) -> TransferFault {
-        match self {
-            Refusal::StandIn => named(alloc, words, TransferFault::StandIn),
-            Refusal::OtherTake => match format!(in alloc; "{words}: another --take wrote it") {
-                Ok(words) => TransferFault::CannotTake(words),
-                Err(_) => TransferFault::NoMemory,
-            },
-            Refusal::Failure(error) if error.kind() == ErrorKind::OutOfMemory => {
-                TransferFault::NoMemory
-            }
-            Refusal::Failure(error) => not_taken(alloc, words, error.kind()),
+    // Refuses to replace a file that other words wrote, or that was changed since the run began. Links and devices are refused later.
+    fn check_unchanged(&self, target: &str) -> Result<(), Refusal> {
+        let Ok(found) = fs::symlink_metadata(self.rt, target) else {
+            return Ok(());
+        };
+        if self.written.contains(&FileNumber::of(&found)) {
+            return Err(Refusal::OtherTake);
+        }
+        if found.is_file() && self.is_changed(&found) {
+            return Err(Refusal::Changed);
+        }
+        Ok(())
+    }
+
+    // A file was changed since the run began, or may have been.
+    fn is_changed(&self, found: &Metadata) -> bool {
+        match &self.begun {
+            Some(begun) => Stamp::of(found).is_changed_since(begun),
+            None => true,
         }
     }
 }
@@ -187,14 +176,6 @@ pub fn taken_place(
 ) -> Result<Option<Place>, TransferFault> {
     let (name, _) = parted(alloc, files, assigns, words)?;
     place_of(alloc, files, assigns, name)
-}
-
-// The fault of words that cannot be taken, with the reason.
-fn not_taken(alloc: Global, words: &str, kind: ErrorKind) -> TransferFault {
-    match with_reason(alloc, words, kind) {
-        Ok(words) => TransferFault::CannotTake(words),
-        Err(fault) => fault,
-    }
 }
 
 // The name and the path of `NAME=PATH`. A name that exists is taken as a whole.

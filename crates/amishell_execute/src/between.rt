@@ -65,7 +65,10 @@ impl<R: AllocGlobal + Files + Eprint + Processes + Clone + Drop + Clock, I: Read
     fn may_act(&self, world: &World, session: &Session<'_>, share: &Option<&mut Share>) -> bool
         requires count { session.now.schedule.taken < 2 ^ 64 - 1 }
     {
-        if self.checks.are_due() {
+        if self.checks.are_due()
+            && let Some(next) = session.next(world)
+            && self.checks.may_tell(world, next)
+        {
             return true;
         }
         match share {
@@ -74,7 +77,7 @@ impl<R: AllocGlobal + Files + Eprint + Processes + Clone + Drop + Clock, I: Read
         }
     }
 
-    // Attends to the time, to a script that begins, and to the shared folder, if there is one.
+    // Attends to the time, to a script that begins or is called, and to the shared folder, if there is one.
     #[inline(always)]
     #[tactic(auto, using(crate::proofs::Pairs::lines_stay))]
     fn act(

@@ -3,8 +3,8 @@
 use crate::beginning::Beginning;
 use crate::faults::Fault;
 use crate::origins_of;
-use ados_find::{Lookup, Refusal, find_file, is_path, place_of};
-use ados_flow::place_in_scripts;
+use crate::script_places::script_places;
+use ados_find::{Lookup, Refusal, find_file, place_of};
 use ados_ram::{Limits, Place, Ram};
 use ados_text::{NoMemory, Text};
 use ados_trace::ScriptNames;
@@ -73,14 +73,14 @@ impl<'a> Called<'a> {
         name: &Text,
         caller: Option<&str>,
     ) -> Result<Found, Fault> {
-        let mut found = self.look(rt, self.place(rt.alloc(), name)?, caller)?;
-        if found.is_none() && !is_path(name) {
-            found = self.look(rt, self.place_in_scripts(rt.alloc(), name)?, caller)?;
+        let beginning = &self.beginning;
+        let (state, directory) = (&beginning.state, &beginning.directory);
+        for place in script_places(rt.alloc(), &state.assigns, &state.ram, directory, name)? {
+            if let Some(found) = self.look(rt, &place, caller)? {
+                return Ok(found);
+            }
         }
-        match found {
-            Some(found) => Ok(found),
-            None => Ok(self.missing(name)),
-        }
+        Ok(self.missing(name))
     }
 
     /// What is found under the word of a command, which is none of the Shell's own.
@@ -99,23 +99,20 @@ impl<'a> Called<'a> {
         }
     }
 
-    // What Execute finds at a place, if a path leads to one and an object is there.
+    // What Execute finds at a place, if an object is there.
     fn look<R: AllocGlobal + Files>(
         &self,
         rt: &R,
-        place: Option<Place>,
+        place: &Place,
         caller: Option<&str>,
     ) -> Result<Option<Found>, Fault> {
-        let Some(place) = place else {
-            return Ok(None);
-        };
-        if self.is_own(&place, caller) {
+        if self.is_own(place, caller) {
             return Ok(Some(Found::Other));
         }
-        match self.beginning.state.ram.look(&place) {
+        match self.beginning.state.ram.look(place) {
             None => Ok(None),
             Some(entry) if entry.is_directory() => Ok(Some(Found::Nothing)),
-            Some(_) => Ok(Some(self.file_at(rt, &place)?)),
+            Some(_) => Ok(Some(self.file_at(rt, place)?)),
         }
     }
 
@@ -123,12 +120,6 @@ impl<'a> Called<'a> {
     fn place(&self, alloc: Global, path: &Text) -> Result<Option<Place>, NoMemory> {
         let beginning = &self.beginning;
         found_place(place_of(alloc, &beginning.state, &beginning.directory, path))
-    }
-
-    // The place of a name in S:, if it leads to one.
-    fn place_in_scripts(&self, alloc: Global, name: &Text) -> Result<Option<Place>, NoMemory> {
-        let beginning = &self.beginning;
-        found_place(place_in_scripts(alloc, &beginning.state, &beginning.directory, name))
     }
 
     // The place is that of a script of the command line: of the caller, if that is one.

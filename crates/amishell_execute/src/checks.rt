@@ -2,16 +2,15 @@
 ghost use Rattle.std.specs.Prelude.{◌≡◌, None, IfErr};
 ghost use Rattle.amishell_execute.specs.Playing.{drive_fault_of};
 
-use crate::callees::refused_callee;
+use crate::callees::{calls_by_name, refused_callee};
 use crate::faults::{Fault, report, unread_script};
 use crate::origins::Origins;
 use crate::refusals::{refusal_of, strike_mends};
+use crate::script_turn::ScriptTurn;
 use ados_check::{Finding, bad_directive, check, mark, mark_printed, merge_returns, strike};
-use ados_flow::{Frame, FrameKind};
 use ados_launch::Next;
 use ados_ram::Place;
-use ados_shell::Shell;
-use ados_text::{Name, NoMemory, Text, lines_of};
+use ados_text::{NoMemory, Text, lines_of};
 use ados_trace::ScriptNames;
 use ados_transfer::read_script;
 use ados_vars::Aliases;
@@ -33,6 +32,10 @@ pub struct Checks<'a> {
     reported: Vec<Text>,
     // The shells in which a frame began, and which had no turn since.
     begun: Vec<u8>,
+    // How often the script of the command line began.
+    runs: usize,
+    // A script that began calls another one by a plain name.
+    has_calls: bool,
 }
 
 /// The bytes of the script of the command line as it is brought in. Where Echo or Ask prints a byte above 127 it has `_`, which no
@@ -88,6 +91,8 @@ impl<'a> Checks<'a> {
             origins,
             reported,
             begun: Vec::new(alloc),
+            runs: 0,
+            has_calls: false,
         })
     }
 
@@ -97,15 +102,30 @@ impl<'a> Checks<'a> {
         Ok(())
     }
 
-    /// A frame began of which no line was taken yet.
+    /// A frame began of which no line was taken yet, or a line may call a script.
     pub fn are_due(&self) -> bool {
-        !self.begun.is_empty()
+        self.has_calls || !self.begun.is_empty()
+    }
+
+    /// Before this event something may be told.
+    #[inline(never)]
+    pub fn may_tell(&self, world: &World, next: Next) -> bool {
+        if !self.begun.is_empty() {
+            return true;
+        }
+        let Next::Turn(number) = next else {
+            return false;
+        };
+        ScriptTurn::of(world, number)
+            .and_then(|turn| turn.line())
+            .is_some_and(calls_by_name)
     }
 
     /// Before an event, while checks are due: if a shell is to take the first line of a script, all lines of that script are checked,
-    /// with its arguments in them.
+    /// with its arguments in them. If a line calls a script that would not begin, the lines of that one are.
     ///
-    /// `NotRun` if one of them must not be run as it is, `NothingRun` if that is the script of the command line; with `--lenient` they are only reported, once for each script.
+    /// `NotRun` if a line of the script must not be run as it is, `NotCalled` if one of the called script must not, and `NothingRun` if
+    /// no command of the script of the command line returned before. With `--lenient` the first is only reported, once for each script.
     pub fn attend<R: AllocGlobal + Eprint>(
         &mut self,
         rt: &R,
@@ -118,13 +138,27 @@ impl<'a> Checks<'a> {
             return Ok(());
         };
         self.begun.retain(|begun| *begun != number);
-        match begun_script(world, number) {
-            Some((shell, frame)) => {
-                self.check_frame(rt, world, shell, frame)?;
-                self.check_callees(rt, world, shell, frame)
-            }
-            None => Ok(()),
+        let Some(turn) = ScriptTurn::of(world, number) else {
+            return Ok(());
+        };
+        if turn.is_first {
+            self.check_frame(rt, world, &turn)?;
         }
+        self.check_call(rt, world, &turn)?;
+        self.note(&turn);
+        Ok(())
+    }
+
+    // A line of a script is taken.
+    fn note(&mut self, turn: &ScriptTurn<'_>) {
+        if !turn.is_first {
+            return;
+        }
+        if *turn.name == self.script {
+            self.runs = self.runs.saturating_add(1);
+        }
+        self.has_calls = self.has_calls
+            || !self.is_lenient && turn.frame.further().iter().any(calls_by_name);
     }
 
     // Checks the lines of a script that begins in a shell.
@@ -132,18 +166,16 @@ impl<'a> Checks<'a> {
         &mut self,
         rt: &R,
         world: &World,
-        shell: &Shell,
-        frame: &Frame,
+        turn: &ScriptTurn<'_>,
     ) -> Result<(), Fault>
         ensures { IfErr result (λ why. drive_fault_of why ≡ None) }
     {
-        let FrameKind::Script { name, .. } = frame.kind() else {
-            return Ok(());
-        };
         let alloc = rt.alloc();
-        let bytes = bytes_at(alloc, world, name)?;
-        let aliases = &shell.settings().aliases;
-        let mut found = check(alloc, world.dialect(), aliases, frame.further(), &bytes)?;
+        let name = turn.name;
+        let bytes = turn.bytes(alloc, world)?;
+        let lines = turn.frame.further();
+        let aliases = &turn.shell.settings().aliases;
+        let mut found = check(alloc, world.dialect(), aliases, lines, &bytes)?;
         if found.is_empty() {
             return Ok(());
         }
@@ -162,45 +194,62 @@ impl<'a> Checks<'a> {
             let is_struck = *name == self.script
                 && strike_mends(alloc, world.dialect(), &found, &bytes)?;
             let refusal = format!(in alloc; "{shown} {}", refusal_of(is_struck))?;
-            return Err(self.refused(name, refusal));
+            return Err(self.not_run(turn, refusal));
         }
         Ok(())
     }
 
-    // Checks the scripts that those lines call by name, and that would not begin.
-    fn check_callees<R: AllocGlobal + Eprint>(
+    // Checks the script that the line which is taken calls by name, if it would not begin.
+    fn check_call<R: AllocGlobal + Eprint>(
         &self,
         rt: &R,
         world: &World,
-        shell: &Shell,
-        frame: &Frame,
+        turn: &ScriptTurn<'_>,
     ) -> Result<(), Fault>
         ensures { IfErr result (λ why. drive_fault_of why ≡ None) }
     {
-        let FrameKind::Script { name, .. } = frame.kind() else {
-            return Ok(());
-        };
         if self.is_lenient {
             return Ok(());
         }
-        let Some(callee) = refused_callee(rt.alloc(), world, shell, frame.further())? else {
+        let Some(line) = turn.line() else {
+            return Ok(());
+        };
+        let Some(callee) = refused_callee(rt.alloc(), world, turn.shell, line)? else {
             return Ok(());
         };
         let shown = self.origins.name(&callee.name)?;
         let _ = report_all(rt, shown.as_str(), &callee.found, true)?;
-        let refusal = format!(in rt.alloc(); "{shown} {}", refusal_of(false))?;
-        Err(self.refused(name, refusal))
+        let refusal = format!(in rt.alloc(); "{shown} is not run, since it has a bad directive")?;
+        Err(self.not_called(turn, refusal))
     }
 
-    // The fault of a script that is not run, or that calls one which must not be.
-    fn refused(&self, name: &Text, refusal: String) -> Fault
+    // The fault of a script that is not run.
+    fn not_run(&self, turn: &ScriptTurn<'_>, refusal: String) -> Fault
         ensures { drive_fault_of result ≡ None }
     {
-        if *name == self.script {
-            Fault::NothingRun(refusal)
+        if self.is_nothing_done(turn) {
+            Fault::NothingRun(None, refusal)
         } else {
             Fault::NotRun(refusal)
         }
+    }
+
+    // The fault of a script that is not called by the line which is taken.
+    fn not_called(&self, turn: &ScriptTurn<'_>, refusal: String) -> Fault
+        ensures { drive_fault_of result ≡ None }
+    {
+        let caller = turn.shell.number();
+        if self.is_nothing_done(turn) {
+            Fault::NothingRun(Some(caller), refusal)
+        } else {
+            Fault::NotCalled(caller, refusal)
+        }
+    }
+
+    // This is the script of the command line, which begins for the first time, and no command of it has returned.
+    fn is_nothing_done(&self, turn: &ScriptTurn<'_>) -> bool {
+        let runs = if turn.is_first { 0 } else { 1 };
+        *turn.name == self.script && self.runs == runs && turn.frame.last_line() == 0
     }
 
     // Problems of this script were not reported yet; from now on they were.
@@ -213,16 +262,6 @@ impl<'a> Checks<'a> {
     }
 }
 
-// The script of a shell whose first line is taken next, and the shell.
-fn begun_script(world: &World, number: u8) -> Option<(&Shell, &Frame)> {
-    let shell = world.shell(number)?;
-    let frame = shell.frames().last()?;
-    match frame.script_line() {
-        Some((_, 0)) => Some((shell, frame)),
-        _ => None,
-    }
-}
-
 // The internal command of this name is the one that is found under it: it was not taken off the resident list, and no entry has its name.
 fn prints(alloc: Global, world: &World, name: &str) -> Result<bool, NoMemory> {
     let name = Text::from_bytes(alloc, name.as_bytes())?;
@@ -231,26 +270,6 @@ fn prints(alloc: Global, world: &World, name: &str) -> Result<bool, NoMemory> {
         .internal(&name)
         .is_some_and(|internal| !internal.is_disabled);
     Ok(is_enabled && residents.find(&name).is_none())
-}
-
-// The bytes of the file at a full path; none if it is gone.
-fn bytes_at(alloc: Global, world: &World, path: &Text) -> Result<Vec<u8>, NoMemory> {
-    let place = place_at(alloc, path)?;
-    match world.files().look(&place).and_then(|entry| entry.bytes()) {
-        Some(bytes) => bytes.to_vec(alloc),
-        None => Ok(Vec::new(alloc)),
-    }
-}
-
-// The place of a full path: the names after the colon, which slashes separate.
-fn place_at(alloc: Global, path: &Text) -> Result<Place, NoMemory> {
-    let bytes = path.as_bytes();
-    let names = bytes.strip_prefix(b"RAM:").unwrap_or(bytes);
-    let mut place = Place::root(alloc);
-    for name in names.split(|byte| *byte == b'/') {
-        place = place.with(Name::new(Text::from_bytes(alloc, name)?))?;
-    }
-    Ok(place)
 }
 
 // Reports what was found in a script, but harmless problems only if they are new, all of them in one line; gives whether one was

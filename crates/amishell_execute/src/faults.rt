@@ -65,9 +65,12 @@ pub enum Fault {
     /// Lines of a script must not be run as they are; its name, and how it is run all the same.
     #[error("{0}")]
     NotRun(String),
-    /// The same of the script of the command line: nothing ran.
-    #[error("{0}")]
-    NothingRun(String),
+    /// The next line of this shell calls a script of which that is so, and which would not begin.
+    #[error("{1}")]
+    NotCalled(u8, String),
+    /// The same as one of these, before a command of the script of the command line returned; the shell whose next line calls, if one does.
+    #[error("{1}")]
+    NothingRun(Option<u8>, String),
     /// There was no memory.
     #[error("out of memory")]
     Memory,
@@ -95,7 +98,8 @@ impl Drop for Fault {
             | Fault::NotInPath(_text)
             | Fault::Unanswered(_text)
             | Fault::NotRun(_text)
-            | Fault::NothingRun(_text) => {}
+            | Fault::NotCalled(_, _text)
+            | Fault::NothingRun(_, _text) => {}
             Fault::CannotRead(_unread) | Fault::ScriptUnread(_unread) => {}
             Fault::HostLine {
                 file: _file,

@@ -2,21 +2,21 @@
 
 use crate::called::{Called, Found, called_bytes};
 use crate::faults::{Fault, unread_script};
-use crate::refusals::{is_struck, refusal_of};
+use crate::inspection_lines::{Lines, ScriptReport};
+use crate::missing_devices::Devices;
+use crate::refusals::is_struck;
 use crate::status::Status;
 use ados_check::{
-    Finding, Problem, inspect, mark, mark_printed, may_make_alias, merge_returns, strike,
+    Finding, Problem, inspect, mark, mark_printed, merge_returns, new_devices, strike,
 };
-use ados_text::{NoMemory, Text};
+use ados_text::{NoMemory, Text, lines_of};
 use ados_trace::escaped;
 use ados_transfer::{TransferFault, read_script};
 use execute_options::Options;
 use std::alloc::Global;
-use std::collections::BTreeSet;
-use std::io::Write;
+use std::fs;
 use std::rt::{Env, Files};
 use std::time::Clock;
-use std::{fs, io};
 
 // At most this many scripts are looked at.
 const SCRIPTS: usize = 1024;
@@ -30,8 +30,10 @@ struct Inspector<'a> {
     typed: Vec<Text>,
     // Those that were found so far.
     scripts: Vec<Script>,
-    // The lines that were written.
-    told: BTreeSet<String>,
+    // The devices that they find.
+    devices: Devices,
+    // What was found in them, which is told at the end: a script that is called may assign a device for its caller.
+    reports: Vec<ScriptReport>,
 }
 
 // A script that is looked at.
@@ -44,47 +46,46 @@ struct Script {
     is_given: bool,
 }
 
-// What a finding is.
-#[derive(Clone, Copy)]
-enum Verdict {
-    Note,
-    Error,
-    // The script is not run because of it, as this text says.
-    Refusal(&'static str),
-}
-
 /// Writes a line on standard output for each thing that is found in the scripts of the command line and in those that they call;
 /// gives `Wrong` if there is an error, otherwise `Done`.
 pub fn inspect_all<R: Env + AllocGlobal + Files + Print + Clone + Drop + Clock>(
     rt: &R,
     options: &Options<'_>,
 ) -> Result<Status, Fault> {
+    let typed = typed_lines(rt.alloc(), options)?;
     let mut inspector = Inspector {
         options,
         called: Called::of(rt, options)?,
-        typed: typed_lines(rt.alloc(), options)?,
+        devices: Devices::of(rt, options, &typed)?,
+        typed,
         scripts: Vec::new(rt.alloc()),
-        told: BTreeSet::new(rt.alloc()),
+        reports: Vec::new(rt.alloc()),
     };
     inspector.add(rt, options.script, true)?;
     for path in &options.args {
         inspector.add(rt, path, true)?;
     }
-    let mut status = Status::Done;
-    for place in 0..SCRIPTS {
-        let Some(script) = inspector.scripts.get(place) else {
-            break;
-        };
-        let is_given = script.is_given;
-        let path = String::from_str(rt.alloc(), script.path.as_str())?;
-        if inspector.inspect_one(rt, path.as_str(), is_given)? {
-            status = Status::Wrong;
-        }
-    }
+    let looked = inspector.look_at_all(rt);
+    let mut lines = Lines::of(rt.alloc(), options, &inspector.typed, &inspector.devices);
+    let status = lines.tell_all(rt, &inspector.reports)?;
+    looked?;
     Ok(status)
 }
 
 impl Inspector<'_> {
+    // Looks at all scripts, and at those that they call.
+    fn look_at_all<R: AllocGlobal + Files + Clone + Drop>(&mut self, rt: &R) -> Result<(), Fault> {
+        for place in 0..SCRIPTS {
+            let Some(script) = self.scripts.get(place) else {
+                break;
+            };
+            let is_given = script.is_given;
+            let path = String::from_str(rt.alloc(), script.path.as_str())?;
+            self.look_at(rt, path, is_given)?;
+        }
+        Ok(())
+    }
+
     // A script at this path is looked at too, once as one of the command line and once as one that is called.
     fn add<R: AllocGlobal + Files>(
         &mut self,
@@ -109,36 +110,59 @@ impl Inspector<'_> {
         Ok(())
     }
 
-    // Looks at a script; gives whether it has an error.
-    fn inspect_one<R: AllocGlobal + Files + Print + Clone + Drop>(
+    // Looks at a script.
+    fn look_at<R: AllocGlobal + Files + Clone + Drop>(
         &mut self,
         rt: &R,
-        path: &str,
+        path: String,
         is_given: bool,
-    ) -> Result<bool, Fault> {
-        let Some(mut script) = self.script_at(rt, path, is_given)? else {
-            return Ok(false);
+    ) -> Result<(), Fault> {
+        let Some(mut script) = self.script_at(rt, path.as_str(), is_given)? else {
+            return Ok(());
         };
-        let mut found = Vec::new(rt.alloc());
+        let alloc = rt.alloc();
+        let mut found = Vec::new(alloc);
         if is_given {
-            found = self.mend(rt.alloc(), &mut script)?;
+            found = self.mend(alloc, &mut script)?;
         }
-        for finding in inspect(rt.alloc(), self.options.dialect, &self.typed, &script)? {
-            found.push(finding)?;
-        }
-        merge_returns(&mut found);
-        found.sort_by(|a, b| a.line.cmp(&b.line))?;
+        self.push_problems(alloc, &script, is_given, &mut found)?;
         let may_strike = is_given && is_struck(&found);
-        let caller = is_given.then_some(path);
-        let mut is_wrong = false;
-        for finding in &found {
+        let mut missed = Vec::new(alloc);
+        let caller = is_given.then_some(path.as_str());
+        for finding in found {
             if !self.is_known(rt, &finding.problem, caller)? {
-                let verdict = self.verdict(rt.alloc(), &finding.problem, may_strike)?;
-                self.tell(rt, path, finding, verdict)?;
-                is_wrong = is_wrong || !matches!(verdict, Verdict::Note);
+                missed.push(finding)?;
             }
         }
-        Ok(is_wrong)
+        self.reports.push(ScriptReport {
+            path,
+            is_given,
+            may_strike,
+            unread: None,
+            found: missed,
+        })?;
+        Ok(())
+    }
+
+    // Adds what is found in the lines of a script, in their order; the devices that they assign are known from then on.
+    fn push_problems(
+        &mut self,
+        alloc: Global,
+        script: &[u8],
+        is_given: bool,
+        found: &mut Vec<Finding>,
+    ) -> Result<(), NoMemory> {
+        for finding in inspect(alloc, self.options.dialect, &self.typed, script)? {
+            found.push(finding)?;
+        }
+        let lines = lines_of(alloc, script)?;
+        self.devices.add(lines.as_slice(), is_given)?;
+        for finding in new_devices(alloc, self.options.dialect, lines.as_slice())? {
+            found.push(finding)?;
+        }
+        merge_returns(found);
+        found.sort_by(|a, b| a.line.cmp(&b.line))?;
+        Ok(())
     }
 
     // Does to a script of the command line what is done to it before it runs; gives what is found of the bytes that it prints.
@@ -152,37 +176,9 @@ impl Inspector<'_> {
         mark_printed(alloc, script)
     }
 
-    // What a problem is in a run: because of some the script is not run, unless the run is lenient or an alias may be meant.
-    fn verdict(
-        &self,
-        alloc: Global,
-        problem: &Problem,
-        may_strike: bool,
-    ) -> Result<Verdict, NoMemory> {
-        let is_refused = problem.is_refused();
-        if is_refused && (self.options.lenient || self.may_be_alias(alloc, problem)?) {
-            return Ok(Verdict::Note);
-        }
-        Ok(if problem.is_error() {
-            Verdict::Error
-        } else if is_refused {
-            Verdict::Refusal(refusal_of(may_strike))
-        } else {
-            Verdict::Note
-        })
-    }
-
-    // A typed line may make the command with an option left out an alias, which is another command then.
-    fn may_be_alias(&self, alloc: Global, problem: &Problem) -> Result<bool, NoMemory> {
-        match problem.command_left_out() {
-            Some(command) => may_make_alias(alloc, self.typed.as_slice(), command.as_bytes()),
-            None => Ok(false),
-        }
-    }
-
     // A script as the Shell has it: a carriage return at the end of a line is taken off those of the command line alone. One that is called
     // and can't be read is told of, and passed over.
-    fn script_at<R: AllocGlobal + Files + Print>(
+    fn script_at<R: AllocGlobal + Files>(
         &mut self,
         rt: &R,
         path: &str,
@@ -200,8 +196,13 @@ impl Inspector<'_> {
             Err(TransferFault::NoMemory) => Err(Fault::Memory),
             Err(fault) => {
                 let line = format!(in rt.alloc(); "{path}:1: note: {fault}")?;
-                let line = escaped(rt.alloc(), &line)?;
-                self.write_line(rt, line)?;
+                self.reports.push(ScriptReport {
+                    path: String::from_str(rt.alloc(), path)?,
+                    is_given,
+                    may_strike: false,
+                    unread: Some(escaped(rt.alloc(), &line)?),
+                    found: Vec::new(rt.alloc()),
+                })?;
                 Ok(None)
             }
         }
@@ -227,41 +228,6 @@ impl Inspector<'_> {
             Found::Other => Ok(true),
             Found::Nothing => Ok(false),
         }
-    }
-
-    // Writes the line of a finding, as a compiler does.
-    fn tell<R: AllocGlobal + Print>(
-        &mut self,
-        rt: &R,
-        path: &str,
-        finding: &Finding,
-        verdict: Verdict,
-    ) -> Result<(), Fault> {
-        let kind = match verdict {
-            Verdict::Note => "note",
-            Verdict::Error | Verdict::Refusal(_) => "error",
-        };
-        let line = format!(in rt.alloc(); "{path}:{}: {kind}: {}", finding.line, finding.problem)?;
-        // A terminal obeys control characters, and a newline would begin another line.
-        let mut line = escaped(rt.alloc(), &line)?;
-        if let Verdict::Refusal(refusal) = verdict {
-            line.push_str(": the script ")?;
-            line.push_str(refusal)?;
-        }
-        self.write_line(rt, line)
-    }
-
-    // Writes a line, once: of a script that is looked at twice most of it is said twice.
-    fn write_line<R: AllocGlobal + Print>(&mut self, rt: &R, line: String) -> Result<(), Fault> {
-        if self.told.contains(line.as_str()) {
-            return Ok(());
-        }
-        let whole = format!(in rt.alloc(); "{line}\n")?;
-        if io::writer(rt).write_all(whole.as_bytes()).is_err() {
-            return Err(Fault::Write);
-        }
-        self.told.insert(line)?;
-        Ok(())
     }
 }
 

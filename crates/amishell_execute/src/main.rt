@@ -7,6 +7,7 @@ ghost use Rattle.amishell_execute.specs.Status.{exit_status, number_of};
 
 mod alone;
 mod beginning;
+mod begun;
 mod between;
 mod called;
 mod callees;
@@ -21,16 +22,20 @@ mod faults;
 mod home;
 mod host_faults;
 mod hosts;
+mod inspection_lines;
 mod inspections;
 mod launcher;
 mod losses;
 mod lost_jumps;
+mod missing_devices;
 mod origins;
 mod outcome;
 mod pace;
 mod play;
 mod reader;
 mod refusals;
+mod script_places;
+mod script_turn;
 mod share;
 mod stands;
 mod status;
@@ -45,6 +50,7 @@ use ados_text::{NoMemory, Text};
 use ados_trace::Traced;
 use ados_transfer::{Lines, Plan, bring, bring_script, taken_place};
 use ados_world::World;
+use begun::pass_tick;
 use checks::{Checks, read_checked};
 use deadline::Deadline;
 use descriptors::held_descriptors;
@@ -55,7 +61,7 @@ use hosts::{hosts_for, world_with};
 use inspections::inspect_all;
 use losses::{Kept, tell_losses};
 use origins::Origins;
-use outcome::hand_out;
+use outcome::{Taking, hand_out};
 use play::{Script, play};
 use share::Share;
 use stands::status_after;
@@ -63,7 +69,7 @@ use status::Status;
 use std::io::{Eprint, Write};
 use std::process::{ExitCode, Processes};
 use std::rt::{Env, Files};
-use std::time::Clock;
+use std::time::{Clock, SystemTime};
 use std::{fs, io};
 use teller::Teller;
 use trail::Trail;
@@ -162,6 +168,7 @@ fn run_script<
 ) -> Result<Status, Fault>
     requires agrees { Agrees world.old [] }
 {
+    let begun = SystemTime::now(rt).ok();
     let mut plan = Plan::new(rt.alloc(), options.mirror.limits, world.files())?;
     let place = add_files(rt, options, world, &mut plan)?;
     let lines = lines_for(rt, options, share.as_ref(), &plan, &place)?;
@@ -179,14 +186,13 @@ fn run_script<
         origins: &origins,
     };
     let traced = options.trace.then_some(&origins);
+    pass_tick(rt, options, begun);
     let ended = play_watched(rt, world, script, share.as_mut(), traced);
-    let has_begun = !matches!(ended, Err(Fault::NothingRun(..)));
-    let outcome = hand_out(rt, options, world, share.as_mut(), has_begun)?;
+    let taking = Taking::after(&ended, begun);
+    let outcome = hand_out(rt, options, world, share.as_mut(), taking)?;
     let code = ended.as_ref().ok().map(|end| end.code);
     let status = settle(rt, status_after(rt, options, world, &origins, ended));
-    if !options.quiet {
-        tell_gone(rt, options, world, share.as_ref(), kept)?;
-    }
+    tell_gone(rt, options, world, share.as_ref(), kept)?;
     outcome.status(rt, code, status)
 }
 
@@ -248,7 +254,7 @@ fn add_files<R: AllocGlobal + Files + Eprint + Clone + Drop>(
     Ok(bring_script(rt, world.files(), options.script, &bytes, plan)?)
 }
 
-// Tells which files are gone.
+// Tells which files are gone, unless no such line is wanted.
 fn tell_gone<R: AllocGlobal + Eprint>(
     rt: &R,
     options: &Options<'_>,
@@ -256,6 +262,9 @@ fn tell_gone<R: AllocGlobal + Eprint>(
     share: Option<&Share>,
     mut kept: Kept<'_>,
 ) -> Result<(), Fault> {
+    if options.quiet {
+        return Ok(());
+    }
     if let Some(share) = share {
         for volume in share.volumes() {
             kept.add(&volume.place)?;

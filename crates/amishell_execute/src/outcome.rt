@@ -5,6 +5,7 @@ ghost use Rattle.amishell_execute.specs.Status.{exit_status, number_of};
 use crate::faults::{Fault, report};
 use crate::share::Share;
 use crate::status::Status;
+use ados_launch::End;
 use ados_text::{Code, NoMemory};
 use ados_transfer::Taker;
 use ados_world::World;
@@ -12,7 +13,27 @@ use execute_options::Options;
 use std::fmt::Write;
 use std::io::Eprint;
 use std::rt::Files;
-use std::time::Clock;
+use std::time::{Clock, SystemTime};
+
+/// What is taken after a run.
+#[derive(Clone, Copy)]
+pub enum Taking {
+    /// Nothing, since nothing ran.
+    Nothing,
+    /// What is asked for, but in place of no file that was changed since this moment, at which the run began; each one was if it is not
+    /// known.
+    Asked(Option<SystemTime>),
+}
+
+impl Taking {
+    /// What is taken after a run that began at this moment and ended like this.
+    pub fn after(ended: &Result<End, Fault>, begun: Option<SystemTime>) -> Taking {
+        match ended {
+            Err(Fault::NothingRun(..)) => Taking::Nothing,
+            _ => Taking::Asked(begun),
+        }
+    }
+}
 
 /// What of a run came to this machine.
 #[derive(Clone, Copy)]
@@ -52,32 +73,40 @@ impl Outcome {
     }
 }
 
-/// Brings the shared folders up to date, if there are any, and takes what is asked for: even if they could not be brought up to date, but
-/// not if they did not come in, or if nothing ran (`has_begun`).
+/// Brings the shared folders up to date, if there are any, and takes what is to be taken: even if they could not be brought up to date,
+/// but not if they did not come in.
 pub fn hand_out<R: AllocGlobal + Files + Eprint + Clone + Drop + Clock>(
     rt: &R,
     options: &Options<'_>,
     world: &World,
     share: Option<&mut Share>,
-    has_begun: bool,
+    taking: Taking,
 ) -> Result<Outcome, Fault> {
     let Some(share) = share else {
         return Ok(Outcome {
             is_alike: true,
-            is_taken: has_begun && take_all(rt, options, world),
+            is_taken: take_all(rt, options, world, taking),
         });
     };
     let closed = share.close(rt, world);
-    let is_taken = has_begun && share.is_filled() && take_all(rt, options, world);
+    let is_taken = share.is_filled() && take_all(rt, options, world, taking);
     Ok(Outcome {
         is_alike: closed?,
         is_taken,
     })
 }
 
-// Takes what is asked for; gives whether all was taken.
-fn take_all<R: AllocGlobal + Files + Eprint>(rt: &R, options: &Options<'_>, world: &World) -> bool {
-    let mut taker = Taker::new(rt, world.files(), world.assigns());
+// Takes what is to be taken; gives whether that is all that is asked for.
+fn take_all<R: AllocGlobal + Files + Eprint>(
+    rt: &R,
+    options: &Options<'_>,
+    world: &World,
+    taking: Taking,
+) -> bool {
+    let Taking::Asked(begun) = taking else {
+        return false;
+    };
+    let mut taker = Taker::new(rt, world.files(), world.assigns(), begun);
     let mut is_taken = true;
     for words in &options.take {
         if let Err(fault) = taker.take(words) {

@@ -13,7 +13,6 @@ use ados_text::{Code, NoMemory};
 use ados_trace::{ScriptNames, script_name};
 use ados_world::World;
 use execute_options::Options;
-use std::fmt::Display;
 use std::io::Eprint;
 
 /// The exit status of a run. At a limit, and if a script is not run, the lines say where the scripts stand, and one tells a code that is no
@@ -39,7 +38,10 @@ pub fn status_after<R: AllocGlobal + Eprint>(
         Err(fault) => {
             let status = fault.status();
             if matches!(status, Status::Limit)
-                || matches!(fault, Fault::NotRun(..) | Fault::NothingRun(..))
+                || matches!(
+                    fault,
+                    Fault::NotRun(..) | Fault::NotCalled(..) | Fault::NothingRun(..)
+                )
             {
                 tell_stop(rt, options, world, origins, fault)?;
                 Ok(status)
@@ -77,34 +79,58 @@ fn tell_stop<R: AllocGlobal + Eprint>(
 }
 
 // Tells for each script that runs, the newest of a shell first, in which line it stands, and why it goes no further; gives whether
-// one runs.
-fn tell_stands<R: AllocGlobal + Eprint, T: Display>(
+// one runs. One that was to call another stands in the line that calls it.
+fn tell_stands<R: AllocGlobal + Eprint>(
     rt: &R,
     world: &World,
     origins: &Origins<'_>,
-    why: &T,
+    why: &Fault,
 ) -> Result<bool, NoMemory> {
+    let caller = caller_of(why);
     let mut is_told = false;
     for number in 1..=20 {
         let frames = match world.shell(number) {
             Some(shell) => shell.frames(),
             None => &[],
         };
-        for frame in frames.iter().rev() {
-            is_told |= tell_stand(rt, frame, origins, why)?;
+        for (older, frame) in frames.iter().rev().enumerate() {
+            let line = if older == 0 && number == caller {
+                frame.position().saturating_add(1)
+            } else {
+                line_of(frame)
+            };
+            is_told |= tell_stand(rt, frame, line, origins, why)?;
         }
     }
     Ok(is_told)
 }
 
-// Tells in which line a frame stands, if it is a script that has begun; gives whether it is.
-fn tell_stand<R: AllocGlobal + Eprint, T: Display>(
+// The number of the shell whose next line calls a script that is not run; or else 0.
+fn caller_of(why: &Fault) -> u8 {
+    match why {
+        Fault::NotCalled(caller, _) => *caller,
+        Fault::NothingRun(caller, _) => caller.unwrap_or(0),
+        _ => 0,
+    }
+}
+
+// The line in which the command of a frame is, if it is a script that has begun; or else 0.
+fn line_of(frame: &Frame) -> usize {
+    match frame.script_line() {
+        Some((_, line)) => line,
+        None => 0,
+    }
+}
+
+// Tells that a frame stands in this line, if it is a script that has begun; gives whether it is.
+fn tell_stand<R: AllocGlobal + Eprint>(
     rt: &R,
     frame: &Frame,
+    line: usize,
     origins: &Origins<'_>,
-    why: &T,
+    why: &Fault,
 ) -> Result<bool, NoMemory> {
-    let (Some(name), Some((script, line))) = (script_name(frame), frame.script_line()) else {
+    let (Some(name), Some((script, _))) = (script_name(frame), frame.script_line()) else {
         return Ok(false);
     };
     if line == 0 {

@@ -10,6 +10,7 @@ ghost use Rattle.execute_options.specs.Numbers.{AreInRange, numbers_of};
 ghost use Rattle.execute_options.specs.OptionLines.{absolute, default_path};
 
 use crate::command::matches_of_options;
+use crate::error_names::check_errors;
 use crate::faults::OptionsFault;
 use crate::given::has_flag;
 use crate::mistakes::{bad_line, refusal};
@@ -151,6 +152,7 @@ fn matches_of(alloc: Global, options: &[OptionLine]) -> Result<ArgMatches<'_>, R
         Err(error) => return Err(refusal(alloc, &error)),
     };
     let _ = Numbers::of(alloc, &matches)?;
+    check_errors(alloc, &matches)?;
     Ok(matches)
 }
 

@@ -103,15 +103,15 @@ fn hosts_beside<'a>(
         .collect(alloc)
 }
 
-// Other words of `--host` are of the same command.
-fn is_host_among(others: &[&str], words: &str) -> bool
+/// Other words of `--host`, or of `--error`, are of the same command.
+pub fn is_host_among(others: &[&str], words: &str) -> bool
     ensures { result ≡ is_host_among (map (λ words. words.now) others.now) words.now }
 {
     others.iter().any(|other| same_name(host_name(words).as_bytes(), host_name(other).as_bytes()))
 }
 
-// The command's name in words of `--host`.
-fn host_name(words: &str) -> &str
+/// The command's name in words of `--host` or of `--error`.
+pub fn host_name(words: &str) -> &str
     ensures { result.now ≡ host_name words.now }
 {
     match words.split_once('=') {

@@ -3,6 +3,7 @@
 
 mod command;
 mod config;
+mod error_names;
 mod faults;
 mod given;
 mod mistakes;

@@ -9,6 +9,7 @@ ghost use Rattle.ados_resident.specs.declared.dialects.Dialect.TheVariants.{Core
 
 use crate::command::matches_of_words;
 use crate::config::Config;
+use crate::error_names::check_errors;
 use crate::faults::OptionsFault;
 use crate::given::Given;
 use crate::mistakes::{bad_line, refusal};
@@ -94,8 +95,8 @@ fn first_option<'a>(words: &[&'a str]) -> Option<&'a str>
 
 /// What a command line asks for with a file of options.
 ///
-/// `BadLine` if a line of the file is no option, if a number is not in its range, or if an option of the command line lacks another
-/// one that it needs.
+/// `BadLine` if a line of the file is no option, if a number is not in its range, if a command has two codes by `--error` in one place,
+/// or if an option of the command line lacks another one that it needs.
 pub fn asked_options<'a>(
     alloc: Global,
     typed: ArgMatches<'a>,
@@ -103,6 +104,7 @@ pub fn asked_options<'a>(
 ) -> Result<Options<'a>, Refused> {
     let file = config.matches(alloc)?;
     let numbers = Numbers::of(alloc, &typed)?.or(Numbers::of(alloc, &file)?);
+    check_errors(alloc, &typed)?;
     let given = Given { typed, file };
     for name in ["all", "part", "dry"] {
         if given.typed.get_flag(name) && given.get_str("share").is_none() {
