@@ -52,27 +52,49 @@ pub fn inspect_all<R: Env + AllocGlobal + Files + Print + Clone + Drop + Clock>(
     rt: &R,
     options: &Options<'_>,
 ) -> Result<Status, Fault> {
-    let typed = typed_lines(rt.alloc(), options)?;
-    let mut inspector = Inspector {
-        options,
-        called: Called::of(rt, options)?,
-        devices: Devices::of(rt, options, &typed)?,
-        typed,
-        scripts: Vec::new(rt.alloc()),
-        reports: Vec::new(rt.alloc()),
-    };
-    inspector.add(rt, options.script, true)?;
-    for path in &options.args {
-        inspector.add(rt, path, true)?;
-    }
+    let mut inspector = Inspector::of(rt, options)?;
+    inspector.add_given(rt)?;
     let looked = inspector.look_at_all(rt);
-    let mut lines = Lines::of(rt.alloc(), options, &inspector.typed, &inspector.devices);
-    let status = lines.tell_all(rt, &inspector.reports)?;
+    let status = inspector.tell_all(rt)?;
     looked?;
     Ok(status)
 }
 
-impl Inspector<'_> {
+impl<'a> Inspector<'a> {
+    // One that has looked at nothing.
+    fn of<R: Env + AllocGlobal + Files + Clone + Drop + Clock>(
+        rt: &R,
+        options: &'a Options<'a>,
+    ) -> Result<Inspector<'a>, Fault> {
+        let called = Called::of(rt, options)?;
+        let typed = typed_lines(rt.alloc(), options)?;
+        let devices = Devices::of(rt, options, &typed)?;
+        Ok(Inspector {
+            options,
+            called,
+            typed,
+            scripts: Vec::new(rt.alloc()),
+            devices,
+            reports: Vec::new(rt.alloc()),
+        })
+    }
+
+    // The scripts of the command line are looked at.
+    fn add_given<R: AllocGlobal + Files>(&mut self, rt: &R) -> Result<(), Fault> {
+        let options = self.options;
+        self.add(rt, options.script, true)?;
+        for path in &options.args {
+            self.add(rt, path, true)?;
+        }
+        Ok(())
+    }
+
+    // Tells what was found; `Wrong` if there is an error.
+    fn tell_all<R: AllocGlobal + Print>(&self, rt: &R) -> Result<Status, Fault> {
+        let mut lines = Lines::of(rt.alloc(), self.options, &self.typed, &self.devices);
+        lines.tell_all(rt, &self.reports)
+    }
+
     // Looks at all scripts, and at those that they call.
     fn look_at_all<R: AllocGlobal + Files + Clone + Drop>(&mut self, rt: &R) -> Result<(), Fault> {
         for place in 0..SCRIPTS {
@@ -110,41 +132,65 @@ impl Inspector<'_> {
         Ok(())
     }
 
-    // Looks at a script.
+    // Looks at a script, if it can be read.
     fn look_at<R: AllocGlobal + Files + Clone + Drop>(
         &mut self,
         rt: &R,
         path: String,
         is_given: bool,
     ) -> Result<(), Fault> {
-        let Some(mut script) = self.script_at(rt, path.as_str(), is_given)? else {
+        let Some(found) = self.findings(rt, path.as_str(), is_given)? else {
             return Ok(());
         };
-        let alloc = rt.alloc();
-        let mut found = Vec::new(alloc);
-        if is_given {
-            found = self.mend(alloc, &mut script)?;
-        }
-        self.push_problems(alloc, &script, is_given, &mut found)?;
         let may_strike = is_given && is_struck(&found);
-        let mut missed = Vec::new(alloc);
         let caller = is_given.then_some(path.as_str());
-        for finding in found {
-            if !self.is_known(rt, &finding.problem, caller)? {
-                missed.push(finding)?;
-            }
-        }
+        let found = self.missed(rt, found, caller)?;
         self.reports.push(ScriptReport {
             path,
             is_given,
             may_strike,
             unread: None,
-            found: missed,
+            found,
         })?;
         Ok(())
     }
 
-    // Adds what is found in the lines of a script, in their order; the devices that they assign are known from then on.
+    // What is found in a script, if it can be read.
+    fn findings<R: AllocGlobal + Files>(
+        &mut self,
+        rt: &R,
+        path: &str,
+        is_given: bool,
+    ) -> Result<Option<Vec<Finding>>, Fault> {
+        let Some(mut script) = self.script_at(rt, path, is_given)? else {
+            return Ok(None);
+        };
+        let mut found = if is_given {
+            self.mend(rt.alloc(), &mut script)?
+        } else {
+            Vec::new(rt.alloc())
+        };
+        self.push_problems(rt.alloc(), &script, is_given, &mut found)?;
+        Ok(Some(found))
+    }
+
+    // Those of the findings that miss nothing which is there after all; what they call is looked at too.
+    fn missed<R: AllocGlobal + Files + Clone + Drop>(
+        &mut self,
+        rt: &R,
+        found: Vec<Finding>,
+        caller: Option<&str>,
+    ) -> Result<Vec<Finding>, Fault> {
+        let mut missed = Vec::new(rt.alloc());
+        for finding in found {
+            if !self.is_known(rt, &finding.problem, caller)? {
+                missed.push(finding)?;
+            }
+        }
+        Ok(missed)
+    }
+
+    // Adds what is found in the lines of a script, in their order.
     fn push_problems(
         &mut self,
         alloc: Global,
@@ -155,13 +201,25 @@ impl Inspector<'_> {
         for finding in inspect(alloc, self.options.dialect, &self.typed, script)? {
             found.push(finding)?;
         }
+        self.push_devices(alloc, script, is_given, found)?;
+        merge_returns(found);
+        found.sort_by(|a, b| a.line.cmp(&b.line))?;
+        Ok(())
+    }
+
+    // Adds the devices that nobody may have; those that its lines assign are known from then on.
+    fn push_devices(
+        &mut self,
+        alloc: Global,
+        script: &[u8],
+        is_given: bool,
+        found: &mut Vec<Finding>,
+    ) -> Result<(), NoMemory> {
         let lines = lines_of(alloc, script)?;
         self.devices.add(lines.as_slice(), is_given)?;
         for finding in new_devices(alloc, self.options.dialect, lines.as_slice())? {
             found.push(finding)?;
         }
-        merge_returns(found);
-        found.sort_by(|a, b| a.line.cmp(&b.line))?;
         Ok(())
     }
 

@@ -16,6 +16,7 @@ mod deadline;
 mod delivery;
 mod descriptors;
 mod due;
+mod ending;
 mod ends;
 mod error_codes;
 mod faults;
@@ -48,23 +49,22 @@ use ados_launch::{Counted, End};
 use ados_ram::Place;
 use ados_text::{NoMemory, Text};
 use ados_trace::Traced;
-use ados_transfer::{Lines, Plan, bring, bring_script, taken_place};
+use ados_transfer::{Lines, Plan, bring, bring_script};
 use ados_world::World;
 use begun::pass_tick;
 use checks::{Checks, read_checked};
 use deadline::Deadline;
 use descriptors::held_descriptors;
+use ending::Ending;
 use error_codes::{ErrorCode, error_codes};
 use execute_options::{Config, Options, Refused, asked_options, given_words, typed_matches};
 use faults::{Fault, not_brought, report};
 use hosts::{hosts_for, world_with};
 use inspections::inspect_all;
-use losses::{Kept, tell_losses};
+use losses::Kept;
 use origins::Origins;
-use outcome::{Taking, hand_out};
 use play::{Script, play};
 use share::Share;
-use stands::status_after;
 use status::Status;
 use std::io::{Eprint, Write};
 use std::process::{ExitCode, Processes};
@@ -82,7 +82,7 @@ fn main(rt: HostRuntime) -> ExitCode {
 }
 
 // The exit status of what was done; a fault is reported.
-fn settle<R: AllocGlobal + Eprint>(rt: &R, done: Result<Status, Fault>) -> Status
+pub(crate) fn settle<R: AllocGlobal + Eprint>(rt: &R, done: Result<Status, Fault>) -> Status
     ensures { number_of result ≡ exit_status done }
 {
     match done {
@@ -188,12 +188,13 @@ fn run_script<
     let traced = options.trace.then_some(&origins);
     pass_tick(rt, options, begun);
     let ended = play_watched(rt, world, script, share.as_mut(), traced);
-    let taking = Taking::after(&ended, begun);
-    let outcome = hand_out(rt, options, world, share.as_mut(), taking)?;
-    let code = ended.as_ref().ok().map(|end| end.code);
-    let status = settle(rt, status_after(rt, options, world, &origins, ended));
-    tell_gone(rt, options, world, share.as_ref(), kept)?;
-    outcome.status(rt, code, status)
+    let ending = Ending {
+        options,
+        begun,
+        origins: &origins,
+        kept,
+    };
+    ending.finish(rt, world, share, ended)
 }
 
 // Runs the script. If there are names for the scripts here, each command is told before what it prints.
@@ -252,30 +253,6 @@ fn add_files<R: AllocGlobal + Files + Eprint + Clone + Drop>(
     }
     let bytes = read_checked(rt, options)?;
     Ok(bring_script(rt, world.files(), options.script, &bytes, plan)?)
-}
-
-// Tells which files are gone, unless no such line is wanted.
-fn tell_gone<R: AllocGlobal + Eprint>(
-    rt: &R,
-    options: &Options<'_>,
-    world: &World,
-    share: Option<&Share>,
-    mut kept: Kept<'_>,
-) -> Result<(), Fault> {
-    if options.quiet {
-        return Ok(());
-    }
-    if let Some(share) = share {
-        for volume in share.volumes() {
-            kept.add(&volume.place)?;
-        }
-    }
-    for words in &options.take {
-        if let Some(place) = taken_place(rt.alloc(), world.files(), world.assigns(), words)? {
-            kept.add(&place)?;
-        }
-    }
-    tell_losses(rt, world.files(), &kept)
 }
 
 // The lines of the run.

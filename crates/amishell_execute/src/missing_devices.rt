@@ -30,6 +30,13 @@ struct Given {
     is_of_caller: bool,
 }
 
+impl Given {
+    // It is the device of this name, and is known in a script, which is one of the command line or called.
+    fn is_for(&self, name: &Text, is_given: bool) -> bool {
+        !(is_given && self.is_of_caller) && same_name(self.name.as_bytes(), name.as_bytes())
+    }
+}
+
 impl Devices {
     /// Those of a run with these options, before a line of these scripts is taken.
     pub fn of<R: AllocGlobal + Files>(
@@ -45,18 +52,24 @@ impl Devices {
             given: Vec::new(alloc),
         };
         for words in &options.share {
-            if let Some(path) = parted(rt, words).1
-                && let Some((name, _)) = path.split_once(':')
-            {
-                let name = Text::from_bytes(alloc, name.as_bytes())?;
-                devices.given.push(Given {
-                    name,
-                    is_of_caller: false,
-                })?;
-            }
+            devices.add_share(rt, words)?;
         }
         devices.add(typed, false)?;
         Ok(devices)
+    }
+
+    // Adds that of a share, if it has one of its own.
+    fn add_share<R: AllocGlobal + Files>(&mut self, rt: &R, words: &str) -> Result<(), NoMemory> {
+        if let Some(path) = parted(rt, words).1
+            && let Some((name, _)) = path.split_once(':')
+        {
+            let name = Text::from_bytes(self.alloc, name.as_bytes())?;
+            self.given.push(Given {
+                name,
+                is_of_caller: false,
+            })?;
+        }
+        Ok(())
     }
 
     /// Adds those that lines assign or ask for; if `is_of_caller` only for scripts that are called.
@@ -72,10 +85,10 @@ impl Devices {
         let Problem::NoDevice(name) = &finding.problem else {
             return Ok(false);
         };
-        let is_there = self.given.iter().any(|one| {
-            !(is_given && one.is_of_caller) && same_name(one.name.as_bytes(), name.as_bytes())
-        });
-        Ok(is_there || self.is_at_start(name)?)
+        if self.given.iter().any(|one| one.is_for(name, is_given)) {
+            return Ok(true);
+        }
+        self.is_at_start(name)
     }
 
     // The Shell has the device at its start.
