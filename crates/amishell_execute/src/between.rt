@@ -139,7 +139,7 @@ impl<R: AllocGlobal + Files + Eprint + Processes + Clone + Drop + Clock, I: Read
         Ok(self.tell(world, session, &mut writer.trail)?)
     }
 
-    // The scripts that ended are told, what began is to be checked, and once shell 1 has ended it is told which others run.
+    // The scripts that ended are told, what began or was not called is to be checked, and once shell 1 has ended it is told which others run.
     fn tell(
         &mut self,
         world: &World,
@@ -152,6 +152,9 @@ impl<R: AllocGlobal + Files + Eprint + Processes + Clone + Drop + Clock, I: Read
         // A script that ended early or broken left one frame fewer: in such an event none begins.
         self.teller
             .tell_ends(self.rt, world, trail, session.reports())?;
+        if trail.has_lost_call(world) {
+            self.checks.note_lost_call();
+        }
         match trail.follow(world)? {
             Change::Begun(number) => self.checks.add_begun(number),
             Change::Ended(1) => self.teller.tell_waiting(self.rt, world, trail),

@@ -1,24 +1,20 @@
 //! The check of each script before its first line is taken: one with a line that must not be run as it is does not run.
-ghost use Rattle.std.specs.Prelude.{◌≡◌, None, IfErr};
+ghost use Rattle.std.specs.Prelude.{◌≡◌, None, IfErr, IfOk};
 ghost use Rattle.amishell_execute.specs.Playing.{drive_fault_of};
 
 use crate::callees::{calls_by_name, refused_callee};
-use crate::faults::{Fault, report, unread_script};
+use crate::faults::{Fault, report};
 use crate::origins::Origins;
 use crate::refusals::{refusal_of, strike_mends};
 use crate::script_turn::ScriptTurn;
-use ados_check::{Finding, bad_directive, check, mark, mark_printed, merge_returns, strike};
+use ados_check::{Finding, check, merge_returns};
 use ados_launch::Next;
 use ados_ram::Place;
-use ados_text::{NoMemory, Text, lines_of};
+use ados_text::{NoMemory, Text};
 use ados_trace::ScriptNames;
-use ados_transfer::read_script;
-use ados_vars::Aliases;
 use ados_world::World;
-use execute_options::Options;
 use std::alloc::Global;
 use std::io::Eprint;
-use std::rt::Files;
 
 /// How the scripts of a run are checked.
 #[derive(Drop)]
@@ -36,39 +32,8 @@ pub struct Checks<'a> {
     runs: usize,
     // A script that began calls another one by a plain name.
     has_calls: bool,
-}
-
-/// The bytes of the script of the command line as it is brought in. Where Echo or Ask prints a byte above 127 it has `_`, which no
-/// pattern has, and the first such line is reported; so is a bad directive. With `--lenient` all that is found is reported, and each
-/// such byte is `_`.
-pub fn read_checked<R: AllocGlobal + Files + Eprint>(
-    rt: &R,
-    options: &Options<'_>,
-) -> Result<Vec<u8>, Fault> {
-    let alloc = rt.alloc();
-    let mut script = match read_script(rt, options.mirror.limits, options.script) {
-        Ok(script) => script,
-        Err(fault) => return Err(unread_script(rt, fault)),
-    };
-    if options.ascii_marks {
-        mark(&mut script);
-    }
-    if options.strike {
-        strike(alloc, options.dialect, &mut script)?;
-    }
-    let printed = mark_printed(alloc, &mut script)?;
-    let _ = report_all(rt, options.script, &printed, true)?;
-    if let Some(bad) = bad_directive(alloc, &script)? {
-        let _ = report_all(rt, options.script, &[bad], true)?;
-    }
-    if options.lenient {
-        let lines = lines_of(alloc, &script)?;
-        let aliases = Aliases::new(alloc);
-        let found = check(alloc, options.dialect, &aliases, lines.as_slice(), &script)?;
-        let _ = report_all(rt, options.script, &found, true)?;
-        mark(&mut script);
-    }
-    Ok(script)
+    // A script goes on after it could not call another one, which has a bad directive.
+    has_lost_call: bool,
 }
 
 impl<'a> Checks<'a> {
@@ -93,6 +58,7 @@ impl<'a> Checks<'a> {
             begun: Vec::new(alloc),
             runs: 0,
             has_calls: false,
+            has_lost_call: false,
         })
     }
 
@@ -102,15 +68,20 @@ impl<'a> Checks<'a> {
         Ok(())
     }
 
-    /// A frame began of which no line was taken yet, or a line may call a script.
+    /// A script goes on after it could not call another one, which has a bad directive: with `--lenient` it may.
+    pub fn note_lost_call(&mut self) {
+        self.has_lost_call = !self.is_lenient;
+    }
+
+    /// A frame began of which no line was taken yet, a line may call a script, or one could not be called.
     pub fn are_due(&self) -> bool {
-        self.has_calls || !self.begun.is_empty()
+        self.has_calls || self.has_lost_call || !self.begun.is_empty()
     }
 
     /// Before this event something may be told.
     #[inline(never)]
     pub fn may_tell(&self, world: &World, next: Next) -> bool {
-        if !self.begun.is_empty() {
+        if self.has_lost_call || !self.begun.is_empty() {
             return true;
         }
         let Next::Turn(number) = next else {
@@ -124,8 +95,9 @@ impl<'a> Checks<'a> {
     /// Before an event, while checks are due: if a shell is to take the first line of a script, all lines of that script are checked,
     /// with its arguments in them. If a line calls a script that would not begin, the lines of that one are.
     ///
-    /// `NotRun` if a line of the script must not be run as it is, `NotCalled` if one of the called script must not, and `NothingRun` if
-    /// no command of the script of the command line returned before. With `--lenient` the first is only reported, once for each script.
+    /// `NotRun` if a line of the script must not be run as it is, or a call was lost, `NotCalled` if a line of the called script must not,
+    /// and `NothingRun` if no command of the script of the command line returned before. With `--lenient` the first is only reported, once
+    /// for each script.
     pub fn attend<R: AllocGlobal + Eprint>(
         &mut self,
         rt: &R,
@@ -134,6 +106,9 @@ impl<'a> Checks<'a> {
     ) -> Result<(), Fault>
         ensures { IfErr result (λ why. drive_fault_of why ≡ None) }
     {
+        if self.has_lost_call {
+            return Err(lost_call(rt.alloc())?);
+        }
         let Next::Turn(number) = next else {
             return Ok(());
         };
@@ -262,6 +237,17 @@ impl<'a> Checks<'a> {
     }
 }
 
+// The fault of a script that was called, and has a bad directive.
+fn lost_call(alloc: Global) -> Result<Fault, NoMemory>
+    ensures { IfOk result (λ fault. drive_fault_of fault ≡ None) }
+{
+    let why = String::from_str(
+        alloc,
+        "a script was called that has a bad directive (--lenient goes on)",
+    )?;
+    Ok(Fault::NotRun(why))
+}
+
 // The internal command of this name is the one that is found under it: it was not taken off the resident list, and no entry has its name.
 fn prints(alloc: Global, world: &World, name: &str) -> Result<bool, NoMemory> {
     let name = Text::from_bytes(alloc, name.as_bytes())?;
@@ -272,9 +258,9 @@ fn prints(alloc: Global, world: &World, name: &str) -> Result<bool, NoMemory> {
     Ok(is_enabled && residents.find(&name).is_none())
 }
 
-// Reports what was found in a script, but harmless problems only if they are new, all of them in one line; gives whether one was
-// not harmless.
-fn report_all<R: AllocGlobal + Eprint>(
+/// Reports what was found in a script, but harmless problems only if they are new, all of them in one line; gives whether one was
+/// not harmless.
+pub fn report_all<R: AllocGlobal + Eprint>(
     rt: &R,
     name: &str,
     found: &[Finding],

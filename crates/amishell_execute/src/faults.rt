@@ -62,7 +62,7 @@ pub enum Fault {
     /// The Shell asked for a line of standard input, which was at its end.
     #[error("no answer for {0}")]
     Unanswered(String),
-    /// Lines of a script must not be run as they are; its name, and how it is run all the same.
+    /// Lines of a script must not be run as they are; its name, and how it is run all the same. Or a script was called that has a bad directive.
     #[error("{0}")]
     NotRun(String),
     /// The next line of this shell calls a script of which that is so, and which would not begin.

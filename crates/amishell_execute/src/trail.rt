@@ -7,7 +7,7 @@ use ados_flow::Frame;
 use ados_launch::Next;
 use ados_script::Script;
 use ados_shell::Shell;
-use ados_text::{NoMemory, Text};
+use ados_text::{NoMemory, Result2, Text};
 use ados_trace::script_name;
 use ados_world::World;
 use std::alloc::Global;
@@ -104,13 +104,25 @@ impl Trail {
         Ok(())
     }
 
-    /// After an event: the shell that had it runs as many frames as are kept of it.
+    /// After an event: the shell that had it runs as many frames as are kept of it, and its last command found no bad directive.
     #[inline(always)]
     pub fn is_as_kept(&self, world: &World) -> bool {
         match world.shell(self.latest) {
-            Some(shell) => shell.frames().len() == self.count,
+            Some(shell) => {
+                shell.frames().len() == self.count && shell.codes().result2 != Result2::BAD_TEMPLATE
+            }
             None => false,
         }
+    }
+
+    /// After an event: the script of the shell that had it goes on after it could not call another one, which has a bad directive.
+    pub fn has_lost_call(&self, world: &World) -> bool {
+        world
+            .shell(self.latest)
+            .and_then(|shell| shell.frames().last())
+            .is_some_and(|frame| {
+                frame.is_script() && frame.last_codes().result2 == Result2::BAD_TEMPLATE
+            })
     }
 
     /// After an event: what it did to the shell that had it.

@@ -1,0 +1,44 @@
+//! The script of the command line, as it is brought in.
+
+use crate::checks::report_all;
+use crate::faults::{Fault, unread_script};
+use ados_check::{bad_directive, check, mark, mark_printed, strike};
+use ados_text::lines_of;
+use ados_transfer::read_script;
+use ados_vars::Aliases;
+use execute_options::Options;
+use std::io::Eprint;
+use std::rt::Files;
+
+/// The bytes of the script of the command line as it is brought in. Where Echo or Ask prints a byte above 127 it has `_`, which no
+/// pattern has, and the first such line is reported; so is a bad directive. With `--lenient` all that is found is reported, and each
+/// such byte is `_`.
+pub fn read_checked<R: AllocGlobal + Files + Eprint>(
+    rt: &R,
+    options: &Options<'_>,
+) -> Result<Vec<u8>, Fault> {
+    let alloc = rt.alloc();
+    let mut script = match read_script(rt, options.mirror.limits, options.script) {
+        Ok(script) => script,
+        Err(fault) => return Err(unread_script(rt, fault)),
+    };
+    if options.ascii_marks {
+        mark(&mut script);
+    }
+    if options.strike {
+        strike(alloc, options.dialect, &mut script)?;
+    }
+    let printed = mark_printed(alloc, &mut script)?;
+    let _ = report_all(rt, options.script, &printed, true)?;
+    if let Some(bad) = bad_directive(alloc, &script)? {
+        let _ = report_all(rt, options.script, &[bad], true)?;
+    }
+    if options.lenient {
+        let lines = lines_of(alloc, &script)?;
+        let aliases = Aliases::new(alloc);
+        let found = check(alloc, options.dialect, &aliases, lines.as_slice(), &script)?;
+        let _ = report_all(rt, options.script, &found, true)?;
+        mark(&mut script);
+    }
+    Ok(script)
+}
