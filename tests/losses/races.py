@@ -221,7 +221,7 @@ PIPES = [
 
 def line_is_at_its_place(trial):
     stands = trial.stands.get("out")
-    is_after_look = "acted" in trial.stands and ".amishell-execute." in trial.call[1]
+    is_after_look = "acted" in trial.stands and ".amishell-execute." in " ".join(trial.call[1:2])
     return "the line is lost" if is_after_look and (stands is None or LINE.encode() not in stands) else None
 
 
