@@ -27,12 +27,12 @@ use Rattle.ados_check.specs.declared.phrases.Given.{Given}
 use Rattle.ados_check.specs.declared.release_two.Command.{Command}
 use Rattle.ados_check.specs.declared.ticks.Ticked.{Ticked}
 
--- those of a command, if it has options of Release 2, among the words after it
+-- the options left out that a command is given among the words after it; none if it has no such options
 abbrev pub given_by : Dialect → Bytes → List Word → Option Command → List Given
 given_by dialect text words None = []
 given_by dialect text words (Some command) = given_options dialect command text words
 
--- those of the command that is the first of some words
+-- the options left out that a command is given which is the first of some words
 abbrev pub given_from : List Command → Dialect → Pairs → Bytes → List Word → List Given
 given_from commands dialect aliases text [] = []
 given_from commands dialect aliases text (word ∷ words) = given_by dialect text words (named_command commands (command_name aliases text word))
@@ -46,7 +46,7 @@ abbrev pub name_from : List Command → Pairs → Bytes → List Word → Option
 name_from commands aliases text [] = None
 name_from commands aliases text (word ∷ words) = option_map (λ command. command.name) (named_command commands (command_name aliases text word))
 
--- that of the command of a text without back-ticks
+-- the name of the command of a text without back-ticks, if it has more options in Release 2
 abbrev pub name_in : List Command → Pairs → Bytes → Option (Bor Bytes)
 name_in commands aliases text = name_from commands aliases text (from_command (lead_of aliases text) 0 (argument_words text))
 
@@ -60,7 +60,7 @@ given_of (Some one) = one.options.items
 abbrev pub shown : LeftOut → ℕ × List Given
 shown one = (one.from, one.options.items)
 
--- those of a text that begins at a place, if there are any
+-- the options left out that a text gives, with the place at which it begins; nothing if there are none
 abbrev pub part_of : ℕ → List Given → List (ℕ × List Given)
 part_of from [] = []
 part_of from (one ∷ more) = (from, one ∷ more) ∷ []
@@ -72,7 +72,7 @@ ticked_part commands dialect aliases line text = part_of text.from (given_in com
 abbrev pub command_text : Bytes → Bytes
 command_text line = without_plus (without_comment line)
 
--- those of what is looked at of a line: of the texts between back-ticks, and of the line around them
+-- the options left out in what is looked at of a line: in the texts between back-ticks, and in the line around them
 abbrev pub left_out_around : List Command → Dialect → Pairs → Bytes → List (ℕ × List Given)
 left_out_around commands dialect aliases line =
     flat_map (ticked_part commands dialect aliases line) (texts_in_ticks line) ++ part_of 0 (given_in commands dialect aliases (around line))
@@ -89,7 +89,7 @@ has_any (x ∷ xs) = true
 abbrev pub gives_left_out : List Command → Dialect → Pairs → Text → Bool
 gives_left_out commands dialect aliases line = has_any (left_out_in commands dialect aliases line)
 
--- the line of a number does
+-- the line of a number gives an option that is left out to a command
 abbrev pub gives_at : List Command → Dialect → Pairs → List Text → ℕ → Bool
 gives_at commands dialect aliases lines number = is_some_and (gives_left_out commands dialect aliases) (line_of lines number)
 

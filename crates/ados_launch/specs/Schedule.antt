@@ -50,13 +50,15 @@ unless_break (Some (AtTurn shell)) = Some (AtTurn shell)
 unless_break (Some (AtStart shell)) = Some (AtStart shell)
 unless_break (Some (AtFurther shell)) = Some (AtFurther shell)
 
--- what is due at a place of a round, and the place of that
+-- what is due at a place of a round: at 0 a line, at 1 to 20 the turn of that shell, at 21 to 40 the answer to its start, and from 41 on that
+-- to its read or wait
 abbrev pub next_at : ℕ → Next
 next_at place =
     if nat_lt place 1 then AtLine else
     (if nat_lt place 21 then AtTurn place else
     (if nat_lt place 41 then AtStart (place - 20) else AtFurther (place - 40)))
 
+-- the place of what is due; 0 stands for a break, which has none
 abbrev pub round_place : Next → ℕ
 round_place (AtBreak shell kind) = 0
 round_place AtLine = 0
@@ -143,11 +145,11 @@ abbrev pub final_schedule_state : ScheduleState → WorldState → List TakenIte
 final_schedule_state s w [] = s
 final_schedule_state s w (item ∷ taken) = final_schedule_state (following_schedule_state s w (next_of item)) (world_after_item w item) taken
 
--- what comes next after what was taken from a world
+-- what comes next in the world `now`, to which what was taken led from the world `w`
 abbrev pub next_after_taken : List BreakAt → WorldState → List TakenItem → WorldState → Option Next
 next_after_taken breaks w taken now = scheduled_next (final_schedule_state (first_schedule_state breaks) w taken) now
 
--- a line comes next
+-- a line comes next in the world `now`
 abbrev pub IsReading : List BreakAt → WorldState → List TakenItem → WorldState → Type 0
 IsReading breaks w taken now = next_after_taken breaks w taken now ≡ Some AtLine
 
