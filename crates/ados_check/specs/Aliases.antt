@@ -31,7 +31,7 @@ may_be word (Some name) = is_open name || is_same word name
 abbrev pub makes_alias : Text → Text → Bool
 makes_alias word line = may_be word (alias_name line)
 
--- one of these lines does
+-- one of these lines makes an alias of a word, or may
 abbrev pub may_be_alias : List Text → Text → Bool
 may_be_alias lines word = list_any (makes_alias word) lines
 
@@ -39,18 +39,18 @@ may_be_alias lines word = list_any (makes_alias word) lines
 abbrev pub has_made : MadeAliases → Text → Bool
 has_made made word = made.is_any || is_some (value_in made.names word)
 
--- it has those that it had, and that of one more line
+-- the new words that may be aliases are the old ones, and that of one more line
 abbrev pub HasLine : MadeAliases → MadeAliases → Text → Type 0
 HasLine old new line = (word : Text) → has_made new word ≡ (has_made old word || makes_alias word line)
 
--- those that it had, and those of lines
+-- the new words that may be aliases are the old ones, and those of lines
 abbrev pub HasLines : MadeAliases → MadeAliases → List Text → Type 0
 HasLines old new lines = (word : Text) → has_made new word ≡ (has_made old word || may_be_alias lines word)
 
--- it has none
+-- no word may be an alias
 abbrev pub HasNone : MadeAliases → Type 0
 HasNone made = (word : Text) → has_made made word ≡ false
 
--- those of these lines
+-- the words that may be aliases are those of the typed lines and of these lines
 abbrev pub HasAll : MadeAliases → List Text → List Text → Type 0
 HasAll made typed lines = (word : Text) → has_made made word ≡ (may_be_alias typed word || may_be_alias lines word)

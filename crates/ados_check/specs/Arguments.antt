@@ -61,7 +61,7 @@ abbrev pub words_past : (ℕ → List Word) → Option ℕ → List Word
 words_past next None = []
 words_past next (Some to) = next to
 
--- those from a word on that begins with so wide a redirection sign
+-- the words from this word on, which begins with so wide a redirection sign; 0: with none
 abbrev pub words_with : (ℕ → List Word) → Text → Word → ℕ → List Word
 words_with next line word zero = word ∷ next word.to
 words_with next line word (suc n) = words_past next (name_end (item_at false line (word.from + suc n)))
@@ -79,7 +79,7 @@ words_from (suc count) line place = words_found (λ to. words_from count line to
 abbrev pub argument_words : Text → List Word
 argument_words line = words_from (length line) line 0
 
--- it begins a redirection
+-- a word begins a redirection
 abbrev pub redirects : Text → Word → Bool
 redirects line word = nat_lt 0 (sign_width (bytes_between line word.from word.to))
 
@@ -108,7 +108,7 @@ abbrev pub redirected_past : (ℕ → List Word) → Option Word → List Word
 redirected_past next None = []
 redirected_past next (Some name) = name ∷ next name.to
 
--- those from a word on that begins with so wide a redirection sign
+-- the names after redirections from this word on, which begins with so wide a redirection sign; 0: with none
 abbrev pub redirected_with : (ℕ → List Word) → Text → Word → ℕ → List Word
 redirected_with next line word zero = next word.to
 redirected_with next line word (suc n) = redirected_past next (name_after (item_at false line (word.from + suc n)))

@@ -36,7 +36,7 @@ after_path path = drop (length path - suffix_len is_name_byte path) path
 abbrev pub last_name : Bytes → Bytes
 last_name word = after_path (unquoted word)
 
--- that of the first word of an alias's text, or otherwise of the word itself
+-- the name of the command that is the first word of an alias's text, or the word itself if it is no alias
 abbrev pub name_by : Bytes → Option Text → Bytes
 name_by word None = last_name word
 name_by word (Some text) = last_name (first_word (trimmed_text text))
@@ -52,7 +52,7 @@ lead_by name = if is_same name (codes "Run") then Some 0 else (if is_same name (
 abbrev pub lead_of : Pairs → Bytes → Word → Option ℕ
 lead_of aliases line word = lead_by (command_name aliases line word)
 
--- the same where so many words are passed over
+-- how many words after one are passed over with it, where so many are left to be passed over
 abbrev pub lead_after : (Word → Option ℕ) → ℕ → Word → Option ℕ
 lead_after lead zero word = lead word
 lead_after lead (suc further) word = Some further

@@ -26,7 +26,7 @@ abbrev pub with_devices : ℕ → List Text → Known → Known
 with_devices number [] news = news
 with_devices number (device ∷ devices) news = with_devices number devices (with_device number news device)
 
--- those that a line assigns or asks for are known
+-- the devices that a line assigns or asks for are known
 abbrev pub with_assigned : List Text → Known → Known
 with_assigned devices news = record { known = news.known ++ devices; found = news.found }
 
@@ -34,7 +34,7 @@ abbrev pub with_line : Dialect → ℕ → Bytes → Known → Known
 with_line dialect number line news =
     with_devices number (mentioned_in dialect (command_text line)) (with_assigned (assigned_in dialect (command_text line)) news)
 
--- those of lines, the first of which has this number
+-- what is known after lines, the first of which has this number
 abbrev pub with_lines : Dialect → ℕ → List Text → Known → Known
 with_lines dialect number [] news = news
 with_lines dialect number (line ∷ lines) news = with_lines dialect (number + 1) lines (with_line dialect number line news)
@@ -43,6 +43,6 @@ with_lines dialect number (line ∷ lines) news = with_lines dialect (number + 1
 abbrev pub news_in : Dialect → List Text → List Finding
 news_in dialect lines = (with_lines dialect 1 lines (record { known = []; found = [] })).found
 
--- those that a line assigns or asks for
+-- the devices that a line assigns or asks for
 abbrev pub assigned_at : Dialect → Text → List Text
 assigned_at dialect line = assigned_in dialect (command_text line)

@@ -47,7 +47,7 @@ binds_later line words = list_any (λ word. is_word line (codes "DEFER") word ||
 abbrev pub paths_of_assign : Bytes → List Word → List Word
 paths_of_assign line words = if binds_later line words then [] else words
 
--- those of the words after a command that are paths
+-- the words after a command that are paths
 abbrev pub path_words : Bytes → List Word → Meaning → List Word
 path_words line words (meaning.Builtin (Files command)) = paths_of_files words command
 path_words line words (meaning.Builtin (Env Assign)) = paths_of_assign line words

@@ -55,12 +55,13 @@ abbrev pub first_device : Bytes → List Word → Option Text
 first_device line [] = None
 first_device line (word ∷ words) = option_or (device_at line word) (first_device line words)
 
--- those of the command of a line and of its paths, given the words from that of the command on
+-- the devices of the command of a line and of its paths, given the words from that of the command on
 abbrev pub used_by : Dialect → Bytes → List Word → List Text
 used_by dialect line [] = []
 used_by dialect line (word ∷ words) = one_or_none (device_at line word) ++ devices_in line (path_words line words (meaning_at dialect line word))
 
--- those that a line mentions: of the names after its redirections, of its command, and of the command's paths; none if it has a back-tick
+-- the devices that a line mentions: in the names after its redirections, in its command, and in the command's paths; none if it has a
+-- back-tick
 abbrev pub mentioned_in : Dialect → Bytes → List Text
 mentioned_in dialect line =
     if list_any (λ c. c == 96) line then [] else devices_in line (redirected_words line) ++ used_by dialect line (past_run line (argument_words line))
@@ -75,7 +76,7 @@ abbrev pub assigned_from : Dialect → Bytes → List Word → List Text
 assigned_from dialect line [] = []
 assigned_from dialect line (word ∷ words) = assigned_by line words (meaning_at dialect line word)
 
--- those that a line assigns, or asks for
+-- the devices that a line assigns, or asks for
 abbrev pub assigned_in : Dialect → Bytes → List Text
 assigned_in dialect line = assigned_from dialect line (past_run line (argument_words line))
 

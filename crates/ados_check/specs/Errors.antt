@@ -65,19 +65,19 @@ IsHere lines sample number P = (line : Text) × (line_of lines number ≡ Some l
 abbrev pub IsLine : List Text → ℕ → (List Text → Text → Type 0) → Type 0
 IsLine lines number P = (sample : List Text) × IsSample lines sample × IsHere lines sample number (P sample)
 
--- it is this command with arguments that it does not take: it answers the fault
+-- a line is this command with arguments that it does not take: it answers the fault
 abbrev pub IsRefused : Dialect → ArgFault → Text → Type 0
 IsRefused dialect fault line = (command : Builtin) × (args : Text) × IsCommand dialect line command args × Answers dialect command args fault
 
--- it is a jump that leads nowhere
+-- a line is a jump that leads nowhere
 abbrev pub IsLost : Dialect → ℕ → FlowCommand → List Text → Text → Type 0
 IsLost dialect number command sample line = (args : Text) × IsCommand dialect line (Flow command) args × EndsScript dialect command args sample number
 
--- it is a Copy that puts what is in several directories into one
+-- a line is a Copy that puts what is in several directories into one
 abbrev pub IsFlat : Dialect → Text → Type 0
 IsFlat dialect line = (command : Builtin) × (args : Text) × IsCommand dialect line command args × (is_flat_copy dialect command args ≡ true)
 
--- it has this many bytes, more than a line may have
+-- a line has this many bytes, more than a line may have
 abbrev pub IsLong : ℕ → Text → Type 0
 IsLong count line = (length line ≡ count) × (512 < count) × IsReadAs line (Err LineTooLong)
 
@@ -93,14 +93,14 @@ SaysSo dialect lines number problem.ElseWithoutEndIf = IsLine lines number (IsLo
 SaysSo dialect lines number problem.FlatCopy = IsLine lines number (λ sample. IsFlat dialect)
 SaysSo dialect lines number other = Unit {0}
 
--- it is so, and not of a sign
+-- what a problem says of the line of a number is so, and it is not said of a sign
 abbrev pub IsSound : Dialect → List Text → ℕ → Problem → Type 0
 IsSound dialect lines number what = (told_sign what ≡ None) × SaysSo dialect lines number what
 
 abbrev pub AreSo : Dialect → List Text → List Finding → Type 0
 AreSo dialect lines found = All (λ one. SaysSo dialect lines one.line one.problem) found
 
--- so it is whatever the world and the script are
+-- what a problem says of the line of a number is so whatever the dialect and the script are
 abbrev pub IsAlwaysSound : ℕ → Problem → Type 0
 IsAlwaysSound number what = (dialect : Dialect) (lines : List Text) → IsSound dialect lines number what
 
@@ -111,7 +111,7 @@ AreAlwaysSo found = (dialect : Dialect) (lines : List Text) → AreSo dialect li
 abbrev pub StaySo : List Finding → List Finding → Type 0
 StaySo old new = (dialect : Dialect) (lines : List Text) → AreSo dialect lines old → AreSo dialect lines new
 
--- they are, with one more that is
+-- the new findings are so if the old ones are, and what one more problem says of a line is
 abbrev pub AreSoWith : ℕ → Problem → List Finding → List Finding → Type 0
 AreSoWith number what old new = (dialect : Dialect) (lines : List Text) → AreSo dialect lines old → SaysSo dialect lines number what → AreSo dialect lines new
 

@@ -49,7 +49,7 @@ abbrev pub label_filled : Dialect → Result (List Arg) ArgFault → Text
 label_filled dialect (Ok args) = label_or_none (label_sought dialect args)
 label_filled dialect (Err fault) = []
 
--- that of a line, as it is read
+-- the label that a line of Skip names, as it is read
 abbrev pub label_read : Dialect → Result Expanded LineFault → Text
 label_read dialect (Ok (Ready line)) = label_filled dialect (fill_of (template_of dialect (Flow Skip)) line.args)
 label_read dialect (Ok other) = []

@@ -97,37 +97,37 @@ abbrev pub is_left_out : Problem → Bool
 is_left_out (problem.LeftOut options) = true
 is_left_out other = false
 
--- of the line of a number it is told that it gives such an option
+-- it is told that the line of a number gives an option that is left out
 abbrev pub is_told : ℕ → List Finding → Bool
 is_told number found = list_any (λ one. is_at number one && is_left_out one.problem) found
 
--- it is told of exactly the lines that do
+-- it is told of exactly the lines that give an option that is left out
 abbrev pub TellsLeftOut : Dialect → Pairs → List Text → List Finding → Type 0
 TellsLeftOut dialect aliases lines found =
     (commands : List Command) × AreReleaseTwo commands × ((number : ℕ) → is_told number found ≡ gives_at commands dialect aliases lines number)
 
--- of the line of a number it is told too
+-- the new findings tell of the same lines as the old ones, and of this line too if it gives an option that is left out
 abbrev pub ToldWith : ℕ → Bool → List Finding → List Finding → Type 0
 ToldWith line gives old new = (number : ℕ) → is_told number new ≡ (is_told number old || (line == number && gives))
 
--- it is told of each line that does
+-- it is told of each line that gives an option that is left out
 abbrev pub TellsEach : Dialect → List Text → List Finding → Type 0
 TellsEach dialect lines found =
     (commands : List Command) × AreReleaseTwo commands × ((number : ℕ) → gives_at commands dialect [] lines number ≡ true → is_told number found ≡ true)
 
--- of what was told nothing is lost
+-- the new findings tell of each line of which the old ones tell
 abbrev pub StayTold : List Finding → List Finding → Type 0
 StayTold old new = (number : ℕ) → is_told number old ≡ true → is_told number new ≡ true
 
--- it is told of no line
+-- no line is told of
 abbrev pub TellsNone : List Finding → Type 0
 TellsNone found = (number : ℕ) → is_told number found ≡ false
 
--- it is told of the same lines
+-- the new findings tell of the same lines as the old ones
 abbrev pub ToldTheSame : List Finding → List Finding → Type 0
 ToldTheSame old new = (number : ℕ) → is_told number new ≡ is_told number old
 
--- as long as before, and each byte is unchanged or a blank
+-- the new text is as long as the old one, and each byte is unchanged or a blank
 abbrev pub IsBlanked : Bytes → Bytes → Type 0
 IsBlanked old new = (length new ≡ length old) × ((k : ℕ) → k < length old → (slice_index new k == slice_index old k || slice_index new k == 32) ≡ true)
 
@@ -135,7 +135,7 @@ IsBlanked old new = (length new ≡ length old) × ((k : ℕ) → k < length old
 abbrev pub struck : Bool → ℕ → ℕ
 struck is byte = if is then 32 else byte
 
--- as long as before, and each byte is a blank if this holds of its place, and otherwise unchanged
+-- the new text is as long as the old one; each byte is a blank if this holds of its place, and otherwise unchanged
 abbrev pub IsStruck : (ℕ → Bool) → Bytes → Bytes → Type 0
 IsStruck test old new = (length new ≡ length old) × ((k : ℕ) → k < length old → slice_index new k ≡ struck (test k) (slice_index old k))
 
@@ -150,15 +150,15 @@ is_between from to k = nat_le from k && nat_lt k to
 abbrev pub is_in : ℕ → ℕ → Given → Bool
 is_in from k given = given.option.is_idle && is_between (from + given.from) (from + given.to) k
 
--- in one of some
+-- a place lies in one of some options that has no effect, in a text that begins at another
 abbrev pub is_in_idle : ℕ → List Given → ℕ → Bool
 is_in_idle from options k = list_any (is_in from k) options
 
--- in one that the commands of a line are given
+-- a place lies in an option without effect that the commands of a line are given, which begins at another
 abbrev pub is_idle_in_line : List Command → Dialect → Pairs → ℕ → Bytes → ℕ → Bool
 is_idle_in_line commands dialect aliases from line k = list_any (λ part. is_in_idle (from + part.0) part.1 k) (left_out_in commands dialect aliases line)
 
--- in one of lines, the first of which begins at a place
+-- a place lies in an option without effect that lines give, the first of which begins at another
 abbrev pub is_idle_in_lines : List Command → Dialect → ℕ → List Text → ℕ → Bool
 is_idle_in_lines commands dialect from [] k = false
 is_idle_in_lines commands dialect from (line ∷ lines) k =

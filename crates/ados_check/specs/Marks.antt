@@ -16,7 +16,8 @@ marked byte = if is_past_ascii byte then 95 else byte
 abbrev pub marked_if : Bool → ℕ → ℕ
 marked_if is byte = if is then marked byte else byte
 
--- as long as before; `_` is written in the place of each byte above 127 of whose place this holds, and no other byte is changed
+-- the new text is as long as the old one; `_` is written in the place of each byte above 127 of whose place this holds, and no other byte
+-- is changed
 abbrev pub IsMarked : (ℕ → Bool) → Bytes → Bytes → Type 0
 IsMarked test old new = (length new ≡ length old) × ((k : ℕ) → k < length old → slice_index new k ≡ marked_if (test k) (slice_index old k))
 

@@ -87,7 +87,7 @@ abbrev pub phrase_of : Dialect → Command → Bytes → List Word → Phrase
 phrase_of dialect command line [] = plain
 phrase_of dialect command line (word ∷ rest) = phrase_by line word (value_of line word rest) (naming_of dialect command (bytes_between line word.from word.name_to))
 
--- the same where so many words belong to an option before
+-- what stands at the first of some words, where so many of them belong to an option before
 abbrev pub phrase_after : (List Word → Phrase) → ℕ → List Word → Phrase
 phrase_after phrase zero words = phrase words
 phrase_after phrase (suc further) words = record { given = None; further = further }

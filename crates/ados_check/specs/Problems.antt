@@ -41,7 +41,7 @@ is_refused problem.ByteOrderMark = true
 is_refused (problem.LeftOut options) = true
 is_refused other = false
 
--- it is of options alone that have no effect which matters here
+-- a problem is of options alone that have no effect which matters here
 abbrev pub is_idle : Problem → Bool
 is_idle (problem.LeftOut one) = are_idle one.options.items
 is_idle other = false

@@ -5,7 +5,7 @@ use Rattle.std.specs.Option.{option_map}
 use Rattle.ados_check.specs.declared.findings.Finding.{Finding}
 use Rattle.ados_check.specs.Problems.{refuses_return, speaks_of_return}
 
--- it is of that line, or speaks of something else
+-- a finding is of this line, or speaks of something else than a carriage return
 abbrev pub is_kept : ℕ → Finding → Bool
 is_kept line one = one.line == line || not (speaks_of_return one.problem)
 

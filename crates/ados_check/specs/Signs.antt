@@ -40,7 +40,7 @@ is_dotted (c ∷ cs) = c == 46
 abbrev pub file_line : Bytes → ℕ → Bytes
 file_line bytes k = get_or (slice_split is_newline bytes) k []
 
--- the same from 1 on
+-- the line of a number, from 1, in a file's bytes; empty past the last
 abbrev pub line_at : Bytes → ℕ → Bytes
 line_at bytes zero = []
 line_at bytes (suc k) = file_line bytes k
@@ -63,7 +63,7 @@ told_sign (PrintedReturn others) = Some 13
 told_sign ByteOrderMark = Some 239
 told_sign problem = None
 
--- it is a problem of the line of this number
+-- a finding is of the line of this number
 abbrev pub is_at : ℕ → Finding → Bool
 is_at number one = one.line == number
 

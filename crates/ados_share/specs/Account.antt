@@ -58,7 +58,7 @@ paths_of files = map (λ file. string_bytes file.path) files
 abbrev pub files_of : List Attempt → List NamedFile
 files_of attempts = map (λ attempt. attempt.file) attempts
 
--- those of them for which that failed
+-- the files that could not be brought to the disk
 abbrev pub failed_files : List Attempt → List NamedFile
 failed_files attempts = files_of (filter (λ attempt. is_err attempt.outcome) attempts)
 

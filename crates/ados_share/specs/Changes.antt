@@ -38,7 +38,7 @@ has_last_stamp files object seen (File bytes) (AnyFile is_executable) = not obje
 has_last_stamp files object seen (StandIn comment) (AnyFile is_executable) = is_same_stamp object.stamp seen.stamp && has_stand_in (map.get files (key_of object.place)) comment
 has_last_stamp files object seen _ _ = false
 
--- it is of the kind that it was at the last comparison
+-- what is in the folder is of the kind that the object was at the last comparison
 abbrev pub is_of_kind : Last → Kind → Bool
 is_of_kind Directory Folder = true
 is_of_kind (File bytes) (AnyFile is_executable) = true
@@ -64,7 +64,7 @@ comes_in Bring = true
 comes_in Conflict = true
 comes_in other = false
 
--- it is neither a file nor a folder
+-- what is in the folder is neither a file nor a folder
 abbrev pub is_foreign : Kind → Bool
 is_foreign Foreign = true
 is_foreign _ = false

@@ -11,7 +11,7 @@ use Rattle.ados_transfer.specs.declared.records.Last.TheVariants.{Directory, Fil
 abbrev pub has_bytes : Bytes → Holder → Bool
 has_bytes bytes holder = bytes_eq holder.bytes.now bytes
 
--- it was a file of these bytes
+-- an object was a file of these bytes at the last comparison
 abbrev pub is_file_of : Last → Bytes → Bool
 is_file_of Directory bytes = false
 is_file_of (File last) bytes = bytes_eq last bytes

@@ -29,7 +29,7 @@ OthersStay old new key = (q : Bytes) → bytes_eq key q ≡ false → get_by_tex
 abbrev pub has_left : {A : Type 0} → Files → Bytes → String A × Record → Bool
 has_left files key row = bytes_eq (string_bytes row.0) key && not (is_kept row.1.last (map.get files (key_of row.1.place)))
 
--- it was a file that has bytes
+-- an object was a file that has bytes at the last comparison
 abbrev pub has_content : Last → Bool
 has_content Directory = false
 has_content (File bytes) = not (length bytes == 0)
@@ -40,7 +40,7 @@ abbrev pub is_kept_there : Files → Option Record → Bool
 is_kept_there files None = false
 is_kept_there files (Some object) = is_kept object.last (map.get files (key_of object.place))
 
--- it is so, or the object has no record any longer
+-- the Shell has in its place what an object was at the last comparison, or the object has no record any longer
 abbrev pub is_settled : Files → Option Record → Bool
 is_settled files None = true
 is_settled files (Some object) = is_kept_there files (Some object)
