@@ -42,7 +42,7 @@ Lists is_full request reply listed =
     (fits request reply ≡ true)
     × ((listed ≡ call_of request reply ∷ []) ⊎ ((listed ≡ []) × (is_start request ≡ true) × (reply ≡ Memory) × (is_full ≡ true)))
 
--- the same, if there is a request
+-- what a launcher lists for a request, if there is one
 abbrev pub ListsOf : Bool → Option Request → Reply → List Call → Type 0
 ListsOf is_full None reply listed = ⊥
 ListsOf is_full (Some request) reply listed = Lists is_full request reply listed
@@ -73,7 +73,7 @@ HasCall (Given (Turn k) out) now later = Unit {0}
 HasCall (Given (Break k kind) out) now later = Unit {0}
 HasCall LongLine now later = Unit {0}
 
--- the same for everything that was taken, in order, each once
+-- these calls were asked for everything that was taken, in order, each once
 abbrev pub AreAsked : Bool → WorldState → List TakenItem → List Call → Type 0
 AreAsked is_full w [] listed = listed ≡ []
 AreAsked is_full w (item ∷ taken) listed =

@@ -17,7 +17,7 @@ pub record Takes (w : WorldState) (left : Option (List ℕ)) (item : TakenItem) 
   pub lines : IfKnown left (λ known. IsNext known item × (rest ≡ Some (rest_after_item known item)))
   pub out_is : out ≡ output_of item
 
--- it comes without a wait: a break, a turn, or a line that was read ahead whole
+-- what is next comes without a wait: a break, a turn, or a line that was read ahead whole
 abbrev pub comes_at_once : List ℕ → Next → Bool
 comes_at_once held (AtBreak shell kind) = true
 comes_at_once held AtLine = has_short_line held

@@ -49,7 +49,7 @@ abbrev pub ActsObeyTheRule : Type 0
 ActsObeyTheRule = (w : WorldState) (acts : List Act) (last : WorldState) → ActsLead w acts last → IsSane w →
     ActsObeyLimits w acts × ActsReportEnds w acts × ActsEndFramesOnce w acts last
 
--- the same of the deeds of a session, lines that run alone included; and the last world is sane
+-- all that the deeds of a session lead to does so where the rule says, lines that run alone included; and the last world is sane
 abbrev pub DeedsObeyTheRule : Type 0
 DeedsObeyTheRule = (w last : WorldState) (is_cut : Bool) (contents contents_now : Option (List ℕ)) →
     Does w last is_cut contents contents_now → IsSane w → DoesByRule w last is_cut contents contents_now × IsSane last

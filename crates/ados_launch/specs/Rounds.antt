@@ -71,7 +71,7 @@ abbrev pub following_place : ℕ → ℕ
 following_place zero = 0
 following_place (suc k) = suc k + 1
 
--- the same, with the shell of this place, if a reply comes at it
+-- the shells that had an answer in this round, with that of this place, if a reply comes at it
 abbrev pub marked_answers : ℕ → List Bool → List Bool
 marked_answers place answered =
     if nat_lt place 21 then answered else

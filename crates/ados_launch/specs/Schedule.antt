@@ -23,7 +23,7 @@ pub record ScheduleState : Type 0 where
   pub breaks : List BreakAt
   pub taken : ℕ
 
--- it begins with a list of breaks
+-- the schedule begins with a list of breaks
 abbrev pub first_schedule_state : List BreakAt → ScheduleState
 first_schedule_state breaks = record { round = first_round; breaks = breaks; taken = 0 }
 
@@ -35,7 +35,7 @@ pub data Next : Type 0 where
   AtStart : (shell : ℕ) → Next
   AtFurther : (shell : ℕ) → Next
 
--- the same as a session gives it, which names no break
+-- what comes next, as a session names it, which names no break
 abbrev pub next_named : due.Next → Next
 next_named LineDue = AtLine
 next_named (TurnDue shell) = AtTurn shell
@@ -79,7 +79,7 @@ abbrev pub first_due_break : ℕ → List BreakAt → Option BreakAt
 first_due_break number [] = None
 first_due_break number (at ∷ breaks) = if nat_le at.event number then Some at else None
 
--- such a break comes before what is due
+-- a break that is due comes before what else is
 abbrev pub break_or_due : Option BreakAt → ℕ → Next
 break_or_due None place = next_at place
 break_or_due (Some at) place = AtBreak at.shell at.kind
@@ -112,7 +112,7 @@ abbrev pub passed_schedule_state : ScheduleState → found.Next → ScheduleStat
 passed_schedule_state s (BreakFound at) = record s { breaks = drop 1 s.breaks; taken = s.taken + 1 }
 passed_schedule_state s (DueFound due_at) = record s { round = passed_round s.round due_at; taken = s.taken + 1 }
 
--- it may come: a break of a shell that runs, or what may come at a place
+-- what was found may come: a break of a shell that runs, or what may come at a place
 abbrev pub MayCome : WorldState → found.Next → Type 0
 MayCome w (BreakFound at) = is_some (numbered_shell w at.shell) ≡ true
 MayCome w (DueFound due_at) = (due_at.place < 61) × (has_event w due_at.place ≡ true)

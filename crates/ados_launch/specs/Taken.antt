@@ -60,8 +60,8 @@ IsAccepted w LongLine = Unit {0}
 abbrev pub text_of : List ℕ → List ℕ
 text_of line = map to_ascii line
 
--- it is what comes next in the bytes: a line is typed as text, at their end the input ends, a long line is
--- passed over; a turn, an answer and a break read nothing
+-- an item is what comes next in the bytes: a line is typed as text, at their end the input ends, a long line is passed over; a turn, an
+-- answer and a break read nothing
 abbrev pub IsNext : List ℕ → TakenItem → Type 0
 IsNext bytes (Given (Typed line) out) = (kind_of bytes ≡ Short) × (line ≡ text_of (line_of bytes))
 IsNext bytes (Given EndOfInput out) = kind_of bytes ≡ End
@@ -70,7 +70,7 @@ IsNext bytes (Given (Answer k reply) out) = Unit {0}
 IsNext bytes (Given (Break k kind) out) = Unit {0}
 IsNext bytes LongLine = kind_of bytes ≡ Long
 
--- it is a line of the reader, or its end
+-- an item is a line of the reader, or its end
 abbrev pub IsOfReader : TakenItem → Type 0
 IsOfReader (Given (Typed line) out) = Unit {0}
 IsOfReader (Given EndOfInput out) = Unit {0}

@@ -18,7 +18,7 @@ is_set word k = bit_at word k == 1
 abbrev pub takes_turns : Option ShellState → Bool
 takes_turns shell = can_turn (record { queue = []; is_ended = true }) shell
 
--- it asked a launcher for something, and waits for it
+-- a shell asked a launcher for something, and waits for it
 abbrev pub asks_now : Option ShellState → Bool
 asks_now shell = is_some (request_of_shell shell)
 

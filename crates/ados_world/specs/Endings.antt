@@ -14,7 +14,7 @@ abbrev pub remaining_shells : Option Codes → ℕ → List (Option ShellState) 
 remaining_shells None number shells = shells
 remaining_shells (Some codes) number shells = slice_set shells (number - 1) None
 
--- and the codes are kept
+-- the codes that a shell leaves are kept at its number
 abbrev pub recorded_codes : Option Codes → ℕ → List Codes → List Codes
 recorded_codes None number ended = ended
 recorded_codes (Some codes) number ended = slice_set ended (number - 1) codes

@@ -14,7 +14,7 @@ use Rattle.ados_world.specs.declared.hosts.NewFault.TheVariants.{TooMany, BadNam
 abbrev pub host_limit : ℕ
 host_limit = 64
 
--- it is the name of an internal command, or of a disk command of the dialect
+-- a name is that of an internal command, or of a disk command of the dialect
 abbrev pub is_command : Dialect → Text → Bool
 is_command dialect name = is_some (internal_named name) || is_some (disk_named dialect name)
 

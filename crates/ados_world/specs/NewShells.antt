@@ -8,7 +8,7 @@ new_shell (Some begun) (Some number) = Some (begun_shell number begun)
 new_shell (Some begun) None = None
 new_shell None number = None
 
--- it is placed among the others at its number
+-- a new shell is placed among the others at its number
 abbrev pub joined_shells : Option ShellState → List (Option ShellState) → List (Option ShellState)
 joined_shells None shells = shells
 joined_shells (Some shell) shells = slice_set shells (shell.parts.number - 1) (Some shell)

@@ -21,12 +21,12 @@ with_shell number change shells others = slice_set others (number - 1) (option_m
 abbrev pub updated_shells : ℕ → ShellDraft → List (Option ShellState) → List (Option ShellState)
 updated_shells number draft shells = with_shell number (drafted_shell draft) shells shells
 
--- the same if objects were moved
+-- the shells after what a turn makes of one of them, where objects were moved
 abbrev pub updated_carried_shells : ℕ → List Renamed → ShellDraft → List (Option ShellState) → List (Option ShellState)
 updated_carried_shells number moved draft shells =
     with_shell number (λ shell. carried_shell moved (drafted_shell draft shell)) shells (map (carried_place moved) shells)
 
--- the same if objects may have been moved
+-- the shells after what a turn makes of one of them; objects may have been moved
 abbrev pub shells_after_draft : ℕ → ShellDraft → List Renamed → List (Option ShellState) → List (Option ShellState)
 shells_after_draft number draft [] shells = updated_shells number draft shells
 shells_after_draft number draft (moved ∷ more) shells = updated_carried_shells number (moved ∷ more) draft shells
@@ -49,7 +49,7 @@ abbrev pub placed_shell : Option Place → Option ShellState → Option ShellSta
 placed_shell None shell = shell
 placed_shell (Some directory) shell = option_map (in_directory directory) shell
 
--- the same of all shells, by their numbers
+-- each shell is in the directory that is given for its number, if one is
 abbrev pub placed_shells : List (Option Place) → List (Option ShellState) → List (Option ShellState)
 placed_shells [] shells = shells
 placed_shells (directory ∷ directories) [] = []

@@ -24,11 +24,11 @@ begun_shells number draft shared shells =
     joined_shells (new_shell (option_map (λ b. b.value) draft.begun) (free_number shells))
     (shells_after_draft number draft.shell (moved_objects shared (version shared draft.shared) (renames_in (option_map (λ r. r.value) draft.renamed))) shells)
 
--- the same of a world's
+-- the shells of a world after what a turn makes of one of them, with the one that begins at the lowest free number
 abbrev pub shells_with_begun : ℕ → Draft → WorldState → List (Option ShellState)
 shells_with_begun number draft w = begun_shells number draft w.shared w.shells
 
--- the same when another one may be broken
+-- the shells of a world after a turn: with the one that begins, and the one that it breaks
 abbrev pub shells_after_turn : ℕ → Draft → WorldState → List (Option ShellState)
 shells_after_turn number draft w = shells_with_broken number draft.breaking (shells_with_begun number draft w)
 

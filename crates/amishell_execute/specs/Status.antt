@@ -17,13 +17,13 @@ number_of Limit = 124
 number_of Failed = 125
 number_of Unreadable = 126
 
--- that of a script's code: one below `least` is success, another one from 0 to 255 is the status itself
+-- the exit status for a script's code: one below `least` is success, another one from 0 to 255 is the status itself
 abbrev pub status_of : ℕ → ℤ → Status
 status_of least (pos n) = if nat_lt n least then Done else if nat_lt n 256 then Ended n else Failed
 status_of _ _ = Failed
 
--- that of a fault: 2 if the command line is invalid, 126 if the script cannot be read or a program is not in PATH, 124 at a limit of
--- events or of seconds, and 125 for any other
+-- the exit status for a fault: 2 if the command line is invalid, 126 if the script cannot be read or a program is not in PATH, 124 at a
+-- limit of events or of seconds, and 125 for any other
 abbrev pub status_of_fault : Fault → ℕ
 status_of_fault (BadWords reason) = 2
 status_of_fault (HostWords reason) = 2
@@ -36,7 +36,7 @@ status_of_fault (Turns turns) = 124
 status_of_fault (Seconds seconds) = 124
 status_of_fault fault = 125
 
--- that of a run: the one of its script's code, or of its fault
+-- the exit status of a run: the one for its script's code, or for its fault
 abbrev pub status_of_run : ℕ → Result End Fault → ℕ
 status_of_run least (Ok end) = number_of (status_of least end.code.0)
 status_of_run least (Err fault) = status_of_fault fault
