@@ -2,7 +2,7 @@
 
 `>` alone types an empty line. If no newline is printed (or typed) after a line, the line ends in `\\`. A backslash
 at the end that is itself printed or typed is written twice, and a printed line that begins with `>` is written with `\\>`.
-All is bytes.
+A line `\\internals` stands for the rows of the internal commands (internals.py). All is bytes.
 
 A file NAME.dialogue holds one. Before the first typed line it may have
 
@@ -14,6 +14,8 @@ A file full_NAME.dialogue is one of a world of Full: the program runs it with th
 """
 import os
 from typing import NamedTuple
+
+from internals import listed
 
 ENDING = ".dialogue"
 IN_FULL = "full_"
@@ -57,7 +59,8 @@ def parts_of(lines):
             parts.append((unescaped(line[2:]), b""))
         else:
             typed, printed = parts[-1]
-            parts[-1] = (typed, printed + unescaped(line.removeprefix(b"\\") if line.startswith(b"\\>") else line))
+            rows = [unescaped(row.removeprefix(b"\\") if row.startswith(b"\\>") else row) for row in listed(line)]
+            parts[-1] = (typed, printed + b"".join(rows))
     return parts
 
 
