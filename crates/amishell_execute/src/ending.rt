@@ -9,6 +9,7 @@ use crate::share::Share;
 use crate::stands::status_after;
 use crate::status::Status;
 use ados_launch::End;
+use ados_text::Code;
 use ados_transfer::taken_place;
 use ados_world::World;
 use execute_options::Options;
@@ -47,19 +48,22 @@ impl Ending<'_> {
             status_after(rt, self.options, world, self.origins, ended),
         );
         if !self.options.quiet {
-            self.keep_taken(rt, world, share.as_ref())?;
-            tell_losses(rt, world.files(), &self.kept)?;
+            self.tell_gone(rt, world, share.as_ref(), code)?;
         }
         outcome.status(rt, code, status)
     }
 
-    // What is shared or taken is not gone.
-    fn keep_taken<R: AllocGlobal>(
+    // Tells which files are gone: none that is shared or taken, and none in T: after a script that went well.
+    fn tell_gone<R: AllocGlobal + Eprint>(
         &mut self,
         rt: &R,
         world: &World,
         share: Option<&Share>,
+        code: Option<Code>,
     ) -> Result<(), Fault> {
+        if code.is_some_and(|code| code.0 < Code::ERROR.0) {
+            self.kept.add_temporary(rt.alloc())?;
+        }
         if let Some(share) = share {
             for volume in share.volumes() {
                 self.kept.add(&volume.place)?;
@@ -70,6 +74,6 @@ impl Ending<'_> {
                 self.kept.add(&place)?;
             }
         }
-        Ok(())
+        tell_losses(rt, world.files(), &self.kept)
     }
 }

@@ -23,7 +23,7 @@ pub struct Kept<'a> {
 }
 
 impl<'a> Kept<'a> {
-    /// The files as they are before the script, what is brought in, the script itself, T: and ENV:.
+    /// The files as they are before the script, what is brought in, the script itself, and ENV:.
     pub fn new(
         alloc: Global,
         files: &Ram,
@@ -36,11 +36,19 @@ impl<'a> Kept<'a> {
             places: Vec::new(alloc),
         };
         kept.add(script)?;
-        for name in ["T", "Env"] {
-            let name = Name::from_bytes(alloc, name.as_bytes())?;
-            kept.add(&Place::root(alloc).with(name)?)?;
-        }
+        kept.add_top(alloc, "Env")?;
         Ok(kept)
+    }
+
+    /// What is in T: has served, as after a script that went well.
+    pub fn add_temporary(&mut self, alloc: Global) -> Result<(), NoMemory> {
+        self.add_top(alloc, "T")
+    }
+
+    // What is in the directory of this name at the top is kept.
+    fn add_top(&mut self, alloc: Global, name: &str) -> Result<(), NoMemory> {
+        let name = Name::from_bytes(alloc, name.as_bytes())?;
+        self.add(&Place::root(alloc).with(name)?)
     }
 
     /// A file, or what is in a directory, is kept.
@@ -135,6 +143,7 @@ fn short_name(alloc: Global, path: &Text, place: &Place) -> Result<String, Fault
     match place.names().first() {
         Some(first) if first.text().is("C") => Ok(format!(in alloc; "C:{below}")?),
         Some(first) if first.text().is("S") => Ok(format!(in alloc; "S:{below}")?),
+        Some(first) if first.text().is("T") => Ok(format!(in alloc; "T:{below}")?),
         _ => Ok(String::from_str(alloc, path)?),
     }
 }
