@@ -1,5 +1,5 @@
 -- The devices that a line of a script mentions, and those that it assigns or asks for.
-use Rattle.std.specs.Prelude.{ℕ, ◌==◌, ◌&&◌, ◌||◌, Bool, false, List, [], ◌∷◌, ◌++◌, Option, Some, None, drop, map, nat_le, nat_lt, take, if◌then◌else◌}
+use Rattle.std.specs.Prelude.{ℕ, ◌==◌, ◌&&◌, ◌||◌, Bool, false, List, [], ◌∷◌, ◌++◌, Option, Some, None, drop, length, map, nat_le, nat_lt, take, if◌then◌else◌}
 use Rattle.std.specs.List.{flat_map, list_any, prefix_len}
 use Rattle.std.specs.Option.{option_map, option_or}
 use Rattle.ados_text.specs.Text.{Bytes, Text, is_same, to_ascii}
@@ -11,6 +11,7 @@ use Rattle.ados_resident.specs.declared.dialects.Dialect.{Dialect}
 use Rattle.ados_check.specs.Arguments.{argument_words, redirected_words}
 use Rattle.ados_check.specs.CommandWords.{unquoted}
 use Rattle.ados_check.specs.DevicePaths.{meaning_at, past_run, path_words}
+use Rattle.ados_check.specs.LeftOut.{command_text}
 use Rattle.ados_check.specs.declared.arguments.Word.{Word}
 use Rattle.ados_check.specs.declared.commands.Meaning.{Meaning}
 use Rattle.ados_check.specs.declared.commands.Meaning.TheVariants as meaning
@@ -24,9 +25,9 @@ abbrev pub begins_with_colon : Bytes → Bool
 begins_with_colon [] = false
 begins_with_colon (c ∷ cs) = c == 58
 
--- the device with which a path begins, if it is a plain name; there may be quotes around the path
+-- the device with which a path begins, if it is a plain name; empty if the path begins with its colon; there may be quotes around the path
 abbrev pub device_of : Bytes → ℕ → Option Bytes
-device_of path count = if nat_lt 0 count && begins_with_colon (drop count path) then Some (take count path) else None
+device_of path count = if begins_with_colon (drop count path) then Some (take count path) else None
 
 abbrev pub device_in : Bytes → Option Bytes
 device_in word = device_of (unquoted word) (prefix_len is_device_byte (unquoted word))
@@ -79,6 +80,13 @@ assigned_from dialect line (word ∷ words) = assigned_by line words (meaning_at
 -- the devices that a line assigns, or asks for
 abbrev pub assigned_in : Dialect → Bytes → List Text
 assigned_in dialect line = assigned_from dialect line (past_run line (argument_words line))
+
+abbrev pub is_nameless : Text → Bool
+is_nameless device = length device == 0
+
+-- a line mentions a path that begins with a colon: one of the top of a disk
+abbrev pub names_top : Dialect → Text → Bool
+names_top dialect line = list_any is_nameless (mentioned_in dialect (command_text line))
 
 -- a device is one of these, ignoring case
 abbrev pub is_among : List Text → Text → Bool

@@ -2,12 +2,13 @@
 ghost use Rattle.std.specs.Prelude.{◌≡◌, ◌++◌, ◌≤◌, length, IfOk, OnOk};
 ghost use Rattle.std.specs.List.{prefix_len};
 ghost use Rattle.std.specs.Option.{option_map};
-ghost use Rattle.ados_check.specs.Devices.{assigned_in, device_at, device_in, devices_in, first_device, is_among, is_device_byte, mentioned_in, one_or_none, path_in, used_by};
+ghost use Rattle.ados_check.specs.Devices.{assigned_in, device_at, device_in, devices_in, first_device, is_among, is_device_byte, is_nameless, mentioned_in, names_top, one_or_none, path_in, used_by};
 
 use crate::arguments::{Word, argument_words, redirected_words};
 use crate::command_words::unquoted;
 use crate::commands::Meaning;
 use crate::device_paths::{meaning_at, past_run, path_words};
+use crate::left_out::command_text;
 use ados_items::between;
 use ados_machine::Builtin;
 use ados_resident::{Dialect, EnvCommand, FlowCommand};
@@ -50,6 +51,14 @@ fn push_used(
     let meaning = meaning_at(*devices.allocator(), dialect, line, *command)?;
     push_device(line, *command, devices)?;
     push_devices(line, path_words(meaning, line, rest), devices)
+}
+
+/// A line mentions a path that begins with a colon. On an Amiga it begins at the top of the current disk, here at that of `RAM:`.
+pub fn names_top(alloc: Global, dialect: Dialect, line: &Text) -> Result<bool, NoMemory>
+    ensures { IfOk result (λ is. is ≡ names_top dialect line.now) }
+{
+    let devices = mentioned(alloc, dialect, command_text(line.as_bytes()))?;
+    Ok(devices.iter().any(|device| device.as_bytes().is_empty()))
 }
 
 /// Adds the devices that a line assigns, or asks for: the first one of Assign, and all of If.
@@ -142,14 +151,15 @@ fn path_in(line: &[u8], word: Word) -> &[u8]
     }
 }
 
-// The device with which a path begins, if it is a plain name, without the colon; there may be quotes around the path.
+// The device with which a path begins, if it is a plain name, without the colon, which alone may stand there; there may be quotes around
+// the path.
 fn device_in(word: &[u8]) -> Option<&[u8]>
     ensures { option_map (λ name. name.now) result ≡ device_in word.now }
 {
     let path = unquoted(word);
     let (name, rest) = path.split_at(device_len(path));
     match rest {
-        [b':', ..] if !name.is_empty() => Some(name),
+        [b':', ..] => Some(name),
         _ => None,
     }
 }

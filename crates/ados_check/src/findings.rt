@@ -26,6 +26,10 @@ const IDLE: &str = "no directive, since the first line does not begin with a dot
 const FLAT: &str =
     "Copy with a pattern and ALL puts the files of all directories into one (Copy DIR TO b ALL keeps them apart)";
 
+// Where a path leads that begins with a colon.
+const TOP: &str =
+    "a path that begins with a colon leads to the top of RAM:, and not of a disk (write its name before the colon)";
+
 /// A problem of a line.
 #[derive(Drop)]
 pub struct Finding {
@@ -78,7 +82,7 @@ pub enum Problem {
     NoScript(Text),
     /// A Copy with ALL puts what is in the directories that a pattern finds into one.
     FlatCopy,
-    /// As far as is known nobody has a device of this name.
+    /// As far as is known nobody has a device of this name. Without a name a path begins with its colon.
     NoDevice(Text),
 }
 
@@ -195,6 +199,7 @@ impl fmt::Display for Problem {
             Problem::UnknownCommand(name) => write!(f, "{}: unknown command", shown(name)),
             Problem::NoScript(name) => write!(f, "{}: no such script", shown(name)),
             Problem::FlatCopy => f.write_str(FLAT),
+            Problem::NoDevice(name) if name.as_bytes().is_empty() => f.write_str(TOP),
             Problem::NoDevice(name) => {
                 let name = shown(name);
                 write!(

@@ -29,6 +29,7 @@ mod ticks;
 
 pub use commands::name_in_c;
 pub use device_news::{assigned_devices, new_devices};
+pub use devices::names_top;
 pub use directives::bad_directive;
 pub use findings::{Finding, Problem};
 pub use inspection::inspect;
