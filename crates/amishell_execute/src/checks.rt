@@ -3,10 +3,11 @@ ghost use Rattle.std.specs.Prelude.{◌≡◌, None, IfErr, IfOk};
 ghost use Rattle.amishell_execute.specs.Playing.{drive_fault_of};
 
 use crate::callees::{calls_by_name, refused_callee};
-use crate::faults::{Fault, report};
+use crate::faults::Fault;
 use crate::origins::Origins;
-use crate::refusals::{refusal_of, strike_mends};
+use crate::refusals::{refusal_of, report_all, strike_mends};
 use crate::script_turn::ScriptTurn;
+use crate::top_paths::push_top;
 use ados_check::{Finding, check, merge_returns};
 use ados_launch::Next;
 use ados_ram::Place;
@@ -148,18 +149,10 @@ impl<'a> Checks<'a> {
         let alloc = rt.alloc();
         let name = turn.name;
         let bytes = turn.bytes(alloc, world)?;
-        let lines = turn.frame.further();
-        let aliases = &turn.shell.settings().aliases;
-        let mut found = check(alloc, world.dialect(), aliases, lines, &bytes)?;
+        let found = self.problems(world, turn, &bytes)?;
         if found.is_empty() {
             return Ok(());
         }
-        if !prints(alloc, world, "Echo")? || !prints(alloc, world, "Ask")? {
-            for one in &mut found {
-                one.problem.refuse();
-            }
-        }
-        merge_returns(&mut found);
         let is_new = self.is_first_report(name)?;
         if self.is_lenient && !is_new {
             return Ok(());
@@ -172,6 +165,32 @@ impl<'a> Checks<'a> {
             return Err(self.not_run(turn, refusal));
         }
         Ok(())
+    }
+
+    // What is found in the lines of a script that begins in a shell, by these bytes of its file.
+    fn problems(
+        &self,
+        world: &World,
+        turn: &ScriptTurn<'_>,
+        bytes: &[u8],
+    ) -> Result<Vec<Finding>, NoMemory> {
+        let alloc = self.origins.alloc;
+        let (dialect, lines) = (world.dialect(), turn.frame.further());
+        let aliases = &turn.shell.settings().aliases;
+        let mut found = check(alloc, dialect, aliases, lines, bytes)?;
+        if self.origins.has_shares() {
+            push_top(alloc, dialect, lines, &mut found)?;
+        }
+        if found.is_empty() {
+            return Ok(found);
+        }
+        if !prints(alloc, world, "Echo")? || !prints(alloc, world, "Ask")? {
+            for one in &mut found {
+                one.problem.refuse();
+            }
+        }
+        merge_returns(&mut found);
+        Ok(found)
     }
 
     // Checks the script that the line which is taken calls by name, if it would not begin.
@@ -256,26 +275,4 @@ fn prints(alloc: Global, world: &World, name: &str) -> Result<bool, NoMemory> {
         .internal(&name)
         .is_some_and(|internal| !internal.is_disabled);
     Ok(is_enabled && residents.find(&name).is_none())
-}
-
-/// Reports what was found in a script, but harmless problems only if they are new, all of them in one line; gives whether one was
-/// not harmless.
-pub fn report_all<R: AllocGlobal + Eprint>(
-    rt: &R,
-    name: &str,
-    found: &[Finding],
-    is_new: bool,
-) -> Result<bool, NoMemory> {
-    let mut is_refused = false;
-    let mut is_told = !is_new;
-    for one in found {
-        let is_harmless = one.problem.is_harmless();
-        if !(is_harmless && is_told) {
-            let line = format!(in rt.alloc(); "{name}: {one}")?;
-            report(rt, &line);
-        }
-        is_told = is_told || is_harmless;
-        is_refused = is_refused || !is_harmless;
-    }
-    Ok(is_refused)
 }

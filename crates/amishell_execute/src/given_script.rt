@@ -1,7 +1,7 @@
 //! The script of the command line, as it is brought in.
 
-use crate::checks::report_all;
 use crate::faults::{Fault, unread_script};
+use crate::refusals::report_all;
 use ados_check::{bad_directive, check, mark, mark_printed, strike};
 use ados_text::lines_of;
 use ados_transfer::read_script;

@@ -4,6 +4,7 @@ use crate::faults::Fault;
 use crate::missing_devices::Devices;
 use crate::refusals::refusal_of;
 use crate::status::Status;
+use crate::top_paths::is_refused;
 use ados_check::{Finding, Problem, may_make_alias};
 use ados_text::{NoMemory, Text};
 use ados_trace::escaped;
@@ -97,7 +98,7 @@ impl<'a> Lines<'a> {
         problem: &Problem,
         may_strike: bool,
     ) -> Result<Verdict, NoMemory> {
-        let is_refused = problem.is_refused();
+        let is_refused = is_refused(problem);
         if is_refused && (self.options.lenient || self.may_be_alias(alloc, problem)?) {
             return Ok(Verdict::Note);
         }
@@ -152,4 +153,13 @@ impl<'a> Lines<'a> {
         self.told.insert(line)?;
         Ok(())
     }
+}
+
+/// The lines that are typed before a script.
+pub fn typed_lines(alloc: Global, options: &Options<'_>) -> Result<Vec<Text>, NoMemory> {
+    let mut lines = Vec::new(alloc);
+    for line in &options.typed {
+        lines.push(Text::from_bytes(alloc, line.as_bytes())?)?;
+    }
+    Ok(lines)
 }

@@ -2,10 +2,11 @@
 
 use crate::called::{Called, Found, called_bytes};
 use crate::faults::{Fault, unread_script};
-use crate::inspection_lines::{Lines, ScriptReport};
+use crate::inspection_lines::{Lines, ScriptReport, typed_lines};
 use crate::missing_devices::Devices;
 use crate::refusals::is_struck;
 use crate::status::Status;
+use crate::top_paths::push_top;
 use ados_check::{
     Finding, Problem, inspect, mark, mark_printed, merge_returns, new_devices, strike,
 };
@@ -207,7 +208,7 @@ impl<'a> Inspector<'a> {
         Ok(())
     }
 
-    // Adds the devices that nobody may have; those that its lines assign are known from then on.
+    // Adds the devices that nobody may have, and a path that begins with a colon; the devices that its lines assign are known from then on.
     fn push_devices(
         &mut self,
         alloc: Global,
@@ -219,6 +220,9 @@ impl<'a> Inspector<'a> {
         self.devices.add(lines.as_slice(), is_given)?;
         for finding in new_devices(alloc, self.options.dialect, lines.as_slice())? {
             found.push(finding)?;
+        }
+        if !self.options.share.is_empty() {
+            push_top(alloc, self.options.dialect, lines.as_slice(), found)?;
         }
         Ok(())
     }
@@ -287,13 +291,4 @@ impl<'a> Inspector<'a> {
             Found::Nothing => Ok(false),
         }
     }
-}
-
-// The lines that are typed before a script.
-fn typed_lines(alloc: Global, options: &Options<'_>) -> Result<Vec<Text>, NoMemory> {
-    let mut lines = Vec::new(alloc);
-    for line in &options.typed {
-        lines.push(Text::from_bytes(alloc, line.as_bytes())?)?;
-    }
-    Ok(lines)
 }

@@ -42,6 +42,7 @@ mod share;
 mod stands;
 mod status;
 mod teller;
+mod top_paths;
 mod trail;
 mod unanswered;
 mod watched;

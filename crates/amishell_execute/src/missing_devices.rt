@@ -20,6 +20,8 @@ pub struct Devices {
     start: Shared,
     // Those that options and lines give.
     given: Vec<Given>,
+    // Folders are shared.
+    has_shares: bool,
 }
 
 // A device that is given.
@@ -50,6 +52,7 @@ impl Devices {
             dialect: options.dialect,
             start: Shared::first(alloc, options.dialect, Hosts::of(alloc, &[])?)?,
             given: Vec::new(alloc),
+            has_shares: !options.share.is_empty(),
         };
         for words in &options.share {
             devices.add_share(rt, words)?;
@@ -85,6 +88,10 @@ impl Devices {
         let Problem::NoDevice(name) = &finding.problem else {
             return Ok(false);
         };
+        if name.as_bytes().is_empty() {
+            // The top of `RAM:` is there, but may not be what is meant.
+            return Ok(!self.has_shares);
+        }
         if self.given.iter().any(|one| one.is_for(name, is_given)) {
             return Ok(true);
         }

@@ -36,6 +36,11 @@ impl<'a> Origins<'a> {
         }
     }
 
+    /// A folder is shared.
+    pub fn has_shares(&self) -> bool {
+        !self.shares.is_empty()
+    }
+
     /// Adds the directories of these volumes, each with the folder that its words of `--share` name.
     pub fn add_shares<R: Files>(
         &mut self,
