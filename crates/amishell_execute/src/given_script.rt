@@ -2,11 +2,12 @@
 
 use crate::faults::{Fault, unread_script};
 use crate::refusals::report_all;
-use ados_check::{bad_directive, check, mark, mark_printed, strike};
-use ados_text::lines_of;
+use ados_check::{Finding, bad_directive, check, mark, mark_printed, strike};
+use ados_text::{NoMemory, lines_of};
 use ados_transfer::read_script;
 use ados_vars::Aliases;
 use execute_options::Options;
+use std::alloc::Global;
 use std::io::Eprint;
 use std::rt::Files;
 
@@ -22,13 +23,7 @@ pub fn read_checked<R: AllocGlobal + Files + Eprint>(
         Ok(script) => script,
         Err(fault) => return Err(unread_script(rt, fault)),
     };
-    if options.ascii_marks {
-        mark(&mut script);
-    }
-    if options.strike {
-        strike(alloc, options.dialect, &mut script)?;
-    }
-    let printed = mark_printed(alloc, &mut script)?;
+    let printed = mend(alloc, options, &mut script)?;
     let _ = report_all(rt, options.script, &printed, true)?;
     if let Some(bad) = bad_directive(alloc, &script)? {
         let _ = report_all(rt, options.script, &[bad], true)?;
@@ -41,4 +36,19 @@ pub fn read_checked<R: AllocGlobal + Files + Eprint>(
         mark(&mut script);
     }
     Ok(script)
+}
+
+/// Does to the bytes of a script of the command line what is done to them before it runs; gives what is found of those that it prints.
+pub fn mend(
+    alloc: Global,
+    options: &Options<'_>,
+    script: &mut [u8],
+) -> Result<Vec<Finding>, NoMemory> {
+    if options.ascii_marks {
+        mark(script);
+    }
+    if options.strike {
+        strike(alloc, options.dialect, script)?;
+    }
+    mark_printed(alloc, script)
 }

@@ -2,14 +2,13 @@
 
 use crate::called::{Called, Found, called_bytes};
 use crate::faults::{Fault, unread_script};
+use crate::given_script::mend;
 use crate::inspection_lines::{Lines, ScriptReport, typed_lines};
 use crate::missing_devices::Devices;
 use crate::refusals::is_struck;
 use crate::status::Status;
 use crate::top_paths::push_top;
-use ados_check::{
-    Finding, Problem, inspect, mark, mark_printed, merge_returns, new_devices, strike,
-};
+use ados_check::{Finding, Problem, inspect, merge_returns, new_devices};
 use ados_text::{NoMemory, Text, lines_of};
 use ados_trace::escaped;
 use ados_transfer::{TransferFault, read_script};
@@ -53,12 +52,10 @@ pub fn inspect_all<R: Env + AllocGlobal + Files + Print + Clone + Drop + Clock>(
     rt: &R,
     options: &Options<'_>,
 ) -> Result<Status, Fault> {
-    let mut inspector = Inspector::of(rt, options)?;
-    inspector.add_given(rt)?;
-    let looked = inspector.look_at_all(rt);
-    let status = inspector.tell_all(rt)?;
-    looked?;
-    Ok(status)
+    match Inspector::of(rt, options) {
+        Ok(mut inspector) => inspector.inspect(rt),
+        Err(fault) => Err(fault),
+    }
 }
 
 impl<'a> Inspector<'a> {
@@ -78,6 +75,18 @@ impl<'a> Inspector<'a> {
             devices,
             reports: Vec::new(rt.alloc()),
         })
+    }
+
+    // Looks at all scripts, and tells what was found, also in those before one that can't be read; `Wrong` if there is an error.
+    fn inspect<R: AllocGlobal + Files + Print + Clone + Drop>(
+        &mut self,
+        rt: &R,
+    ) -> Result<Status, Fault> {
+        self.add_given(rt)?;
+        let looked = self.look_at_all(rt);
+        let status = self.tell_all(rt)?;
+        looked?;
+        Ok(status)
     }
 
     // The scripts of the command line are looked at.
@@ -167,7 +176,7 @@ impl<'a> Inspector<'a> {
             return Ok(None);
         };
         let mut found = if is_given {
-            self.mend(rt.alloc(), &mut script)?
+            mend(rt.alloc(), self.options, &mut script)?
         } else {
             Vec::new(rt.alloc())
         };
@@ -225,17 +234,6 @@ impl<'a> Inspector<'a> {
             push_top(alloc, self.options.dialect, lines.as_slice(), found)?;
         }
         Ok(())
-    }
-
-    // Does to a script of the command line what is done to it before it runs; gives what is found of the bytes that it prints.
-    fn mend(&self, alloc: Global, script: &mut [u8]) -> Result<Vec<Finding>, NoMemory> {
-        if self.options.ascii_marks {
-            mark(script);
-        }
-        if self.options.strike {
-            strike(alloc, self.options.dialect, script)?;
-        }
-        mark_printed(alloc, script)
     }
 
     // A script as the Shell has it: a carriage return at the end of a line is taken off those of the command line alone. One that is called
