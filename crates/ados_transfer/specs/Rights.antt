@@ -11,8 +11,8 @@ abbrev pub has_right : ℕ → ℕ → Bool
 has_right mode right = not (bit_and mode right == 0)
 
 -- group and others may enter a folder; its group may
-abbrev pub all_enter : Rights → Bool
-all_enter folder = has_right folder.mode 0o010 && has_right folder.mode 0o001
+abbrev pub may_all_enter : Rights → Bool
+may_all_enter folder = has_right folder.mode 0o010 && has_right folder.mode 0o001
 
 -- the group of this owner may enter a folder, since it is the folder's
 abbrev pub group_enters : Owner → Rights → Bool
@@ -20,7 +20,7 @@ group_enters owner folder = has_right folder.mode 0o010 && folder.owner.group ==
 
 -- the rights that a file of this owner gives to those alone who can enter a folder
 abbrev pub left_within : Owner → Rights → ℕ
-left_within owner folder = if all_enter folder then 0o777 else if group_enters owner folder then 0o770 else 0o700
+left_within owner folder = if may_all_enter folder then 0o777 else if group_enters owner folder then 0o770 else 0o700
 
 -- the rights of others, as those of a group
 abbrev pub as_group : ℕ → ℕ
