@@ -5,7 +5,7 @@ use Rattle.ados_text.specs.Text.{Text}
 use Rattle.ados_readargs.specs.declared.args.Arg.{Arg}
 use Rattle.ados_readargs.specs.Args.{has_switch, option_text, option_texts}
 use Rattle.ados_find.specs.Parts.{Parts}
-use Rattle.ados_find.specs.Search.{device_named}
+use Rattle.ados_find.specs.Devices.{device_named}
 use Rattle.ados_find.specs.Shared.{SharedState}
 use Rattle.ados_resident.specs.declared.commands.EnvCommand.{EnvCommand}
 use Rattle.ados_resident.specs.declared.commands.EnvCommand.TheVariants.{Assign, Cd, Eval, GetEnv, Path, Resident, SetEnv, UnsetEnv, Which}

@@ -7,10 +7,11 @@ use Rattle.ados_find.specs.declared.codes.Codes.{Codes}
 use Rattle.ados_readargs.specs.declared.args.Arg.{Arg}
 use Rattle.ados_readargs.specs.Args.{has_switch}
 use Rattle.ados_find.specs.declared.routes.Route.{Route}
-use Rattle.ados_find.specs.declared.routes.Route.TheVariants.{Listed, ByPath, ToC}
+use Rattle.ados_find.specs.declared.routes.Route.TheVariants.{BeforeC, ByPath, ToC}
 use Rattle.ados_find.specs.Parts.{Parts}
 use Rattle.ados_find.specs.Routes.{route_devices}
-use Rattle.ados_find.specs.Search.{file_lookup, is_path, places_before_c, searched_devices}
+use Rattle.ados_find.specs.Search.{file_lookup, is_path, places_before_c}
+use Rattle.ados_find.specs.Devices.{searched_devices}
 use Rattle.ados_find.specs.Shared.{SharedState}
 use Rattle.ados_env.specs.declared.sought.Sought.{Sought}
 use Rattle.ados_env.specs.declared.options.TheConstants.{WHICH_NORES, WHICH_RES, WHICH_ALL}
@@ -30,7 +31,7 @@ has_file shared place = is_some (file_lookup shared place)
 abbrev pub file_route : SharedState → Parts → Text → Route
 file_route shared parts word =
     if is_path word then ByPath
-    else (if list_any (has_file shared) (places_before_c shared parts.directory parts.settings.path word) then Listed else ToC)
+    else (if list_any (has_file shared) (places_before_c shared parts.directory parts.settings.path word) then BeforeC else ToC)
 
 -- the devices that the search for a word uses; the resident list alone uses none
 abbrev pub sought_devices : SharedState → Parts → Sought → Text → List Text

@@ -87,7 +87,7 @@ fn file_route(
     if has_file(alloc, shared, view.directory, word)?
         || has_file_on_path(alloc, shared, view.settings.path.entries(), word)?
     {
-        return Ok(Route::Listed);
+        return Ok(Route::BeforeC);
     }
     Ok(Route::ToC)
 }

@@ -13,10 +13,11 @@ use Rattle.ados_find.specs.declared.cache.Known.{Known}
 abbrev pub text_resolved : AssignMap → Files → Place → Text → Resolved
 text_resolved assigns files directory text = by_path (resolve_path assigns files directory) (path_of text)
 
--- a pair is what resolving gives
+-- a path that is cached with a place leads to that place
 abbrev pub IsResolved : AssignMap → Files → Known → Type 0
 IsResolved assigns files known = text_resolved assigns files known.directory known.path ≡ Ok known.place
 
+-- each path that is cached leads to the place that is cached with it
 abbrev pub AreResolved : AssignMap → Files → List Known → Type 0
 AreResolved assigns files pairs = All (IsResolved assigns files) pairs
 

@@ -16,27 +16,28 @@ use Rattle.ados_find.specs.Shared.{limits_of, with_files}
 use Rattle.ados_find.specs.Targets.{target_of}
 use Rattle.ados_find.specs.Views.{View}
 
--- it prints nothing, and returns these codes
+-- the effect of a command that prints nothing, and returns these codes
 abbrev pub silent : Effect → Codes → Effect
 silent effect codes = record effect { codes = codes; output = [] }
 
--- its output is in the changed files, unless the change is refused
+-- the effect of a command whose output is in the files after a change, unless a fault forbids that
 abbrev pub output_in : Option Result2 → Files → Effect → Effect
 output_in fault files effect =
     unless_refused (silent effect) fault (record (silent effect effect.codes) { shared = with_files effect.shared files })
 
--- its output is the content of the file at a place
+-- the effect of a command whose output is the content of the file at a place
 abbrev pub output_at : View → Effect → Place → Effect
 output_at view effect place =
     output_in (write_fault (limits_of effect.shared.dialect) (is_output view.busy (key_of place)) effect.shared.files (key_of place) (last_name place) effect.output)
     (write_of effect.shared.files (key_of place) (last_name place) effect.output) effect
 
+-- the effect of a command whose output goes to a target, or is lost since the target has a fault
 abbrev pub output_by : View → Effect → Result Target Result2 → Effect
 output_by view effect (Err fault) = silent effect (error_codes fault)
 output_by view effect (Ok Nil) = silent effect effect.codes
 output_by view effect (Ok (At place)) = output_at view effect place
 
--- a command that returns a code writes nothing, and prints nothing
+-- the effect of a command whose output goes to where a text leads; one that returns a code writes nothing, and prints nothing
 abbrev pub output_for : View → Text → Effect → Effect
 output_for view text effect =
     if int_eq effect.codes.code.0 (pos 0) then output_by view effect (target_of effect.shared view.parts.directory text)

@@ -4,7 +4,7 @@ ghost use Rattle.std.specs.List.{flat_map};
 ghost use Rattle.ados_assign.specs.Uses.{reached_devices};
 ghost use Rattle.ados_text.specs.Text.{to_ascii};
 ghost use Rattle.ados_find.specs.Routes.{route_devices};
-ghost use Rattle.ados_find.specs.Search.{device_named};
+ghost use Rattle.ados_find.specs.Devices.{device_named};
 
 use crate::routes::Route;
 use crate::shared::Shared;
@@ -58,7 +58,7 @@ impl Shared {
         ensures { OnOk result (used.new.items ≡ used.old.items ++ flat_map (reached_devices self.now.assigns) (route_devices route word.now)) }
     {
         match route {
-            Route::Listed => Ok(()),
+            Route::BeforeC => Ok(()),
             Route::ByPath => self.push_device_of(used, word),
             Route::ToC => self.push_device(alloc, used, b"C"),
         }

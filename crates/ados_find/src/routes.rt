@@ -4,8 +4,8 @@ use crate::search::Found;
 /// How far the search for a word went.
 #[derive(Clone, Copy)]
 pub enum Route {
-    /// It was found on the resident list or before C:, and its search uses no device.
-    Listed,
+    /// The search ended before C:, on the resident list or at a file of the path; it uses no device.
+    BeforeC,
     /// The word is a path, whose device is used.
     ByPath,
     /// The search reached C:.

@@ -11,7 +11,7 @@ use Rattle.ados_find.specs.Shared.{SharedState}
 use Rattle.ados_find.specs.declared.targets.Target.TheVariants.{Nil, At}
 use Rattle.ados_machine.specs.Apply.{turn_of_completion}
 use Rattle.ados_line.specs.declared.lines.Line.{Line}
-use Rattle.ados_find.specs.Search.{searched_devices}
+use Rattle.ados_find.specs.Devices.{searched_devices}
 use Rattle.ados_resident.specs.declared.commands.Builtin.{Builtin}
 use Rattle.ados_machine.specs.Bound.{with_reached, devices_of_raw, devices_in_phase, devices_of_search, devices_used, UsedDefersAreBound}
 use Rattle.ados_machine.specs.Phases.{Phase, Ready, GoingOn, Waiting}

@@ -49,7 +49,7 @@ use Rattle.ados_machine.specs.Next.{stands_for, frames_at, recorded}
 use Rattle.ados_machine.specs.Numbers.{free_number}
 use Rattle.ados_machine.specs.Opening.{output_devices}
 use Rattle.std.proofs.lemmas.List.{append-nil}
-use Rattle.ados_find.specs.Search.{searched_devices}
+use Rattle.ados_find.specs.Devices.{searched_devices}
 use Rattle.ados_machine.specs.Uses.{devices_named, devices_of}
 use Rattle.ados_machine.specs.Phases.{GoingOn}
 use Rattle.ados_machine.specs.Plain.{disk_command, own_command, IsPlain, TakesEffect, action_at, EnabledCommandsAreFound, limit_after, EffectsAreRecorded, EffectsArePrinted, FailAtSetsTheLimit, SubstitutionsKeepTheirOutput, HasGone, DirectoriesAreCarried}

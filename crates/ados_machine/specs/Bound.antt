@@ -6,7 +6,7 @@ use Rattle.ados_line.specs.declared.lines.Line.{Line}
 use Rattle.ados_assign.specs.Assigns.{AssignMap}
 use Rattle.ados_assign.specs.Uses.{reached_devices, with_used_defers_bound}
 use Rattle.ados_find.specs.Effects.{Effect}
-use Rattle.ados_find.specs.Search.{searched_devices}
+use Rattle.ados_find.specs.Devices.{searched_devices}
 use Rattle.ados_resident.specs.declared.commands.Builtin.{Builtin}
 use Rattle.ados_machine.specs.declared.events.Event.TheVariants.{Turn}
 use Rattle.ados_machine.specs.declared.outs.Out.{Out}

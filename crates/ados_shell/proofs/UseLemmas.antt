@@ -4,7 +4,7 @@ use Rattle.ados_text.specs.Text.{Text}
 use Rattle.ados_assign.specs.Uses.{with_used_defers_bound}
 use Rattle.ados_find.specs.Shared.{SharedState, with_assigns}
 use Rattle.ados_find.specs.declared.targets.Target.{Target}
-use Rattle.ados_find.specs.Search.{device_named}
+use Rattle.ados_find.specs.Devices.{device_named}
 use Rattle.ados_line.specs.declared.lines.Redirection.{Redirection}
 use Rattle.ados_machine.specs.Course.{Course, with_devices_used}
 use Rattle.ados_machine.specs.Completions.{Completion, Here}

@@ -124,7 +124,7 @@ impl Draft {
 
     // The internal command that a word stands for, if one is listed and not disabled: no device is used to find it.
     #[inline(always)]
-    #[tactic(auto, unfolding(ados_find::specs::Search::found_of, ados_find::specs::Search::searched_devices))]
+    #[tactic(auto, unfolding(ados_find::specs::Search::found_of, ados_find::specs::Devices::searched_devices))]
     fn internal(&self, scene: &Scene, word: &Text) -> Option<InternalCommand>
         requires { IsUnset self.now }
         ensures found { IfSome result (λ command. found_in (course_of scene.now self.now) word.now ≡ Internal command) }

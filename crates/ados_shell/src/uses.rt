@@ -1,7 +1,7 @@
 // The devices that an event uses; at its end the assigns of Defer among them are bound.
 ghost use Rattle.std.specs.Prelude.{◌≡◌, ◌∷◌, [], OnOk, codes};
 ghost use Rattle.ados_find.specs.Routes.{route_devices};
-ghost use Rattle.ados_find.specs.Search.{device_named};
+ghost use Rattle.ados_find.specs.Devices.{device_named};
 ghost use Rattle.ados_machine.specs.Course.{with_devices_used, with_no_device_used};
 ghost use Rattle.ados_machine.specs.Lines.{with_variables};
 

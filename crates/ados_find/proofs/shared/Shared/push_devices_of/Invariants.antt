@@ -1,7 +1,7 @@
 use Rattle.std.proofs.Common.{◌≡◌, ◌++◌, drop}
 use Rattle.std.specs.List.{flat_map}
 use Rattle.ados_assign.specs.Uses.{reached_devices}
-use Rattle.ados_find.specs.Search.{device_named}
+use Rattle.ados_find.specs.Devices.{device_named}
 use Rattle.ados_find.proofs.shared.Shared.push_devices_of.Given as goal
 
 abbrev pub invariant-loop-text : goal.invariant-loop-text
