@@ -15,12 +15,12 @@ use Rattle.ados_env.specs.AssignRequest.{changes_list}
 use Rattle.ados_env.specs.declared.assign_list.ListWork.{ListWork}
 use Rattle.ados_env.specs.declared.assign_request.Request.{Request}
 
--- ADD and REMOVE begin with the directories as they are, and every other request with none
+-- the list that Assign begins with, given the directories of the assign: ADD and REMOVE begin with them, every other request with none
 abbrev pub first_list_work : Request → List Place → ListWork
 first_list_work r before = record { removes = r.removes; before = before; list = if changes_list r then before else [] }
 
--- a directory that TARGET names is added at the end, unless it is there; or it is removed, and then it has to be one of those
--- that were there before
+-- the list after one directory that TARGET names: it is added at the end, unless it is there; or with REMOVE it is removed, and must be one
+-- of those that were there before
 abbrev pub list_work_on_place : ListWork → Place → Result ListWork Codes
 list_work_on_place work place =
     if work.removes then
@@ -28,7 +28,7 @@ list_work_on_place work place =
     else Err (error_codes OBJECT_NOT_FOUND))
     else Ok (record work { list = with_search_directory work.list place })
 
--- the work after the texts of TARGET in order, unless one of them is refused
+-- the list after the texts of TARGET in order, unless one of them is refused
 abbrev pub list_work_on_all : SharedState → View → ListWork → List Text → Result ListWork Codes
 list_work_on_all shared view work [] = Ok work
 list_work_on_all shared view work (text ∷ texts) =

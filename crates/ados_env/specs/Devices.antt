@@ -13,12 +13,12 @@ use Rattle.ados_env.specs.declared.options.TheConstants.{EVAL_TO, WHICH_FILE}
 use Rattle.ados_env.specs.declared.sought.Sought.{Sought}
 use Rattle.ados_env.specs.Sought.{sought_devices, sought_of}
 
--- FILE of Resident, or else NAME, unless NAME is what is to be removed
+-- the paths that Resident reads, given FILE and the texts of NAME: FILE, or else NAME; a NAME that is to be removed is no path
 abbrev pub program_paths : Bool → Option Text → List Text → List Text
 program_paths removes (Some file) name = file ∷ []
 program_paths removes None name = if removes then [] else name
 
--- the texts of its arguments that are paths: TARGET of Assign, unless it is kept as a text, and never its NAME; TO of Eval
+-- the arguments of a command that are paths: TARGET of Assign, unless it is kept as a text, and never its NAME; TO of Eval
 abbrev pub paths_in : EnvCommand → List Arg → List Text
 paths_in Assign args = if has_switch args 3 || has_switch args 4 then [] else option_texts args 1
 paths_in Cd args = option_texts args 0
@@ -27,12 +27,12 @@ paths_in Path args = option_texts args 0
 paths_in Resident args = program_paths (has_switch args 2) (option_text args 1) (option_texts args 0)
 paths_in command args = []
 
--- the devices of the search for a word as a command
+-- the devices that Which searches for a word as a command; none without a word
 abbrev pub search_devices : SharedState → Parts → Sought → Option Text → List Text
 search_devices shared parts s None = []
 search_devices shared parts s (Some word) = sought_devices shared parts s word
 
--- the devices that it uses: those of its paths; ENV: for global variables; and those that the search of Which reaches
+-- the devices that a command uses: those of its paths; ENV: for global variables; and those that the search of Which reaches
 abbrev pub devices_of : EnvCommand → SharedState → Parts → List Arg → List Text
 devices_of SetEnv shared parts args = codes "ENV" ∷ []
 devices_of GetEnv shared parts args = codes "ENV" ∷ []

@@ -7,8 +7,8 @@ use Rattle.ados_env.specs.declared.tokens.Token.{Token}
 use Rattle.ados_env.specs.declared.tokens.Token.TheVariants as token
 use Rattle.ados_env.specs.Operators.{binary_level, value_of_operation, prefixed_value}
 
--- Tokens write a value at a level: a value with its prefixes at 7, and operators at theirs. What is before an operator may have
--- others of its level, and what is after it only stronger ones; so equal ones act from the left.
+-- These tokens write this value (none: it has a fault) at a level: a value with its prefixes at 7, operators at theirs. What is before an
+-- operator may have others of its level, and what is after it only stronger ones; so equal ones act from the left.
 pub data Writes : ℕ → List Token → Option ℤ → Type 0 where
   number : (n : ℤ) → Writes 7 (token.Number n ∷ []) (Some n)
   least : Writes 7 (token.Operator Minus ∷ token.Limit ∷ []) (Some (neg_ℤ (pos (2 ^ 31))))
@@ -19,6 +19,6 @@ pub data Writes : ℕ → List Token → Option ℤ → Type 0 where
       → Writes (binary_level operator) (front ++ token.Operator operator ∷ back) (value_of_operation operator x y)
   higher : (level : ℕ) (ts : List Token) (v : Option ℤ) → Writes (suc level) ts v → Writes level ts v
 
--- an expression
+-- these tokens write an expression with this value (none: it has a fault)
 abbrev pub IsExpression : List Token → Option ℤ → Type 0
 IsExpression ts v = Writes 1 ts v

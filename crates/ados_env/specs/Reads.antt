@@ -5,11 +5,12 @@ use Rattle.ados_resident.specs.declared.dialects.Dialect.{Dialect}
 use Rattle.ados_resident.specs.declared.dialects.Dialect.TheVariants.{Core, Full}
 use Rattle.ados_resident.specs.declared.commands.EnvCommand.TheVariants.{Break, Eval, Resident, SetEnv, Status, UnsetEnv}
 
+-- the dialect is Full
 abbrev pub is_full : Dialect → Bool
 is_full Core = false
 is_full Full = true
 
--- whether a command reads what is in use: those that change files do, as Eval does in Full by TO, and Resident, which reads one
+-- a command reads which files are in use: those that change files do (Eval in Full, by TO), and Resident, which reads one
 abbrev pub reads_in_use : Dialect → EnvCommand → Bool
 reads_in_use dialect Resident = true
 reads_in_use dialect SetEnv = true
@@ -17,8 +18,7 @@ reads_in_use dialect UnsetEnv = true
 reads_in_use dialect Eval = is_full dialect
 reads_in_use dialect command = false
 
--- whether a command reads the names of the shells, and what they run from: Status and Break read the names, and Resident
--- what they run from
+-- a command reads the shells that run: Status and Break read their names, and Resident what they run from
 abbrev pub reads_shells : EnvCommand → Bool
 reads_shells Break = true
 reads_shells Resident = true

@@ -16,20 +16,21 @@ use Rattle.ados_find.specs.Shared.{SharedState}
 use Rattle.ados_env.specs.declared.sought.Sought.{Sought}
 use Rattle.ados_env.specs.declared.options.TheConstants.{WHICH_NORES, WHICH_RES, WHICH_ALL}
 
--- NORES leaves out the internal commands and the resident list, and RES the files
+-- what Which is to look for: NORES leaves out the internal commands and the resident list, RES the files; ALL asks for all files
 abbrev pub sought_of : List Arg → Sought
 sought_of args = record { residents = not (has_switch args WHICH_NORES); files = not (has_switch args WHICH_RES); all = has_switch args WHICH_ALL }
 
--- how far a search goes that meets all files
-abbrev pub full_route : Text → Route
-full_route word = if is_path word then ByPath else ToC
+-- how far the search for a word goes that is to meet all files
+abbrev pub route_of_all : Text → Route
+route_of_all word = if is_path word then ByPath else ToC
 
--- and one for the first file alone: it ends before C: if there is one
+-- a file is at this place, if the place is right
 abbrev pub has_file : SharedState → Result Place Codes → Bool
 has_file shared place = is_some (file_lookup shared place)
 
-abbrev pub file_route : SharedState → Parts → Text → Route
-file_route shared parts word =
+-- how far the search for a word goes that is to meet only the first file: it ends before C: if there is one there
+abbrev pub route_of_first : SharedState → Parts → Text → Route
+route_of_first shared parts word =
     if is_path word then ByPath
     else (if list_any (has_file shared) (places_before_c shared parts.directory parts.settings.path word) then BeforeC else ToC)
 
@@ -37,6 +38,6 @@ file_route shared parts word =
 abbrev pub sought_devices : SharedState → Parts → Sought → Text → List Text
 sought_devices shared parts s word =
     if not s.files then [] else
-    (if s.all then route_devices (full_route word) word else
+    (if s.all then route_devices (route_of_all word) word else
     (if s.residents then searched_devices shared parts.directory parts.settings.path word
-    else route_devices (file_route shared parts word) word))
+    else route_devices (route_of_first shared parts word) word))

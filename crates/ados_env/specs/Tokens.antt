@@ -14,42 +14,44 @@ use Rattle.ados_env.specs.declared.tokens.Token.TheVariants.{Number, Limit, Oper
 use Rattle.ados_env.specs.declared.tokens.Cut.{Cut}
 use Rattle.ados_env.specs.Numerals.{digits_in, number_written}
 
--- a quote and a character: the character's code
+-- the token of a quote and a character, given the bytes behind the quote: the character's code
 abbrev pub character_cut : Bytes → Cut
 character_cut [] = record { token = Wrong; length = 1 }
 character_cut (character ∷ rest) = record { token = Number (pos character); length = 2 }
 
--- an `x` after the first byte marks a hexadecimal number
+-- the bytes behind the first one begin with an `x`, which marks a hexadecimal number, case ignored
 abbrev pub marks_hexadecimal : Bytes → Bool
 marks_hexadecimal [] = false
 marks_hexadecimal (mark ∷ rest) = fold_of mark == 120
 
--- 32 bits are those of a signed number
+-- the token of a number of 32 bits, which are those of a signed number
 abbrev pub bits_token : Option ℕ → Token
 bits_token None = Wrong
 bits_token (Some bits) = Number (cast_signed w32 bits)
 
--- hexadecimal or octal digits after a mark of so many bytes
+-- the token of hexadecimal or octal digits after a mark of so many bytes, given the text from the mark on
 abbrev pub digits_cut : Base → ℕ → Bytes → Cut
 digits_cut base mark text =
     record { token = bits_token (number_written base (digits_in base (drop mark text))); length = mark + length (digits_in base (drop mark text)) }
 
--- a decimal number is at most 2147483647; one more is possible as the value of a `-`
+-- the token of a decimal number: at most 2147483647; one more is possible as the value of a `-`
 abbrev pub decimal_token : Option ℕ → Token
 decimal_token None = Wrong
 decimal_token (Some n) = if nat_lt n (2 ^ 31) then Number (pos n) else (if n == 2 ^ 31 then Limit else Wrong)
 
+-- the token of the decimal digits with which a text begins
 abbrev pub decimal_cut : Bytes → Cut
 decimal_cut text = record { token = decimal_token (number_written Decimal (digits_in Decimal text)); length = length (digits_in Decimal text) }
 
--- a word is the longest run of letters
+-- the word with which a text begins: the longest run of letters
 abbrev pub letters_in : Bytes → Text
 letters_in text = take (prefix_len is_ascii_alphabetic text) text
 
--- an operator's word and its first letter, case ignored
+-- a word is an operator's long or short name, case ignored
 abbrev pub is_either : Text → Text → Text → Bool
 is_either word long short = is_same word long || is_same word short
 
+-- the token of a word: an operator's name, or its first letter
 abbrev pub word_token : Text → Token
 word_token word =
     if is_either word (codes "MOD") (codes "M") then By Modulo else
@@ -58,15 +60,16 @@ word_token word =
     (if is_either word (codes "XOR") (codes "X") then By Xor else
     (if is_either word (codes "EQV") (codes "E") then By Equal else Wrong))))
 
+-- the token of the word with which a text begins
 abbrev pub word_cut : Bytes → Cut
 word_cut text = record { token = word_token (letters_in text); length = length (letters_in text) }
 
--- `<<` and `>>` are the same byte twice
+-- the token of `<<` or `>>`, given its first byte and the bytes behind: the same byte twice
 abbrev pub shift_cut : Operator → ℕ → Bytes → Cut
 shift_cut operator byte [] = record { token = Wrong; length = 1 }
 shift_cut operator byte (next ∷ rest) = if next == byte then record { token = By operator; length = 2 } else record { token = Wrong; length = 1 }
 
--- `(` `)` `~` `*` `/` `%` `+` `-` `&` `|`
+-- the token of a byte: `(` `)` `~` `*` `/` `%` `+` `-` `&` `|`
 abbrev pub sign_token : ℕ → Token
 sign_token byte =
     if byte == 40 then Open else
@@ -80,8 +83,8 @@ sign_token byte =
     (if byte == 38 then By And else
     (if byte == 124 then By Or else Wrong)))))))))
 
--- the token with which a text begins, by its first byte, the rest, and the whole text: `'` a character, `0x` and `#x`
--- hexadecimal digits, `#` and `0` octal digits, other digits a decimal number, letters a word, else a sign
+-- the token with which a text begins, given its first byte, the rest, and the whole text: `'` a character, `0x` and `#x` hexadecimal
+-- digits, `#` and `0` octal digits, other digits a decimal number, letters a word, else a sign
 abbrev pub token_cut : ℕ → Bytes → Bytes → Cut
 token_cut byte rest text =
     if byte == 39 then character_cut rest else
@@ -94,7 +97,7 @@ token_cut byte rest text =
     (if byte == 62 then shift_cut ShiftRight byte rest else
     record { token = sign_token byte; length = 1 })))))))
 
--- the tokens of a text, of which so many first bytes are those of the token before; blanks may stand between any two
+-- the tokens of a text, of which the first `taken` bytes are those of the token before; blanks may stand between any two
 abbrev pub tokens_from : ℕ → Bytes → List Token
 tokens_from taken [] = []
 tokens_from taken (byte ∷ rest) =
@@ -102,5 +105,6 @@ tokens_from taken (byte ∷ rest) =
     (if is_blank byte then tokens_from 0 rest else
     ((token_cut byte rest (byte ∷ rest)).token ∷ tokens_from ((token_cut byte rest (byte ∷ rest)).length - 1) rest))
 
+-- the tokens of a text
 abbrev pub tokens_of : Bytes → List Token
 tokens_of text = tokens_from 0 text

@@ -14,20 +14,21 @@ use Rattle.ados_find.specs.Shared.{SharedState}
 use Rattle.ados_resident.specs.Programs.{recognized_program}
 use Rattle.ados_env.specs.Directories.{path_line}
 
--- a script, or a program by its bytes that has bit e
+-- a file is a command: a script, or a program by its bytes that has bit e
 abbrev pub is_command : SharedState → Entry → Bool
 is_command shared e = not (is_directory e) && (e.bits.script || (e.bits.execute && is_some (recognized_program shared.dialect shared.hosts (bytes_of e))))
 
--- a script or a program has a line
+-- the line of a place, given the entry there: nothing if it is not a command
 abbrev pub entry_line : SharedState → Place → Option Entry → Bytes
 entry_line shared place None = []
 entry_line shared place (Some e) = if is_command shared e then path_line shared.files place else []
 
+-- the line of a place where a word is looked up: nothing if a command is not there
 abbrev pub place_line : SharedState → Result Place Codes → Bytes
 place_line shared (Err codes) = []
 place_line shared (Ok place) = entry_line shared place (map.get shared.files (key_of place))
 
--- unless the word is a path it is also looked up in the directories of the path, and in C:
+-- the lines of the files that a word names in the directories of the path and in C:; a word that is a path is not looked up there
 abbrev pub further_lines : SharedState → Parts → Text → Bytes
 further_lines shared parts word =
     if is_path word then []

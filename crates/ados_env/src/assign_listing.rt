@@ -1,7 +1,7 @@
 // Assign: LIST, VOLS, DIRS and DEVICES.
 ghost use Rattle.std.specs.Prelude.{◌≡◌, ◌++◌, IfOk, OnOk};
 ghost use Rattle.ados_find.specs.Effects.{effect_of};
-ghost use Rattle.ados_env.specs.AssignListing.{changes_anything, lines_if, listing_lines, print_listing};
+ghost use Rattle.ados_env.specs.AssignListing.{is_given_more, lines_if, listing_lines, print_listing};
 
 use crate::assign_lines::push_assigns;
 use crate::assign_request::Request;
@@ -54,7 +54,7 @@ pub fn print_listing(
 ) -> CommandResult
     ensures { IfOk result (λ outcome. effect_of shared.now outcome ≡ print_listing shared.now request.now listing has_name) }
 {
-    if changes_anything(request, has_name) {
+    if is_given_more(request, has_name) {
         let codes = Codes::failed(Result2::TOO_MANY_ARGUMENTS);
         return Ok(Outcome::answering(alloc, codes));
     }
@@ -62,8 +62,8 @@ pub fn print_listing(
 }
 
 // Something other than EXISTS is given.
-fn changes_anything(request: &Request, has_name: bool) -> bool
-    ensures { result ≡ changes_anything request.now has_name }
+fn is_given_more(request: &Request, has_name: bool) -> bool
+    ensures { result ≡ is_given_more request.now has_name }
 {
     has_name || (request.has_target() || (request.keeps_text() || request.changes_list()))
 }

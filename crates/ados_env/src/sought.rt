@@ -7,7 +7,7 @@ ghost use Rattle.ados_ram.specs.Files.{is_some_directory};
 ghost use Rattle.ados_find.specs.Paths as paths;
 ghost use Rattle.ados_find.specs.Routes.{route_devices};
 ghost use Rattle.ados_find.specs.Search.{file_of_entry, places_of_entries};
-ghost use Rattle.ados_env.specs.Sought.{file_route, full_route, has_file, sought_devices};
+ghost use Rattle.ados_env.specs.Sought.{has_file, route_of_all, route_of_first, sought_devices};
 
 use crate::options::{WHICH_ALL, WHICH_NORES, WHICH_RES};
 use ados_find::{Refusal, Route, Shared, ShellView, find, is_path, place_of};
@@ -53,18 +53,18 @@ impl Sought {
         ensures { IfOk result (λ route. route_devices route word.now ≡ sought_devices shared.now view.now.parts self word.now) }
     {
         if self.all {
-            return Ok(full_route(word));
+            return Ok(route_of_all(word));
         }
         if !self.residents {
-            return file_route(alloc, shared, view, word);
+            return route_of_first(alloc, shared, view, word);
         }
         let path = view.settings.path.entries();
         Ok(find(alloc, word, shared, view.directory, path)?.route)
     }
 }
 
-fn full_route(word: &Text) -> Route
-    ensures { result ≡ full_route word.now }
+fn route_of_all(word: &Text) -> Route
+    ensures { result ≡ route_of_all word.now }
 {
     if is_path(word) {
         Route::ByPath
@@ -73,13 +73,13 @@ fn full_route(word: &Text) -> Route
     }
 }
 
-fn file_route(
+fn route_of_first(
     alloc: Global,
     shared: &Shared,
     view: &ShellView,
     word: &Text,
 ) -> Result<Route, NoMemory>
-    ensures { IfOk result (λ route. route ≡ file_route shared.now view.now.parts word.now) }
+    ensures { IfOk result (λ route. route ≡ route_of_first shared.now view.now.parts word.now) }
 {
     if is_path(word) {
         return Ok(Route::ByPath);

@@ -6,7 +6,7 @@ use Rattle.ados_ram.specs.Place.{Place, key_of}
 use Rattle.ados_ram.specs.Files.{Files}
 use Rattle.ados_ram.specs.Contents.{children, contents}
 
--- the objects directly in a directory, in order; a file has none
+-- the objects directly in the directory at a place, in order; a file has none
 abbrev pub objects_in : Files → Place → List Place
 objects_in files place = children (key_of place) (map.entries files)
 
@@ -14,17 +14,18 @@ objects_in files place = children (key_of place) (map.entries files)
 abbrev pub object_count : Files → ℕ
 object_count files = length (contents [] (map.entries files))
 
--- the root itself is passed over
+-- a place alone in a list; the root is passed over
 abbrev pub unless_root : Place → List Place
 unless_root [] = []
 unless_root (name ∷ names) = (name ∷ names) ∷ []
 
--- an object and what is at most `levels` below it: a directory before its contents, in order
+-- the object at a place and what is at most so many levels below it: a directory before its contents, in order; the root itself is passed
+-- over
 abbrev pub objects_down : ℕ → Files → Place → List Place
 objects_down zero files place = unless_root place
 objects_down (suc levels) files place = unless_root place ++ flat_map (objects_down levels files) (objects_in files place)
 
--- what a place stands for: itself, or with ALL itself and all that is below it
+-- what a place stands for: itself, or with ALL (`true`) itself and all that is below it
 abbrev pub objects_of : Bool → Files → Place → List Place
 objects_of true files place = objects_down (object_count files) files place
 objects_of false files place = place ∷ []

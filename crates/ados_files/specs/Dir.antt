@@ -25,53 +25,56 @@ use Rattle.ados_files.specs.Texts.{text_or_empty}
 use Rattle.ados_files.specs.declared.options.TheConstants.{DIR_DIR, DIR_DIRS, DIR_FILES, DIR_ALL, DIR_OPT, DIR_INTER}
 use Rattle.ados_files.specs.declared.dir_lines.Choice.{Choice}
 
--- a directory has a line of its own among directories, and behind it is what is in it
+-- the line of a directory among directories, if `shown`, after the blanks of its level
 abbrev pub directory_line : Bool → Bytes → Entry → Bytes
 directory_line shown blanks e = if shown then blanks ++ (codes "     " ++ (e.name ++ codes " (dir)\n")) else []
 
+-- the line of a directory (the entry) and behind it `inside`, what is in it; nothing if the entry is none or a file
 abbrev pub directory_text : Bool → Bytes → Option Entry → Bytes → Bytes
 directory_text shown blanks None inside = []
 directory_text shown blanks (Some e) inside = cond (is_directory e) (directory_line shown blanks e ++ inside) []
 
--- a file has its line among files
+-- the line of a file (the entry) among files, if `shown`, after the blanks of its level; nothing if the entry is none or a directory
 abbrev pub file_text : Bool → Bytes → Option Entry → Bytes
 file_text shown blanks None = []
 file_text shown blanks (Some e) = if is_directory e || not shown then [] else blanks ++ (codes "  " ++ (e.name ++ 10 ∷ []))
 
--- a directory, with the text of the objects in it
+-- the text of a directory at a place and of the objects in it, of which `inside` gives the text; nothing for a file
 unfoldable pub branch_text : (List Place → Bytes) → Bool → Files → Bytes → Place → Bytes
 branch_text inside shown files blanks place = directory_text shown blanks (map.get files (key_of place)) (inside (objects_in files place))
 
--- the objects of a level, the directories first, each with the levels below it, which have four blanks more in front. DIRS
--- shows directories alone, FILES files alone; both or neither show both
+-- the objects of a level, the directories first, each with the levels below it (so many in all), which have four blanks more in front. DIRS
+-- shows directories alone, FILES files alone; both or neither show both.
 abbrev pub level_text : ℕ → Choice → Files → Bytes → List Place → Bytes
 level_text zero choice files blanks places = []
 level_text (suc levels) choice files blanks places =
     flat_map (branch_text (level_text levels choice files (blanks ++ codes "    ")) (keeps choice.dirs choice.files) files blanks) places
     ++ entry_lines (file_text (keeps choice.files choice.dirs) blanks) files places
 
--- one level is shown, or with ALL each
+-- how many levels are shown: one, or with ALL (`all`) each
 abbrev pub levels_shown : Bool → Files → ℕ
 levels_shown all files = if all then object_count files else 1
 
+-- what Dir shows of the objects at these places, by DIRS, FILES and ALL
 abbrev pub dir_text : Choice → Files → List Place → Bytes
 dir_text choice files places = level_text (levels_shown choice.all files) choice files [] places
 
--- the directories for which a path stands
+-- Dir of the directories for which a path stands
 abbrev pub dir_effect : SharedState → Choice → List Place → Effect
 dir_effect shared choice bases =
     unless_refused (codes_effect shared) (list_fault (entry_at shared.files bases))
     (output_effect shared (dir_text choice shared.files (all_children shared.files bases)))
 
--- the directories of DIR, or without it the current directory
+-- the directories for which DIR stands, or without it the current directory
 abbrev pub directories_given : SharedState → View → Option Text → Result (List Place) Codes
 directories_given shared view None = Ok (view.parts.directory ∷ [])
 directories_given shared view (Some text) = bases_of shared view.parts.directory text
 
+-- Dir of a path (none: the current directory), given what is shown
 abbrev pub dir_by : SharedState → View → Option Text → Choice → Effect
 dir_by shared view text choice = if_found (codes_effect shared) (directories_given shared view text) (dir_effect shared choice)
 
--- OPT's letters a, d and f, in either case, are the switches ALL, DIRS and FILES
+-- what is shown: OPT's letters a, d and f, in either case, are the switches ALL, DIRS and FILES
 abbrev pub choice_by : List Arg → Text → Choice
 choice_by args letters =
     record {
@@ -80,12 +83,13 @@ choice_by args letters =
       all = has_switch args DIR_ALL || has_letter 97 letters;
     }
 
--- INTER, or i for it, is not there
+-- what is shown, by the switches and the letters of OPT; INTER, or i for it, is not there
 abbrev pub choice_of : List Arg → Text → Result Choice Codes
 choice_of args letters =
     if has_switch args DIR_INTER || has_letter 105 letters then Err (error_codes NOT_IMPLEMENTED)
     else (if are_letters_of (codes "adf") letters then Ok (choice_by args letters) else Err (fail_codes BAD_NUMBER))
 
+-- Dir, given its arguments
 abbrev pub dir_row : SharedState → View → List Arg → Effect
 dir_row shared view args =
     if_found (codes_effect shared) (choice_of args (text_or_empty (option_text args DIR_OPT))) (dir_by shared view (option_text args DIR_DIR))

@@ -14,20 +14,21 @@ use Rattle.ados_objects.specs.Acts.{at_names}
 use Rattle.ados_files.specs.Below.{objects_of}
 use Rattle.ados_files.specs.declared.options.TheConstants.{FILENOTE_FILE, FILENOTE_COMMENT, FILENOTE_ALL}
 
--- one object gets the comment
+-- the object at a place gets the comment, unless that is refused
 abbrev pub note_one : Text → Done → Place → Done
 note_one comment done place =
     refused_or (comment_fault done.shared.files (key_of place) comment) done
     (record done { shared = with_files done.shared (comment_of done.shared.files (key_of place) comment) })
 
--- the objects that a place stands for get it
+-- the object at a place gets the comment, and with ALL (`all`) all that is below it too
 abbrev pub note_place : Bool → Text → Done → Place → Done
 note_place all comment done place = act_on_each (note_one comment) done (objects_of all done.shared.files place)
 
--- without COMMENT the comment is cleared
+-- the comment that Filenote sets: without COMMENT it is cleared
 abbrev pub comment_given : List Arg → Text
 comment_given args = text_or_empty (option_text args FILENOTE_COMMENT)
 
+-- Filenote, given its arguments
 abbrev pub filenote_row : SharedState → View → List Arg → Effect
 filenote_row shared view args =
     end_effect (act_on_each (at_names (note_place (has_switch args FILENOTE_ALL) (comment_given args)) view) (fresh_work shared) (option_texts args FILENOTE_FILE))

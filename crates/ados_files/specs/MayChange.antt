@@ -17,12 +17,12 @@ use Rattle.ados_files.specs.declared.options.TheConstants.{COPY_TO, DELETE_FILE,
 use Rattle.ados_files.specs.declared.rename.Sources.{Sources}
 use Rattle.ados_files.specs.declared.rename.Sources.TheVariants.{Alone, Several}
 
--- the key is at a place or below it, if there is one
+-- there is a place, and the key is at it or below it
 abbrev pub is_under : Result Place Codes → Key → Bool
 is_under (Err codes) key = false
 is_under (Ok place) key = is_at_or_below (key_of place) key
 
--- the key is at or below the place to which a path leads
+-- the key is at or below the place to which a path leads; no path, or a wrong one, leads to none
 abbrev pub is_under_path : SharedState → View → Option Text → Key → Bool
 is_under_path shared view None key = false
 is_under_path shared view (Some text) key = is_under (place_of shared view.parts.directory text) key
@@ -32,22 +32,23 @@ abbrev pub is_under_any : List Place → Key → Bool
 is_under_any [] key = false
 is_under_any (place ∷ places) key = is_at_or_below (key_of place) key || is_under_any places key
 
+-- the key is at or below one of the objects found
 abbrev pub is_under_found : Result FoundPlaces Codes → Key → Bool
 is_under_found (Err codes) key = false
 is_under_found (Ok found) key = is_under_any found.places key
 
--- the key is at or below an object that one of the arguments names, each in the files as those before it left them: if
+-- the key is at or below an object that one of the arguments names, each in the files as those before it left them (`act` works on one): if
 -- M: has two directories and both have x, the second of two arguments M:x names the other x
 abbrev pub is_under_worked : (Done → Text → Done) → View → Done → List Text → Key → Bool
 is_under_worked act view done [] key = false
 is_under_worked act view done (text ∷ texts) key =
     is_under_found (named_places done.shared view.parts.directory text) key || is_under_worked act view (act done text) texts key
 
--- Copy: TO, and what is below it
+-- Copy may change the entry at this key: it is that of TO, or below it
 abbrev pub copy_may_change : SharedState → View → List Arg → Key → Bool
 copy_may_change shared view args key = is_under_path shared view (option_text args COPY_TO) key
 
--- Delete: the objects that its arguments name when the turn of each comes, and what is below them
+-- Delete may change the entry at this key: it is an object that one of its arguments names when its turn comes, or below it
 abbrev pub delete_may_change : SharedState → View → List Arg → Key → Bool
 delete_may_change shared view args key =
     is_under_worked (at_names (delete_place view (has_switch args DELETE_ALL) (delete_manner args)) view) view (fresh_work shared) (option_texts args DELETE_FILE) key
@@ -58,7 +59,7 @@ is_under_sources (Err codes) key = false
 is_under_sources (Ok (Alone place)) key = is_at_or_below (key_of place) key
 is_under_sources (Ok (Several found)) key = is_under_any found.places key
 
--- Rename: what FROM names, and TO, and what is below them
+-- Rename may change the entry at this key: it is what FROM names, or TO, or below these
 abbrev pub rename_may_change : SharedState → View → List Arg → Key → Bool
 rename_may_change shared view args key =
     is_under_sources (rename_sources shared view.parts.directory (option_texts args RENAME_FROM)) key || is_under_path shared view (option_text args RENAME_TO) key

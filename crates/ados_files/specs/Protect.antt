@@ -34,7 +34,7 @@ begins_with sign (c ∷ cs) = c == sign
 abbrev pub flag_letters : Text → Text
 flag_letters flags = if begins_with 43 flags || begins_with 45 flags then drop 1 flags else flags
 
--- the bits of letters: h s p a r w e d
+-- the bits that letters name, in either case: h s p a r w e d
 abbrev pub bits_of : Text → Bits
 bits_of letters =
     record {
@@ -48,24 +48,25 @@ bits_of letters =
       delete = has_letter 100 letters;
     }
 
--- whether bits are added, removed or set: they cannot be added and removed at once
+-- how the bits change: with ADD (the first Bool) they are added, with SUB (the second) removed, otherwise set; not both at once
 abbrev pub way_of : Bool → Bool → Result Way Result2
 way_of true true = Err TOO_MANY_ARGUMENTS
 way_of true false = Ok Add
 way_of false true = Ok Take
 way_of false false = Ok Set
 
+-- a change of bits by a way, with the bits of these letters, or the fault of the way
 abbrev pub change_by : Result Way Result2 → Text → Result Change Result2
 change_by (Err fault) letters = Err fault
 change_by (Ok way) letters = Ok (record { way = way; bits = bits_of letters })
 
--- the change that the flags and the switches ask for
+-- the change that the flags and the switches ADD (`add`) and SUB (`sub`) ask for
 abbrev pub change_of : Text → Bool → Bool → Result Change Result2
 change_of flags add sub =
     if are_letters_of (codes "hsparwed") (flag_letters flags) then change_by (way_of (add || begins_with 43 flags) (sub || begins_with 45 flags)) (flag_letters flags)
     else Err BAD_NUMBER
 
--- one bit after a change
+-- a bit after a change in a way, given the bit as it was (`old`) and the bit that is given
 abbrev pub changed_bit : Way → Bool → Bool → Bool
 changed_bit Set old given = given
 changed_bit Add old given = old || given
@@ -85,25 +86,27 @@ changed_bits change old =
       delete = changed_bit change.way old.delete change.bits.delete;
     }
 
--- the bits of the object at a place; those of a new object if there is none
+-- the bits of an object by its entry; those of a new object if there is none
 abbrev pub object_bits : Option Entry → Bits
 object_bits None = fresh_bits
 object_bits (Some e) = e.bits
 
--- the bits of one object are changed
+-- changes the bits of the object at a place, unless that is refused
 abbrev pub protect_one : Change → Done → Place → Done
 protect_one change done place = (let bits = changed_bits change (object_bits (map.get done.shared.files (key_of place))) in
     refused_or (protect_fault done.shared.files (key_of place)) done
     (record done { shared = with_files done.shared (protect_of done.shared.files (key_of place) bits) }))
 
--- those of the objects that a place stands for
+-- changes the bits of the objects that a place stands for: with ALL (`all`) all below it too
 abbrev pub protect_place : Bool → Change → Done → Place → Done
 protect_place all change done place = act_on_each (protect_one change) done (objects_of all done.shared.files place)
 
+-- Protect of the objects that texts name, given the change or its fault
 abbrev pub protect_texts : SharedState → View → Bool → Result Change Result2 → List Text → Effect
 protect_texts shared view all (Err fault) texts = codes_effect shared (fail_codes fault)
 protect_texts shared view all (Ok change) texts = end_effect (act_on_each (at_names (protect_place all change) view) (fresh_work shared) texts)
 
+-- Protect, given its arguments
 abbrev pub protect_row : SharedState → View → List Arg → Effect
 protect_row shared view args =
     protect_texts shared view (has_switch args PROTECT_ALL)

@@ -39,7 +39,7 @@ core_template_of files.Search = codes "FROM/M,SEARCH/A,ALL/S,NONUM/S,QUIET/S,QUI
 core_template_of files.Sort = codes "FROM/A,TO/A,COLSTART/K/N,CASE/S,NUMERIC/S"
 core_template_of files.«Type» = codes "FROM/A/M"
 
--- in Full it has more options behind those
+-- the text of a command's template in Full: more options come behind those of Core
 abbrev pub full_template_of : FilesCommand → Text
 full_template_of files.Copy = codes "FROM/M,TO/A,ALL/S,QUIET/S,CLONE/S,COM/S,NOPRO/S,DATES/S,NOREQ/S,BUF=BUFFER/K/N"
 full_template_of files.Delete = codes "FILE/M/A,ALL/S,QUIET/S,FORCE/S"
@@ -64,7 +64,7 @@ option_names template = map (λ option. option.names) (options_of template)
 abbrev pub names_at : FilesCommand → ℕ → List Text
 names_at command place = unwrap_or (slice_get (option_names (full_template_of command)) place) []
 
--- the definition of a command
+-- what a command does, given the shared state, its shell's view and its arguments
 abbrev pub row_of : FilesCommand → SharedState → View → List Arg → Effect
 row_of files.Copy shared view args = copy_row shared view args
 row_of files.Delete shared view args = delete_row shared view args

@@ -19,12 +19,13 @@ use Rattle.ados_files.specs.declared.options.TheConstants.{SORT_CASE, SORT_COLST
 use Rattle.ados_files.specs.declared.sort_order.SortOrder.{SortOrder}
 use Rattle.ados_files.specs.declared.type_files.Printing.TheVariants.{Plain}
 
--- how many bytes stand before the column to which COLSTART counts, from 1 on
+-- how many bytes stand before the column to which COLSTART counts, from 1 on; 0 without it
 abbrev pub bytes_before : Option ℤ → Result ℕ Codes
 bytes_before None = Ok 0
 bytes_before (Some (pos column)) = if nat_lt 0 column then Ok (column - 1) else Err (fail_codes BAD_NUMBER)
 bytes_before (Some (negsuc number)) = Err (fail_codes BAD_NUMBER)
 
+-- the order in which Sort puts lines, by CASE and NUMERIC, if so many bytes stand before the column
 abbrev pub order_after : List Arg → ℕ → SortOrder
 order_after args before = record { before = before; case = has_switch args SORT_CASE; numeric = has_switch args SORT_NUMERIC }
 
@@ -32,30 +33,32 @@ order_after args before = record { before = before; case = has_switch args SORT_
 abbrev pub text_of_lines : List Bytes → Bytes
 text_of_lines lines = flat_map (λ line. line ++ 10 ∷ []) lines
 
--- what is written for the bytes that were read
+-- what Sort writes for the bytes that were read
 abbrev pub sorted_text : SortOrder → Bytes → Bytes
 sorted_text order bytes = text_of_lines (sorted_lines order (plain_lines bytes))
 
+-- the work so far, with the bytes that were read in order
 abbrev pub sorted_work : SortOrder → Done → Done
 sorted_work order done = record done { output = sorted_text order done.output }
 
--- the lines of what was read are written to TO, as Join writes
+-- Sort of what was read: its lines are written to TO, as Join writes
 abbrev pub sort_read : View → Text → SortOrder → Done → Effect
 sort_read view to order read = end_effect (write_read view to (sorted_work order read))
 
--- FROM is read as Type reads
+-- Sort of the file FROM to TO; FROM is read as Type reads
 abbrev pub sort_to_target : SharedState → View → Text → Text → SortOrder → Effect
 sort_to_target shared view from to order = sort_read view to order (at_path (type_one Plain view) view (fresh_work shared) from)
 
--- COLSTART is looked at before FROM
+-- Sort of FROM to TO; COLSTART is looked at before FROM
 abbrev pub sort_by_texts : SharedState → View → List Arg → Text → Text → Effect
 sort_by_texts shared view args from to =
     if_found (codes_effect shared) (bytes_before (option_number args SORT_COLSTART))
     (λ before. sort_to_target shared view from to (order_after args before))
 
--- the template ensures that neither is missing
+-- Sort of FROM to TO, if TO is there; the template ensures that neither is missing
 abbrev pub sort_given : SharedState → View → List Arg → Option Text → Text → Effect
 sort_given shared view args to from = if_given (codes_effect shared) to (sort_by_texts shared view args from)
 
+-- Sort, given its arguments
 abbrev pub sort_row : SharedState → View → List Arg → Effect
 sort_row shared view args = if_given (codes_effect shared) (option_text args SORT_FROM) (sort_given shared view args (option_text args SORT_TO))

@@ -15,7 +15,7 @@ abbrev pub plain_lines : Bytes → List Bytes
 plain_lines [] = []
 plain_lines (byte ∷ bytes) = if is_newline byte then [] ∷ plain_lines bytes else lines_with_byte byte (plain_lines bytes)
 
--- how many bytes the first of them has
+-- how many bytes the first line has
 abbrev pub line_len : Bytes → ℕ
 line_len [] = 0
 line_len (byte ∷ bytes) = if is_newline byte then 0 else suc (line_len bytes)
@@ -24,6 +24,7 @@ line_len (byte ∷ bytes) = if is_newline byte then 0 else suc (line_len bytes)
 abbrev pub part_of : SortOrder → Bytes → Bytes
 part_of order line = drop order.before line
 
+-- the byte is not a decimal digit
 abbrev pub is_no_digit : ℕ → Bool
 is_no_digit byte = not (is_ascii_digit byte)
 
@@ -39,18 +40,19 @@ sign_count text = if is_negative text then 1 else 0
 abbrev pub number_text : Bytes → Bytes
 number_text text = take (sign_count text + digit_count (drop (sign_count text) text)) text
 
--- the number with which it begins; 0 where there is none, or it is past i32
+-- the number with which a text begins; 0 where there is none, or it is past i32
 abbrev pub leading_number : Bytes → ℤ
 leading_number text = unwrap_or (number_of (number_text text)) (pos 0)
 
--- NUMERIC: lines are compared by that number first
+-- the number by which NUMERIC compares a line first; 0 without NUMERIC
 abbrev pub number_key : SortOrder → Bytes → ℤ
 number_key order line = if order.numeric then leading_number (part_of order line) else pos 0
 
--- then by bytes, in lower case unless CASE
+-- the bytes by which a line is compared: from the column on, in lower case unless CASE
 abbrev pub text_key : SortOrder → Bytes → Bytes
 text_key order line = if order.case then part_of order line else folded_text (part_of order line)
 
+-- how two lines compare: by their numbers first, then by bytes
 abbrev pub line_cmp : SortOrder → Bytes → Bytes → Ordering
 line_cmp order a b = ordering_then (int_cmp (number_key order a) (number_key order b)) (slice_cmp nat_cmp (text_key order a) (text_key order b))
 

@@ -24,27 +24,29 @@ use Rattle.ados_files.specs.declared.options.TheConstants.{TYPE_FROM, TYPE_TO, T
 use Rattle.ados_files.specs.declared.type_files.Printing.{Printing}
 use Rattle.ados_files.specs.declared.type_files.Printing.TheVariants.{Plain, Hex, Numbered}
 
--- the bytes of one file; lines are numbered when all files are read
+-- what is printed for the bytes of one file; lines are numbered when all files are read
 abbrev pub file_text : Printing → Bytes → Bytes
 file_text Plain bytes = bytes
 file_text Hex bytes = hex_text bytes
 file_text Numbered bytes = bytes
 
--- the bytes of one file are printed
+-- prints the bytes of the file at a place, unless it cannot be read
 abbrev pub type_one : Printing → View → Done → Place → Done
 type_one printing view done place =
     refused_or (read_fault (is_output view.busy (key_of place)) (map.get done.shared.files (key_of place))) done
     (record done { output = done.output ++ file_text printing (entry_bytes (map.get done.shared.files (key_of place))) })
 
--- the lines of all files are numbered through
+-- what is printed for the bytes of all files: with NUMBER their lines are numbered through
 abbrev pub all_text : Printing → Bytes → Bytes
 all_text Plain bytes = bytes
 all_text Hex bytes = bytes
 all_text Numbered bytes = numbered_text bytes
 
+-- the work, with the bytes of all files as they are printed
 abbrev pub printed_work : Printing → Done → Done
 printed_work printing done = record done { output = all_text printing done.output }
 
+-- Type of texts in a manner of printing
 abbrev pub type_printed : SharedState → View → List Text → Printing → Effect
 type_printed shared view texts printing = end_effect (printed_work printing (act_on_each (at_names (type_one printing view) view) (fresh_work shared) texts))
 
@@ -52,20 +54,24 @@ type_printed shared view texts printing = end_effect (printed_work printing (act
 abbrev pub is_asked : List Arg → ℕ → Text → ℕ → Bool
 is_asked args place letters letter = has_switch args place || has_letter letter letters
 
+-- the manner of printing, by HEX and NUMBER, which may not be both given
 abbrev pub printing_by : Bool → Bool → Result Printing Codes
 printing_by false false = Ok Plain
 printing_by true false = Ok Hex
 printing_by false true = Ok Numbered
 printing_by true true = Err (fail_codes TOO_MANY_ARGUMENTS)
 
+-- the manner of printing, by switches and the letters of OPT, which can be only h and n
 abbrev pub printing_of : List Arg → Text → Result Printing Codes
 printing_of args letters =
     if are_letters_of (codes "hn") letters then printing_by (is_asked args TYPE_HEX letters 104) (is_asked args TYPE_NUMBER letters 110)
     else Err (fail_codes BAD_NUMBER)
 
+-- Type without TO, given its arguments
 abbrev pub type_by_options : SharedState → View → List Arg → Effect
 type_by_options shared view args =
     if_found (codes_effect shared) (printing_of args (text_or_empty (option_text args TYPE_OPT))) (type_printed shared view (option_texts args TYPE_FROM))
 
+-- Type, given its arguments
 abbrev pub type_row : SharedState → View → List Arg → Effect
 type_row shared view args = output_to view (option_text args TYPE_TO) (type_by_options shared view args)

@@ -13,24 +13,25 @@ use Rattle.ados_find.specs.Paths.{place_of}
 use Rattle.ados_objects.specs.Names.{FoundPlaces, named_places}
 use Rattle.ados_objects.specs.Lines.{say}
 
--- the files are the new ones, or the work stops at a fault
+-- the command goes on with these files in place of its own, or stops with the codes of `fault` if there is one
 abbrev pub in_files : Option Result2 → Files → Done → Done
 in_files fault files done = refused_or fault done (record done { shared = with_files done.shared files })
 
--- the same, and the path of a place, as it was, is reported with some words
+-- the command goes on with these files and reports the path that `place` had before, then `words` (nothing if `quiet`), or stops with the
+-- codes of `fault` if there is one
 abbrev pub in_files_saying : Option Result2 → Files → Bool → Place → Bytes → Done → Done
 in_files_saying fault files quiet place words done =
     refused_or fault done
     (record done { shared = with_files done.shared files; output = say quiet done.output (full_path done.shared.files place ++ words) })
 
--- an action on the place to which a path leads, in the files at that time, or the work stops
+-- does `act` on the place to which a path leads in the files as they are by then, or stops if the path has a fault
 abbrev pub at_path : (Done → Place → Done) → View → Done → Text → Done
 at_path act view done text = if_found (stop_with_codes done) (place_of done.shared view.parts.directory text) (act done)
 
--- an action on each of the objects
+-- does `act` on each of the objects found, in order
 abbrev pub at_places : (Done → Place → Done) → Done → FoundPlaces → Done
 at_places act done found = act_on_each act done found.places
 
--- the same with those that an argument names, in the files at that time, or the work stops
+-- does `act` on each object that an argument names in the files as they are by then, or stops if it names none or has a fault
 abbrev pub at_names : (Done → Place → Done) → View → Done → Text → Done
 at_names act view done text = if_found (stop_with_codes done) (named_places done.shared view.parts.directory text) (at_places act done)

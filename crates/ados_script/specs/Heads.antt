@@ -7,7 +7,7 @@ use Rattle.ados_items.specs.Items.{item_at, value_of, bytes_between}
 use Rattle.ados_script.specs.declared.heads.Head.{Head}
 use Rattle.ados_script.specs.declared.heads.Head.TheVariants.{If, Else, EndIf, EndSkip, Lab, Other}
 
--- the kind of a line with this first word
+-- the kind of a line with this first word, with case ignored
 abbrev pub head_of_word : Text → Head
 head_of_word word =
     if is_same word (codes "If") then If else
@@ -25,11 +25,11 @@ head_of_item line _ = Other
 abbrev pub head_of : Text → Head
 head_of line = head_of_item line (item_at true line 0)
 
--- the text of the item after a line's first word
+-- the text of the item after the first word of a line, given the first item; empty if that is not a word
 abbrev pub second_item_text : Text → Item → Text
 second_item_text line (Word from to) = value_of line (item_at true line to)
 second_item_text line _ = []
 
--- The label of a Lab line: the text of its second item. It is empty if there is none, and for an open quote.
+-- the label of a Lab line: the text of its second item. It is empty if there is none, and for an open quote.
 abbrev pub label_of : Text → Text
 label_of line = second_item_text line (item_at true line 0)

@@ -17,21 +17,22 @@ abbrev pub has_label : Dialect → Text → Text → Bool
 has_label Core label line = is_same (label_of line) label
 has_label Full label line = is_same (label_of line) label || is_same (phrase_of line) label
 
--- it has the label that is looked for; if none is named it may have any
+-- a Lab line has the label that is looked for; if none is named, each Lab line will do
 abbrev pub is_sought : Dialect → Option Text → Text → Bool
 is_sought dialect None line = true
 is_sought dialect (Some label) line = has_label dialect label line
 
--- it stops at an EndSkip, and at a Lab with the label
+-- a search for a label (none: any) stops at a line of this text and kind: at each EndSkip, and at a Lab with the label
 abbrev pub stops : Dialect → Option Text → Text → Head → Bool
 stops dialect label line EndSkip = true
 stops dialect label line Lab = is_sought dialect label line
 stops dialect label line _ = false
 
--- it stops at line j
+-- a search for a label (none: any) stops at line j
 abbrev pub stops_at : Dialect → Option Text → List Text → ℕ → Bool
 stops_at dialect label lines j = is_some_and (λ line. stops dialect label line (head_of line)) (line_of lines j)
 
+-- a line of this kind is an EndSkip
 abbrev pub is_end_skip : Head → Bool
 is_end_skip EndSkip = true
 is_end_skip _ = false
@@ -40,15 +41,16 @@ is_end_skip _ = false
 abbrev pub is_end_skip_at : List Text → ℕ → Bool
 is_end_skip_at lines j = is_some_and (λ line. is_end_skip (head_of line)) (line_of lines j)
 
--- to the line after the one at which it stops
+-- the jump to after the line at which a search stopped, or nowhere if it stopped at none; it says if that line is an EndSkip
 abbrev pub jump_past_stop : List Text → Option ℕ → Jump
 jump_past_stop lines None = Nowhere
 jump_past_stop lines (Some j) = if is_end_skip_at lines j then AfterEndSkip (j + 1) else To (j + 1)
 
--- after the first line below a line at which it stops
+-- the jump to after the first line below line i at which a search for a label (none: any) stops
 abbrev pub skip_below : Dialect → Option Text → List Text → ℕ → Jump
 skip_below dialect label lines i = jump_past_stop lines (find (stops_at dialect label lines) (numbers_below lines i))
 
--- a Skip at line i searches below it, and with BACK from the first line on
+-- the jump of a Skip at line i that looks for `label`, or for any if none is named: below line i, or with `back`, BACK, from the first line
+-- on
 abbrev pub skip : Dialect → List Text → ℕ → Option Text → Bool → Jump
 skip dialect lines i label back = skip_below dialect label lines (if back then 0 else i)

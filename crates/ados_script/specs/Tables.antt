@@ -19,45 +19,48 @@ use Rattle.ados_script.specs.Blocks.{ends_block}
 use Rattle.ados_script.specs.Phrases.{phrase_of}
 use Rattle.ados_script.specs.Skips.{is_end_skip_at, is_sought}
 
--- where the block that line i begins or stands in ends, by the kinds of the script's lines: at the first EndIf below it at depth 0, and
--- at the first Else or EndIf there
+-- where the block that line i begins or stands in ends, by the kinds of the script's lines: at the first EndIf below it at depth 0, and at
+-- the first Else or EndIf there
 abbrev pub first_ends : List Head → ℕ → Ends
 first_ends heads i = record { end_if = find (ends_block false heads i) (numbers_below heads i); branch = find (ends_block true heads i) (numbers_below heads i) }
 
--- no block ends
+-- the entry of a line at which no block ends
 abbrev pub no_ends : Ends
 no_ends = record { end_if = None; branch = None }
 
+-- an entry says that no block ends
 abbrev pub is_nowhere : Ends → Bool
 is_nowhere entry = is_none entry.end_if && is_none entry.branch
 
+-- an entry, or the one that says that no block ends if there is none
 abbrev pub entry_or_none : Option Ends → Ends
 entry_or_none None = no_ends
 entry_or_none (Some entry) = entry
 
--- Entries are made from the script's last line up, each put at the end of the list, so the last is that of the topmost line so far. This
--- is the entry of the line `down` lines below that one; at a line that has none no block ends.
+-- Entries are made from the script's last line up, each put at the end of the list, so the last is that of the topmost line so far. This is
+-- the entry of the line `down` lines below that one; at a line that has none no block ends.
 abbrev pub kept_ends : List Ends → ℕ → Ends
 kept_ends entries down = entry_or_none (slice_get (reverse entries) down)
 
--- the entry of the line `end`, at which a block ends, if the topmost entry is that of the line `line`
+-- the entry of the line `end`, at which a block ends (none: it does not end), if the topmost entry is that of the line `line`
 abbrev pub entry_at_end : List Ends → ℕ → Option ℕ → Ends
 entry_at_end entries line None = no_ends
 entry_at_end entries line (Some end) = kept_ends entries (end - line)
 
--- the entry of the line above the line `line`, by that line's kind and the entries from it down. An If is passed over with all lines to
--- its EndIf: what counts is the entry of that EndIf.
+-- The entry of the line above the line `line`, given the kind of `line` and the entries from it down. An If is passed over with all lines
+-- to its EndIf: what counts is the entry of that EndIf.
 abbrev pub ends_above : List Ends → ℕ → Head → Ends
 ends_above entries line EndIf = record { end_if = Some line; branch = Some line }
 ends_above entries line Else = record { end_if = (kept_ends entries 0).end_if; branch = Some line }
 ends_above entries line If = entry_at_end entries line (kept_ends entries 0).end_if
 ends_above entries line _ = kept_ends entries 0
 
--- the entries with one more on top; none is kept until one says that a block ends
+-- the entries with one more on top; as long as no entry says that a block ends, none is kept
 abbrev pub with_entry : List Ends → Ends → List Ends
 with_entry [] entry = if is_nowhere entry then [] else entry ∷ []
 with_entry (last ∷ entries) entry = (last ∷ entries) ++ entry ∷ []
 
+-- a line of this kind is a Lab
 abbrev pub is_lab : Head → Bool
 is_lab Lab = true
 is_lab _ = false
@@ -66,15 +69,16 @@ is_lab _ = false
 abbrev pub is_lab_at : List Text → ℕ → Bool
 is_lab_at lines j = is_some_and (λ line. is_lab (head_of line)) (line_of lines j)
 
+-- a line's text, or the empty text if there is no line
 abbrev pub text_or : Option Text → Text
 text_or None = []
 text_or (Some line) = line
 
--- line j is a Lab that is looked for
+-- line j is a Lab with the label that is looked for (none: any Lab)
 abbrev pub sought_at : Dialect → Option Text → List Text → ℕ → Bool
 sought_at dialect label lines j = is_lab_at lines j && is_sought dialect label (text_or (line_of lines j))
 
--- the first of some lines that is below line i
+-- the first of these line numbers that is below line i
 abbrev pub first_below : List ℕ → ℕ → Option ℕ
 first_below numbers i = find (λ line. nat_lt i line) numbers
 
@@ -82,14 +86,16 @@ first_below numbers i = find (λ line. nat_lt i line) numbers
 abbrev pub label_at : (Text → Text) → List Text → ℕ → Label
 label_at text_of lines j = record { text = text_of (text_or (line_of lines j)); line = j }
 
--- the labels of the Lab lines below line i, in the order of the lines
+-- the labels of the Lab lines below line i, in the order of the lines; `text_of` gives the label that a line has
 abbrev pub labels_below : (Text → Text) → List Text → ℕ → List Label
 labels_below text_of lines i = map (label_at text_of lines) (filter (is_lab_at lines) (numbers_below lines i))
 
+-- a label has this text, with case ignored
 abbrev pub has_text : Text → Label → Bool
 has_text text label = is_same label.text text
 
--- the labels are in the order of their texts, ignoring case, and those with the same text in the order of their lines
+-- these are the labels that `text_of` gives for the Lab lines of a script, in the order of their texts, ignoring case, and those with the
+-- same text in the order of their lines
 pub record AreByText (text_of : Text → Text) (lines : List Text) (labels : List Label) : Type 0 where
   pub sorted : IsSortedByKey (λ (label : Label). folded_text label.text) name_cmp labels
   pub all : (text : Text) → filter (has_text text) labels ≡ filter (has_text text) (labels_below text_of lines 0)
@@ -103,13 +109,13 @@ pub record AreTables (lines : List Text) (tables : Tables) : Type 0 where
   pub labels : AreByText label_of lines tables.labels.items
   pub phrases : AreByText phrase_of lines tables.phrases.items
 
--- the nearer of two lines, of which one may not be there
+-- the smaller of two line numbers, of which one or both may be missing
 abbrev pub nearer_of : Option ℕ → Option ℕ → Option ℕ
 nearer_of None other = other
 nearer_of (Some line) None = Some line
 nearer_of (Some line) (Some other) = if nat_lt line other then Some line else Some other
 
--- the jump to after the Lab or the EndSkip that was found, whichever comes first
+-- the jump to after the Lab (the first parameter) or the EndSkip (the second) that was found, whichever comes first; nowhere if neither was
 abbrev pub jump_past_first : Option ℕ → Option ℕ → Jump
 jump_past_first None None = Nowhere
 jump_past_first (Some lab) None = To (lab + 1)
