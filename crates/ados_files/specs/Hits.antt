@@ -75,7 +75,7 @@ abbrev pub search_read : Searching → Bytes → Hits → Option Result2 → Byt
 search_read searching path hits None bytes = search_lines searching (with_header searching.quiet path hits) (plain_lines bytes)
 search_read searching path hits (Some fault) bytes = record hits { output = hits.output ++ unread_line path fault }
 
--- the hits after that of a file by its name, which FILE looks at in place of its lines; none if there is no entry
+-- the hits after that of a file by its name, which FILE looks at in place of its lines; none is added if there is no entry
 abbrev pub search_name : Searching → Bytes → Hits → Option Entry → Hits
 search_name searching path hits None = hits
 search_name searching path hits (Some e) = if is_hit searching.wanted e.name then with_hit (path ++ 10 ∷ []) hits else hits

@@ -8,8 +8,8 @@ pub use Rattle.ados_flow.specs.declared.called.Called.{Called}
 use Rattle.ados_flow.specs.declared.actions.Action as code
 use Rattle.ados_flow.specs.declared.actions.Action.TheVariants as made
 
--- it returns; it ends its script with these codes, or returns them if it is in none; it returns, and its script continues
--- at this line; it calls a script; or it asks for yes or no
+-- what a command does to its shell: it returns; it ends its script with these codes, or returns them if it is in none; it returns, and its
+-- script continues at this line; it calls a script; or it asks for yes or no
 pub data Action : Type 0 where
   Does : Effect → Action
   Quits : Codes → Action
@@ -17,7 +17,7 @@ pub data Action : Type 0 where
   Calls : Called → Action
   Asks : (prompt : Text) → Action
 
--- it returns with codes, and changes nothing
+-- the action of a command that returns with codes, and changes nothing
 abbrev pub codes_action : SharedState → Codes → Action
 codes_action shared codes = Does (codes_effect shared codes)
 

@@ -11,13 +11,13 @@ use Rattle.ados_find.specs.Shared.{SharedState}
 use Rattle.std.specs.Prelude.{List}
 use Rattle.ados_flow.specs.Actions.{Action, Asks, codes_action}
 
--- What a line replies to a question: y and yes answer it with 5, n, no and an empty line with 0, case ignored; anything
--- else is not an answer.
+-- What a line replies to a question: y and yes answer it with 5, n, no and an empty line with 0, case ignored; anything else is not an
+-- answer.
 abbrev pub reply_of : Text → Option Codes
 reply_of line =
     if is_same line (codes "y") || is_same line (codes "yes") then Some (warning_codes NONE) else
     (if is_same line [] || (is_same line (codes "n") || is_same line (codes "no")) then Some went_well else None)
 
--- Ask asks with its PROMPT
+-- Ask, given its arguments: it asks with its PROMPT
 abbrev pub ask_row : SharedState → List Arg → Action
 ask_row shared args = if_given (codes_action shared) (option_text args 0) Asks

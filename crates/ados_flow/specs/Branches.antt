@@ -20,28 +20,28 @@ use Rattle.ados_flow.specs.Actions.{Action, Jumps, Quits, codes_action}
 use Rattle.ados_flow.specs.Frames.{ScriptLine}
 use Rattle.ados_flow.specs.Conditions.{if_test}
 
--- a script continues where its jump leads, with 5 after an EndSkip; if nothing is found the script ends with 20 and 205
+-- the action of a jump: a script continues where it leads, with 5 after an EndSkip; if nothing is found the script ends with 20 and 205
 abbrev pub jump_action : Jump → Action
 jump_action (To line) = Jumps line went_well
 jump_action (EndSkip line) = Jumps line (warning_codes NONE)
 jump_action Nowhere = Quits (fail_codes OBJECT_NOT_FOUND)
 
--- a branch is taken only in a script
+-- what a branch does at the line where its script stands; refused outside a script
 abbrev pub in_script : SharedState → Option ScriptLine → (ScriptLine → Action) → Action
 in_script shared None branch = codes_action shared (fail_codes WRONG_TYPE)
 in_script shared (Some here) branch = branch here
 
--- If whose test is known; NOT inverts it
+-- If whose test is known: it holds, or not; NOT (`turned`) inverts it; a test that fails jumps after the Else or EndIf
 abbrev pub if_action : SharedState → Bool → ScriptLine → Bool → Action
 if_action shared turned here held =
     if (if turned then not held else held) then codes_action shared went_well else jump_action (after_if here.lines here.line)
 
--- If continues, or jumps after its Else or EndIf if its test fails
+-- If, given its line and its arguments: it continues, or jumps after its Else or EndIf if its test fails
 abbrev pub if_row : SharedState → Option ScriptLine → View → List Arg → Action
 if_row shared script_line view args =
     in_script shared script_line (λ here. if_found (codes_action shared) (if_test shared view args) (if_action shared (has_switch args 0) here))
 
--- Else jumps after its EndIf
+-- Else, given its line: it jumps after its EndIf
 abbrev pub else_row : SharedState → Option ScriptLine → Action
 else_row shared script_line = in_script shared script_line (λ here. jump_action (after_else here.lines here.line))
 
@@ -55,8 +55,8 @@ abbrev pub label_sought : Dialect → List Arg → Option Text
 label_sought Core args = option_text args SKIP_LABEL
 label_sought Full args = phrase_or_none (option_texts args SKIP_LABEL)
 
--- Skip jumps after the Lab with its LABEL, or any Lab without one, looked for below it or with BACK from the first line on, or
--- after an EndSkip that comes before that
+-- Skip, given its line and its arguments: it jumps after the Lab with its LABEL, or any Lab without one, looked for below it or with BACK
+-- from the first line on, or after an EndSkip that comes before that
 abbrev pub skip_row : SharedState → Option ScriptLine → List Arg → Action
 skip_row shared script_line args =
     in_script shared script_line (λ here. jump_action (skip shared.dialect here.lines here.line (label_sought shared.dialect args) (has_switch args SKIP_BACK)))

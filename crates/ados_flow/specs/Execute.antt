@@ -24,22 +24,24 @@ use Rattle.ados_subst.specs.Faults.{result2_of}
 use Rattle.ados_subst.specs.Scripts.{script_of}
 use Rattle.ados_flow.specs.Actions.{Action, Calls, codes_action}
 
--- where Execute looks: at the place of its word, or in S: if the word is not a path and there is no object at that place
+-- where Execute finds the script of a word, given the word's place: there, or in S: if the word is not a path and there is no object at
+-- that place
 abbrev pub script_place : SharedState → Place → Text → Place → Result Place Codes
 script_place shared directory word place =
     if not (is_path word) && is_none (map.get shared.files (key_of place)) then place_of shared directory (codes "S:" ++ word) else Ok place
 
--- the action for a fault of arguments or of substitution: the command returns 20 with the fault's number. The definitions never
--- run out of memory: the case of it only makes the function total, and gives 103.
+-- the action for a fault of arguments or of substitution: the command returns 20 with the fault's number. The definitions never run out of
+-- memory: the case of it only makes the function total, and gives 103.
 abbrev pub fault_answer : SharedState → Result Result2 NoMemory → Action
 fault_answer shared (Ok number) = codes_action shared (fail_codes number)
 fault_answer shared (Err no_memory) = codes_action shared (fail_codes NO_FREE_STORE)
 
--- the call of a script with its arguments substituted in its lines
+-- the call of the script `name` with its arguments substituted in its lines, or the fault of the substitution
 abbrev pub call_of_lines : SharedState → Text → Result (List Text) SubstFault → Action
 call_of_lines shared name (Err fault) = fault_answer shared (result2_of fault)
 call_of_lines shared name (Ok lines) = Calls (record { name = name; script = lines })
 
+-- the call of the script at a place with the arguments `args`, given its bytes or the fault of reading them
 abbrev pub script_read : SharedState → View → Place → Text → Result Bytes Result2 → Action
 script_read shared view place args (Err fault) = codes_action shared (error_codes fault)
 script_read shared view place args (Ok bytes) = call_of_lines shared (full_path shared.files place) (script_of (lines_of bytes) args (decimal view.parts.number))
@@ -48,14 +50,15 @@ script_read shared view place args (Ok bytes) = call_of_lines shared (full_path 
 unfoldable pub script_row : SharedState → View → Text → Place → Action
 script_row shared view args place = script_read shared view place args (read_result shared.files view.busy.outputs place)
 
--- the script of a word that leads to a place
+-- the call with these arguments of the script of a word, whose place is the last parameter
 abbrev pub script_by_word : SharedState → View → Text → Text → Place → Action
 script_by_word shared view word args place =
     if_found (codes_action shared) (script_place shared view.parts.directory word place) (script_row shared view args)
 
+-- Execute of the script that a word names with these arguments
 abbrev pub execute_file : SharedState → View → Text → Text → Action
 execute_file shared view args word = if_found (codes_action shared) (place_of shared view.parts.directory word) (script_by_word shared view word args)
 
--- Execute calls the script FILE with ARGS
+-- Execute, given its arguments: it calls the script FILE with ARGS
 abbrev pub execute_row : SharedState → View → List Arg → Action
 execute_row shared view args = if_given (codes_action shared) (option_text args 0) (execute_file shared view (unwrap_or (option_text args 1) []))

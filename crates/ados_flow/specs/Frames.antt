@@ -10,15 +10,15 @@ pub use Rattle.ados_flow.specs.declared.records.Record.{Record}
 pub use Rattle.ados_flow.specs.declared.kinds.FrameKind.{FrameKind}
 pub use Rattle.ados_flow.specs.declared.kinds.FrameKind.TheVariants.{Script, RunCommands, Tick}
 
--- the frame is that of a script
+-- a frame of this kind is that of a script
 abbrev pub is_script : FrameKind → Bool
 is_script (Script name command) = true
 is_script RunCommands = false
 is_script (Tick before after) = false
 
--- a frame that runs: what it is; its lines; the index of the next one, from 0; the number, from 1, of the line at which its
--- command began, and 0 before the first; the fail limit in force at its beginning, which is so again after the end of a script
--- in a script; its own output, which is open until it ends; and its last record
+-- a frame that runs: what it is; its lines; the index of the next one, from 0; the number, from 1, of the line at which its command began,
+-- and 0 before the first; the fail limit in force at its beginning, which is so again after the end of a script in a script; its own
+-- output, which is open until it ends; and its last record
 pub record FrameState : Type 0 where
   pub kind : FrameKind
   pub lines : List Text
@@ -33,17 +33,18 @@ pub record ScriptLine : Type 0 where
   pub lines : List Text
   pub line : ℕ
 
+-- where a command of a frame of this kind is, if the frame is a script
 abbrev pub kind_script_line : FrameKind → FrameState → Option ScriptLine
 kind_script_line (Script name command) frame = Some (record { lines = frame.lines; line = frame.line })
 kind_script_line RunCommands frame = None
 kind_script_line (Tick before after) frame = None
 
--- where a command of a frame is, if the frame is a script
+-- where a command of a frame is, if there is a frame and it is a script
 abbrev pub script_line_of : Option FrameState → Option ScriptLine
 script_line_of None = None
 script_line_of (Some frame) = kind_script_line frame.kind frame
 
--- a frame that continues at a line
+-- a frame that continues at a line, from 1
 abbrev pub frame_at_line : ℕ → FrameState → FrameState
 frame_at_line line frame = record frame { position = line - 1 }
 
@@ -51,11 +52,11 @@ frame_at_line line frame = record frame { position = line - 1 }
 abbrev pub frame_limit : ℕ
 frame_limit = 32
 
--- a frame that begins
+-- a frame that begins, with a fail limit and its own output, if any
 abbrev pub new_frame : FrameKind → List Text → Code → Option Target → FrameState
 new_frame kind lines limit output = record { kind = kind; lines = lines; position = 0; line = 0; limit = limit; output = output; last = None }
 
--- a frame takes a line: its position moves on before the command runs
+-- a frame that takes a line: its position moves on before the command runs
 abbrev pub advanced_frame : FrameState → FrameState
 advanced_frame frame = record frame { position = frame.position + 1; line = frame.position + 1 }
 
@@ -63,7 +64,7 @@ advanced_frame frame = record frame { position = frame.position + 1; line = fram
 abbrev pub untaken_lines : FrameState → List Text
 untaken_lines frame = drop frame.position frame.lines
 
--- the frame has no line left
+-- a frame has no line left
 abbrev pub is_over : FrameState → Bool
 is_over frame = nat_le (length frame.lines) frame.position
 
@@ -72,30 +73,30 @@ abbrev pub script_count : List FrameState → ℕ
 script_count [] = 0
 script_count (frame ∷ frames) = if is_script frame.kind then suc (script_count frames) else script_count frames
 
--- a shell begins with limit 10, and it is 10 again once no script is left
+-- the fail limit with which a shell begins; it is in force again once no script is left
 abbrev pub first_limit : Code
 first_limit = record { 0 = pos 10 }
 
--- the limit after the end of a script that began at a limit, with this many scripts below it: that limit, or 10
--- if no script is left
+-- the fail limit after the end of a script that began at a limit, with this many scripts below it: that limit, or 10 if no script is left
 abbrev pub limit_above_scripts : ℕ → Code → Code
 limit_above_scripts zero limit = first_limit
 limit_above_scripts (suc n) limit = limit
 
--- the same with these frames below it
+-- the fail limit after the end of a script that began at a limit, with these frames below it: that limit, or 10 if none of them is a script
 abbrev pub limit_above_frames : List FrameState → Code → Code
 limit_above_frames frames limit = limit_above_scripts (script_count frames) limit
 
--- the line at which the command began; 0 on the console
+-- the line at which the command of the newest frame began; 0 on the console
 abbrev pub current_line : List FrameState → ℕ
 current_line [] = 0
 current_line (frame ∷ frames) = frame.line
 
--- the line of a frame's last record, and what it returned: 0, and success, if it has none
+-- the line of a frame's last record; 0 if it has none
 abbrev pub last_line : Option Record → ℕ
 last_line None = 0
 last_line (Some last) = last.line
 
+-- what the last record of a frame returned; success if it has none
 abbrev pub last_codes : Option Record → Codes
 last_codes None = went_well
 last_codes (Some last) = last.codes
@@ -105,20 +106,20 @@ abbrev pub is_at_limit : Option Record → Bool
 is_at_limit None = false
 is_at_limit (Some last) = is_reached last.limit last.codes.code
 
--- it is a script whose last record reached the limit: such an end is reported as early, also if that command was Quit or stood
--- on the last line
+-- the frame is a script whose last record reached the limit: such an end is reported as early, also if that command was Quit or stood on
+-- the last line
 abbrev pub is_early : FrameKind → Option Record → Bool
 is_early kind last = is_script kind && is_at_limit last
 
--- the record of a command that began at the newest frame's line
+-- the record of a command that began at the newest frame's line, with its codes and the limit after it
 abbrev pub new_record : List FrameState → Codes → Code → Record
 new_record frames answered limit = record { line = current_line frames; codes = answered; limit = limit }
 
--- a frame with its last record
+-- a frame, with these frames below it, with the last record of a command's codes and the limit after it
 abbrev pub answered_frame : FrameState → List FrameState → Codes → Code → FrameState
 answered_frame frame frames answered limit = record frame { last = Some (new_record (frame ∷ frames) answered limit) }
 
--- a frame ends if no line is left, and a script also if it quits or at the limit
+-- a frame ends if no line is left, and a script also if it quits (`quits`) or a code reaches the limit
 abbrev pub is_ended : Bool → Codes → Code → FrameState → Bool
 is_ended quits answered limit frame = is_over frame || (is_script frame.kind && (quits || is_reached limit answered.code))
 

@@ -18,31 +18,32 @@ unfoldable pub before_plus : Text → Option Text
 before_plus [] = None
 before_plus (c ∷ cs) = if (c == 43) && list_all is_blank cs then Some [] else option_map (λ front. c ∷ front) (before_plus cs)
 
--- the text continues in the next line
+-- a text continues in the next line: it ends with a `+`, before blanks
 abbrev pub has_plus : Text → Bool
 has_plus text = is_some (before_plus text)
 
--- the text without that `+`
+-- a text without the `+` at its end, if it has one
 abbrev pub without_plus : Text → Text
 without_plus text = unwrap_or (before_plus text) text
 
+-- an item is the end of its line
 abbrev pub is_end : Item → Bool
 is_end (End at) = true
 is_end item = false
 
--- there is no command in the text, apart from its `+`
+-- there is no command in a text, apart from the `+` at its end
 unfoldable pub has_no_command : Text → Bool
 has_no_command text = is_end (item_at true (without_plus text) 0)
 
--- a text that takes no line after it
+-- what a text gathers that takes no line after it
 abbrev pub single_gathered : Text → Gathered
 single_gathered text = record { commands = without_plus text ∷ []; taken = 0 }
 
--- a text that took the next line, before what that one gathers
+-- what a text gathers that took the next line, before what that one gathers
 abbrev pub prepended_gathered : Text → Gathered → Gathered
 prepended_gathered text rest = record { commands = without_plus text ∷ rest.commands; taken = suc rest.taken }
 
--- The commands of a Run by its text and the lines after it, of which it takes at most this many: each text that
+-- The commands of a Run by its text and the lines after it, of which it takes at most so many (the first parameter): each text that
 -- continues takes one, and none keeps its `+`.
 abbrev pub run_gathering : ℕ → Text → List Text → Gathered
 run_gathering zero text lines = single_gathered text

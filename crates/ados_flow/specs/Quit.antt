@@ -8,14 +8,15 @@ use Rattle.ados_readargs.specs.Args.{option_number}
 use Rattle.ados_find.specs.declared.codes.Codes.{Codes}
 use Rattle.ados_flow.specs.Actions.{Action, Quits}
 
+-- what Quit returns for a code
 abbrev pub quit_codes : Code → Codes
 quit_codes code = record { code = code; result2 = NONE }
 
--- the code is RC, and 0 without one
+-- Quit by RC: the code is RC, and 0 without one
 abbrev pub quit_action : Option ℤ → Action
 quit_action None = Quits (quit_codes OK)
 quit_action (Some number) = Quits (quit_codes (record { 0 = number }))
 
--- Quit ends its script with a code
+-- Quit, given its arguments: it ends its script with a code
 abbrev pub quit_row : List Arg → Action
 quit_row args = quit_action (option_number args 0)

@@ -29,7 +29,7 @@ core_template_of flow.Lab = codes "LABEL/F"
 core_template_of flow.Quit = codes "RC/N"
 core_template_of flow.Skip = codes "LABEL,BACK/S"
 
--- in Full
+-- the text of a command's template in Full: as in Core, but LABEL of Skip may have several words
 abbrev pub full_template_of : FlowCommand → Text
 full_template_of flow.Skip = codes "LABEL/M,BACK/S"
 full_template_of command = core_template_of command
@@ -39,11 +39,11 @@ abbrev pub template_of : Dialect → FlowCommand → Text
 template_of Core command = core_template_of command
 template_of Full command = full_template_of command
 
--- a command that only marks its line
+-- the action of a command that only marks its line
 abbrev pub marker_action : SharedState → Action
 marker_action shared = Does (codes_effect shared went_well)
 
--- what a command does, which is at a line of a script or in none
+-- what a command does, which is at a line of a script or in none, given the shared state, its shell's view and its arguments
 abbrev pub row_of : FlowCommand → SharedState → Option ScriptLine → View → List Arg → Action
 row_of flow.Ask shared script_line view args = ask_row shared args
 row_of flow.Else shared script_line view args = else_row shared script_line
