@@ -55,6 +55,7 @@ impl Mirror {
             return Ok(());
         }
         self.owe_overruled(account)?;
+        self.owe_beside(files, account)?;
         if account.moment == Moment::End {
             self.forgive_undone(files)?;
         }
@@ -282,7 +283,7 @@ impl Mirror {
             return Ok(());
         }
         self.is_holding = account.is_holding();
-        self.is_lacking = account.has_unwritten() || !account.left_out.is_empty();
+        self.is_lacking = account.lacks(self.is_beside);
         if account.moment == Moment::End {
             for one in &account.left_out {
                 let text = format!(in self.alloc; "not written, since {}", one.reason)?;

@@ -86,6 +86,11 @@ impl Share {
         Ok(line)
     }
 
+    /// What is made at the top of `RAM:` is meant to be there: it holds no deletion back.
+    pub fn allow_top(&mut self) {
+        self.mirror.allow_top();
+    }
+
     /// Before an event: at a program's start, what changed is written to the folders; before its end is reported to the world,
     /// what changed in the folders is brought in. Now and then, and before this process may have to wait, what changed is written too.
     /// `is_ready`: the lines that bring files in were given.
@@ -114,6 +119,7 @@ impl Share {
         if !self.is_filled {
             if is_ready && world.wants_line() {
                 self.bring_in(rt, world, launcher, session)?;
+                self.mirror.begin_beside(world.files())?;
                 self.is_filled = true;
             }
             return Ok(());
