@@ -12,7 +12,7 @@ use Rattle.ados_machine.specs.Items.{TraceItem, Began}
 use Rattle.ados_machine.specs.World.{WorldState}
 use Rattle.ados_machine.specs.Runs.{Runs}
 use Rattle.ados_machine.specs.Trace.{trace, own, frames_of}
-use Rattle.ados_machine.specs.Limits.{End, EndsBy, IsSane, Obeys, Story, story_of_frame, story_of_new, scripts_after_items}
+use Rattle.ados_machine.specs.FrameEnds.{End, EndsBy, IsSane, Obeys, Story, story_of_frame, story_of_new, scripts_after_items}
 
 -- the command's code reached the limit that was in force after it
 abbrev pub reaches : Record → Bool
