@@ -4,7 +4,7 @@ use Rattle.ados_resident.specs.declared.dialects.Dialect.{Dialect}
 use Rattle.ados_resident.specs.declared.hosts.HostEntry.{HostEntry}
 use Rattle.ados_machine.specs.declared.events.BreakAt.{BreakAt}
 use Rattle.ados_machine.specs.World.{WorldState, fresh_world}
-use Rattle.ados_machine.specs.Limits.{IsSane, LimitsHold, ReportsHold}
+use Rattle.ados_machine.specs.FrameEnds.{IsSane, LimitsHold, ReportsHold}
 use Rattle.ados_machine.specs.Stacks.{FramesHold}
 use Rattle.ados_launcher.specs.declared.calls.Call.{Call}
 use Rattle.ados_launch.specs.Agreement.{Agrees}

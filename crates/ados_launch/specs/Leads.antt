@@ -7,7 +7,7 @@ use Rattle.ados_machine.specs.declared.refusals.Refusal.{Refusal}
 use Rattle.ados_flow.specs.declared.kinds.FrameKind.TheVariants.{RunCommands}
 use Rattle.ados_flow.specs.Frames.{first_limit}
 use Rattle.ados_machine.specs.Items.{TraceItem, Began}
-use Rattle.ados_machine.specs.Limits.{ObeyLimits}
+use Rattle.ados_machine.specs.FrameEnds.{ObeyLimits}
 use Rattle.ados_machine.specs.Numbers.{free_number}
 use Rattle.ados_machine.specs.Runs.{IsResponse, resulting_world}
 use Rattle.ados_machine.specs.Stacks.{ShellGoes, standing_at}

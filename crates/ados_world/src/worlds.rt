@@ -8,7 +8,7 @@ ghost use Rattle.ados_world.specs.Shells.{IsShellNumber};
 ghost use Rattle.ados_resident.specs.declared.dialects.Dialect.TheVariants.{Core};
 ghost use Rattle.ados_machine.specs.Children.{child_in};
 ghost use Rattle.ados_machine.specs.InUse.{has_request};
-ghost use Rattle.ados_machine.specs.Limits.{IsSane};
+ghost use Rattle.ados_machine.specs.FrameEnds.{IsSane};
 ghost use Rattle.ados_machine.specs.Starts.{use_count};
 ghost use Rattle.ados_machine.specs.World.{fresh_world, numbered_shell, is_over, is_ready, wants_line, codes_at, left_codes, running_numbers, pending_of};
 
@@ -40,7 +40,7 @@ pub struct World {
 
 impl Model for World {
     ghost use Rattle.ados_machine.specs.World.{WorldState};
-    ghost use Rattle.ados_machine.specs.Limits.{IsSane};
+    ghost use Rattle.ados_machine.specs.FrameEnds.{IsSane};
     ghost use Rattle.std.specs.Coded.{codes};
     ghost use Rattle.ados_ram.specs.Files.{coded_files};
     ghost use Rattle.ados_assign.specs.Assigns.{coded_assigns};
