@@ -2,7 +2,7 @@
 ghost use Rattle.std.specs.Prelude.{◌≡◌, ◌≤◌, Some, IfOk, IfSome, OnSome};
 ghost use Rattle.std.specs.Option.{option_copied};
 ghost use Rattle.ados_world.specs.Due.{first_number};
-ghost use Rattle.ados_world.specs.Hosts.{Answers, hosts_fault};
+ghost use Rattle.ados_world.specs.Hosts.{IsMadeUnless, hosts_fault};
 ghost use Rattle.ados_world.specs.Scenes.{Shows};
 ghost use Rattle.ados_world.specs.Shells.{IsShellNumber};
 ghost use Rattle.ados_resident.specs.declared.dialects.Dialect.TheVariants.{Core};
@@ -60,7 +60,7 @@ impl World {
     /// As [`with_dialect`](World::with_dialect), in Core.
     pub fn new(alloc: Global, hosts: &[HostEntry]) -> Result<World, NewFault>
         ensures world { IfOk result (λ world. world ≡ fresh_world Core hosts.now) }
-        ensures fault { Answers result (hosts_fault Core hosts.now) }
+        ensures fault { IsMadeUnless result (hosts_fault Core hosts.now) }
     {
         World::with_dialect(alloc, hosts, Dialect::Core)
     }
@@ -78,7 +78,7 @@ impl World {
         dialect: Dialect,
     ) -> Result<World, NewFault>
         ensures world { IfOk result (λ world. world ≡ fresh_world dialect hosts.now) }
-        ensures fault { Answers result (hosts_fault dialect hosts.now) }
+        ensures fault { IsMadeUnless result (hosts_fault dialect hosts.now) }
     {
         if let Some(fault) = hosts_fault(dialect, hosts) {
             return Err(fault);
