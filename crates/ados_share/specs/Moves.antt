@@ -11,7 +11,7 @@ use Rattle.ados_ram.specs.Place.{Place, key_of, moved_place}
 use Rattle.ados_share.specs.declared.moves.Destination.{Destination}
 use Rattle.ados_share.specs.declared.moves.Destination.TheVariants.{At, Replaced}
 use Rattle.ados_share.specs.declared.moves.Elsewhere.{Elsewhere}
-use Rattle.ados_share.specs.declared.moves.Elsewhere.TheVariants.{Copy, Moved, Replaced as GaveWay}
+use Rattle.ados_share.specs.declared.moves.Elsewhere.TheVariants.{Copy, Moved, Part, Replaced as GaveWay}
 
 -- where a file is after a Rename; what gave way to what came in is nowhere
 abbrev pub destination_after : Place → Place → Destination → Destination
@@ -47,5 +47,6 @@ may_be_elsewhere files (Some Replaced) = true
 abbrev pub says_same : Elsewhere → Elsewhere → Bool
 says_same (Copy path) (Copy other) = bytes_eq (string_bytes path) (string_bytes other)
 says_same (Moved path) (Moved other) = bytes_eq (string_bytes path) (string_bytes other)
+says_same (Part path) (Part other) = bytes_eq (string_bytes path) (string_bytes other)
 says_same GaveWay GaveWay = true
 says_same _ _ = false

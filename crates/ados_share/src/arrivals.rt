@@ -193,6 +193,9 @@ impl Mirror {
                 .reports
                 .report_absent(arrival.key.as_str(), arrival.path.as_str());
         };
+        if let Coming::File(bytes) = &arrival.coming {
+            self.contents.add_foreign(bytes)?;
+        }
         let record = Record {
             path: arrival.path,
             place,

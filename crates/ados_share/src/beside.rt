@@ -5,27 +5,39 @@ ghost use Rattle.std.specs.Option.{is_some, option_map};
 
 use crate::account::Account;
 use crate::mirror::Mirror;
-use ados_ram::{Place, Ram};
-use ados_text::{Name, NoMemory};
+use ados_ram::{Entry, FileBytes, Place, Ram};
+use ados_text::NoMemory;
 use ados_transfer::{TransferFault, Volume, shell_path, spelled};
 use std::alloc::Global;
 
-/// The top of `RAM:`, as the script finds it.
+/// The Shell's files as the script finds them, and whether it may make others at the top of `RAM:`.
 #[derive(Drop)]
 pub struct Top {
-    // The names that are there at the beginning. What stands below another one is beside all directories that have a use.
-    names: Vec<Name>,
+    // The files at the beginning; before it none are known. What stands below a new name at the top is beside all directories that have a use.
+    before: Option<Ram>,
     // A script names `RAM:`: what it makes there is as short-lived as it means it to be.
     is_named: bool,
 }
 
 impl Top {
-    /// Nothing is known of it, and nothing is beside.
-    pub fn new(alloc: Global) -> Top {
+    /// Nothing was there, and nothing is beside.
+    pub fn empty() -> Top {
         Top {
-            names: Vec::new(alloc),
+            before: None,
             is_named: true,
         }
+    }
+
+    /// A file at this place had these bytes at the beginning.
+    pub fn had(&self, place: &Place, bytes: &FileBytes) -> bool {
+        self.entry(place)
+            .and_then(Entry::bytes)
+            .is_some_and(|old| old == bytes)
+    }
+
+    // What was at a place at the beginning.
+    fn entry(&self, place: &Place) -> Option<&Entry> {
+        self.before.as_ref().and_then(|before| before.look(place))
     }
 
     // The first file below a new name, unless a script names `RAM:`.
@@ -36,21 +48,13 @@ impl Top {
             return Ok(None);
         }
         for place in &files.children(&Place::root(alloc))? {
-            if !self.has(place)
+            if self.entry(place).is_none()
                 && let Some(found) = first_file(files, place)?
             {
                 return Ok(Some(found));
             }
         }
         Ok(None)
-    }
-
-    // The name of a place at the top was there at the beginning.
-    fn has(&self, place: &Place) -> bool {
-        match place.names().first() {
-            Some(name) => self.names.contains(name),
-            None => true,
-        }
     }
 }
 
@@ -60,14 +64,8 @@ impl Mirror {
     pub fn begin_beside(&mut self, files: &Ram) -> Result<(), NoMemory>
         ensures begun { OnOk result (self.new.top.is_named ≡ false) }
     {
-        let mut names = Vec::new(self.alloc);
-        for place in &files.children(&Place::root(self.alloc))? {
-            if let Some(name) = place.names().first() {
-                names.push(name.copy()?)?;
-            }
-        }
         self.top = Top {
-            names,
+            before: Some(files.copy()?),
             is_named: false,
         };
         Ok(())

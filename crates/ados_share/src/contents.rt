@@ -33,6 +33,8 @@ pub fn digest(bytes: &FileBytes) -> u64 {
 pub struct Contents {
     alloc: Global,
     by_digest: BTreeMap<u64, BTreeSet<String>>,
+    // The digests of bytes that came in from the folders, and of those with which the script changed a file of such bytes.
+    foreign: BTreeSet<u64>,
 }
 
 impl Contents {
@@ -41,7 +43,19 @@ impl Contents {
         Contents {
             alloc,
             by_digest: BTreeMap::new(alloc),
+            foreign: BTreeSet::new(alloc),
         }
+    }
+
+    /// Notes that bytes came in from a folder.
+    pub fn add_foreign(&mut self, bytes: &FileBytes) -> Result<(), NoMemory> {
+        self.foreign.insert(digest(bytes))?;
+        Ok(())
+    }
+
+    /// Bytes came in from a folder, or took the place of some that did. Others may count as such too.
+    pub fn are_foreign(&self, bytes: &FileBytes) -> bool {
+        self.foreign.contains(&digest(bytes))
     }
 
     /// The keys of all files that have these bytes, in the order of the records. Those of other files may be among them.
@@ -62,6 +76,9 @@ impl Contents {
             return Ok(());
         }
         if let Some(digest) = new {
+            if old.is_some_and(|old| self.foreign.contains(&old)) {
+                self.foreign.insert(digest)?;
+            }
             self.add(digest, key)?;
         }
         if let Some(digest) = old {

@@ -102,6 +102,9 @@ impl Mirror {
                     Some(found) => Some(Elsewhere::Copy(self.copy_path(files, found.place())?)),
                     None => self.destined_elsewhere(files, self.followed(key.as_str()))?,
                 };
+                if departure.elsewhere.is_none() && departure.entry.is_none() {
+                    departure.elsewhere = self.part_elsewhere(files, &holders, bytes)?;
+                }
             }
         }
         Ok(())

@@ -82,7 +82,7 @@ impl Mirror {
             has_begun: false,
             is_holding: false,
             is_lacking: false,
-            top: Top::new(alloc),
+            top: Top::empty(),
             is_beside: false,
             refused: None,
             overruled: None,

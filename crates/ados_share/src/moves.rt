@@ -148,6 +148,8 @@ impl Destination {
 pub enum Elsewhere {
     /// A file of this path has its bytes.
     Copy(String),
+    /// In a file of this path its bytes stand among others.
+    Part(String),
     /// It was moved to this path, and other bytes are there by now.
     Moved(String),
     /// It had a copy that gave way to what came in from the folder.
@@ -161,6 +163,7 @@ impl Elsewhere {
     {
         Ok(match self {
             Elsewhere::Copy(path) => Elsewhere::Copy(path.clone()?),
+            Elsewhere::Part(path) => Elsewhere::Part(path.clone()?),
             Elsewhere::Moved(path) => Elsewhere::Moved(path.clone()?),
             Elsewhere::Replaced => Elsewhere::Replaced,
         })
@@ -171,6 +174,7 @@ impl Display for Elsewhere {
     fn fmt<W: Write>(&self, f: &mut Formatter<W>) -> fmt::Result {
         match self {
             Elsewhere::Copy(path) => write!(f, "its only other copy is {path}"),
+            Elsewhere::Part(path) => write!(f, "its bytes are only in {path} beside"),
             Elsewhere::Moved(path) => write!(f, "it was moved to {path} and changed"),
             Elsewhere::Replaced => f.write_str("this machine's was kept in place of its copy"),
         }
