@@ -174,7 +174,7 @@ impl Display for Elsewhere {
     fn fmt<W: Write>(&self, f: &mut Formatter<W>) -> fmt::Result {
         match self {
             Elsewhere::Copy(path) => write!(f, "its only other copy is {path}"),
-            Elsewhere::Part(path) => write!(f, "its bytes are only in {path} beside"),
+            Elsewhere::Part(path) => write!(f, "its bytes stand elsewhere only in {path}"),
             Elsewhere::Moved(path) => write!(f, "it was moved to {path} and changed"),
             Elsewhere::Replaced => f.write_str("this machine's was kept in place of its copy"),
         }
