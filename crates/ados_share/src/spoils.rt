@@ -37,7 +37,7 @@ impl Spoils {
 
     /// Notes that something was so.
     pub fn spoil(&mut self)
-        ensures spoilt { self.new.is_spoilt ≡ true }
+        ensures { self.new ≡ record self.old { is_spoilt = true } }
     {
         self.is_spoilt = true;
     }
@@ -46,6 +46,7 @@ impl Spoils {
     pub fn note_taken(&mut self, new: &str) -> Result<(), TransferFault>
         ensures spoilt { self.new.is_spoilt ≡ true }
         ensures taken { OnOk result (is_none self.new.taken ≡ false) }
+        ensures rest { self.new ≡ record self.old { is_spoilt = true; taken = self.new.taken } }
     {
         self.is_spoilt = true;
         if self.taken.is_none() {
@@ -58,6 +59,7 @@ impl Spoils {
     pub fn note_overruled(&mut self, path: &str) -> Result<(), TransferFault>
         ensures spoilt { self.new.is_spoilt ≡ true }
         ensures overruled { OnOk result (is_none self.new.overruled ≡ false) }
+        ensures rest { self.new ≡ record self.old { is_spoilt = true; overruled = self.new.overruled } }
     {
         self.is_spoilt = true;
         if self.overruled.is_none() {
