@@ -26,6 +26,7 @@ mod made_again;
 mod mirror;
 mod modes;
 mod moves;
+mod notes;
 mod permissions;
 mod places;
 mod remainders;
