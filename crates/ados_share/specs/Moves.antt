@@ -7,7 +7,7 @@ use Rattle.ados_text.specs.Text.{is_same}
 use Rattle.ados_ram.specs.declared.entries.Entry.{Entry}
 use Rattle.ados_ram.specs.Entry.{is_directory}
 use Rattle.ados_ram.specs.Files.{Files}
-use Rattle.ados_ram.specs.Place.{Place, key_of, moved_place}
+use Rattle.ados_ram.specs.Place.{Place, is_same_place, key_of, moved_place}
 use Rattle.ados_share.specs.declared.moves.Destination.{Destination}
 use Rattle.ados_share.specs.declared.moves.Destination.TheVariants.{At, Replaced}
 use Rattle.ados_share.specs.declared.moves.Elsewhere.{Elsewhere}
@@ -17,6 +17,12 @@ use Rattle.ados_share.specs.declared.moves.Elsewhere.TheVariants.{Copy, Moved, P
 abbrev pub destination_after : Place → Place → Destination → Destination
 destination_after from to (At place) = At (moved_place from to place)
 destination_after from to Replaced = Replaced
+
+-- both are one place, or gave way
+abbrev pub is_one_destination : Destination → Destination → Bool
+is_one_destination (At place) (At other) = is_same_place place other
+is_one_destination Replaced Replaced = true
+is_one_destination _ _ = false
 
 -- a place is a directory, or below it
 abbrev pub is_within : Place → Place → Bool

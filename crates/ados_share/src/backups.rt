@@ -4,6 +4,7 @@ ghost use Rattle.ados_ram.specs.Entry.{bytes_of};
 ghost use Rattle.ados_share.specs.Backups.{needs_backup, retention_of};
 
 use crate::account::{Account, Moment};
+use crate::holders::Holders;
 use crate::mirror::Mirror;
 use crate::moves::Destination;
 use crate::remainders::Remainder;
@@ -23,7 +24,7 @@ pub struct Backups {
     /// Each by its path, which is that of a temporary file.
     pub by_path: BTreeMap<String, Backup>,
     /// Files that were deleted or written over while the Shell had their bytes, and another file of the folder too, or by another
-    /// program.
+    /// program. Those of one path and the same bytes are told apart by where the script moved them.
     pub deleted: Vec<Backup>,
     /// At the end some of them stay.
     pub have_stayed: bool,
@@ -117,11 +118,6 @@ impl Backups {
 }
 
 impl Backup {
-    /// It is of the file of this path, which had these bytes.
-    pub fn is_of(&self, path: &str, bytes: &FileBytes) -> bool {
-        self.original.as_str() == path && self.bytes == *bytes
-    }
-
     // What the script deleted is followed no longer.
     fn forget_deleted(&mut self, files: &Ram) {
         if self
@@ -207,7 +203,7 @@ impl Mirror {
         let mut over = Vec::new(self.alloc);
         let mut remainders = Vec::new(self.alloc);
         for (path, backup) in &self.backups.by_path {
-            let elsewhere = self.elsewhere(files, &holders, backup)?;
+            let elsewhere = self.needed_for(files, &holders, backup)?;
             let in_folder = self.is_in_folder(rt, backup)?;
             match (
                 retention_of(
@@ -226,7 +222,7 @@ impl Mirror {
                 _ => {}
             }
         }
-        self.let_go(rt, over.as_slice(), account)?;
+        self.let_go(rt, files, &holders, over.as_slice(), account)?;
         self.keep_remainders(rt, remainders.as_slice())
     }
 
@@ -234,6 +230,8 @@ impl Mirror {
     fn let_go<R: AllocGlobal + Files>(
         &mut self,
         rt: &R,
+        files: &Ram,
+        holders: &Holders<'_>,
         paths: &[String],
         account: &mut Account,
     ) -> Result<(), TransferFault> {
@@ -250,7 +248,9 @@ impl Mirror {
         }
         for path in paths {
             let path = path.as_str();
-            self.backups.by_path.remove(path);
+            if let Some(backup) = self.backups.by_path.remove(path) {
+                self.note_former(files, holders, backup)?;
+            }
             if fs::remove_file(rt, path).is_err() && fs::symlink_metadata(rt, path).is_ok() {
                 self.report_temporary(String::from_str(self.alloc, path)?)?;
             }

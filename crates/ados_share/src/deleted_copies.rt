@@ -7,7 +7,7 @@ use crate::departure::Departure;
 use crate::holders::Holders;
 use crate::mirror::Mirror;
 use crate::moves::Elsewhere;
-use ados_ram::{Entry, FileBytes, Ram};
+use ados_ram::{Entry, Ram};
 use ados_transfer::{Draft, Here, Last, Manner, TransferFault, holds, is_beginning_of, lower};
 use std::rt::Files;
 use std::{fs, mem};
@@ -16,13 +16,6 @@ use std::{fs, mem};
 pub(crate) const PRIVATE: u32 = 0o600;
 
 impl Backups {
-    /// A file with this path and these bytes is one of those that were deleted; if it `is_followed`, with the place to which the script moved
-    /// it.
-    pub fn is_noted(&self, path: &str, bytes: &FileBytes, is_followed: bool) -> bool {
-        self.deleted.iter().any(|backup| (!is_followed || backup.moved.is_some())
-            && backup.is_of(path, bytes))
-    }
-
     /// The backups whose files do not hold their bytes any longer, which are no backups from now on, each with its path.
     pub fn take_lost<R: AllocGlobal + Files>(
         &mut self,
@@ -129,11 +122,7 @@ impl Mirror {
         let Last::File(bytes) = &record.last else {
             return Ok(());
         };
-        let is_followed = self.moves.destination(key).is_some();
-        let is_noted = self
-            .backups
-            .is_noted(record.path.as_str(), bytes, is_followed);
-        if bytes.len() == 0 || is_noted || self.options.dry {
+        if bytes.len() == 0 || self.options.dry {
             return Ok(());
         }
         let backup = Backup {
@@ -142,8 +131,7 @@ impl Mirror {
             manner,
             moved: self.moves.copy(key)?,
         };
-        self.backups.deleted.push(backup)?;
-        Ok(())
+        Ok(self.backups.note(backup)?)
     }
 
     // Backups that another program deleted or changed are made anew if they are still needed. What is in place of one stays, and is told.
@@ -157,6 +145,8 @@ impl Mirror {
             let elsewhere = self.elsewhere(files, &holders, &backup)?;
             if elsewhere.is_some() && !self.is_in_folder(rt, &backup)? {
                 self.restore(rt, backup)?;
+            } else {
+                self.note_former(files, &holders, backup)?;
             }
             if fs::symlink_metadata(rt, path.as_str()).is_ok() {
                 self.report_temporary(path)?;
@@ -165,8 +155,8 @@ impl Mirror {
         Ok(())
     }
 
-    // Each of those files whose bytes are in memory alone gets a backup, unless there is one of them; those whose bytes the Shell does not
-    // have either are forgotten.
+    // Each of those files whose bytes are in memory alone gets a backup, unless there is one of them that stays for its own file; those
+    // whose bytes the Shell does not have either are forgotten.
     pub(crate) fn restore_deleted<R: AllocGlobal + Files>(
         &mut self,
         rt: &R,
@@ -178,11 +168,10 @@ impl Mirror {
         let holders = self.holders(files)?;
         let deleted = mem::replace(&mut self.backups.deleted, Vec::new(self.alloc));
         for backup in deleted {
-            let moved = self.unwritten_elsewhere(files, backup.moved.as_ref())?;
-            if moved.is_none() && !holders.has_outside(&backup.bytes) {
+            if !self.is_in_memory(files, &holders, &backup)? {
                 continue;
             }
-            if self.is_in_folder(rt, &backup)? || self.backups.of_bytes(&backup.bytes).is_some() {
+            if self.is_in_folder(rt, &backup)? || self.has_needed(files, &holders, &backup.bytes)? {
                 self.backups.deleted.push(backup)?;
             } else {
                 self.restore(rt, backup)?;

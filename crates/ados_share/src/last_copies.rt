@@ -7,7 +7,7 @@ ghost use Rattle.ados_share.specs.Contents.{if_file_of, is_file_of};
 use crate::departure::{Departure, Departures};
 use crate::failures::with_more;
 use crate::mirror::Mirror;
-use crate::moves::{Destination, Elsewhere};
+use crate::moves::Elsewhere;
 use ados_ram::{FileBytes, Place, Ram};
 use ados_transfer::{
     Here, Last, Record, Records, Rights, TransferFault, Volumes, is_descendant, is_one_name,
@@ -100,7 +100,7 @@ impl Mirror {
             if let Some(bytes) = bytes_of(&self.records, key.as_str()) {
                 departure.elsewhere = match holders.copy_of(departure, bytes, is_moved) {
                     Some(found) => Some(Elsewhere::Copy(self.copy_path(files, found.place())?)),
-                    None => self.destined_elsewhere(files, self.followed(key.as_str()))?,
+                    None => self.followed_elsewhere(files, key.as_str())?,
                 };
                 if departure.elsewhere.is_none() && departure.entry.is_none() {
                     departure.elsewhere = self.part_elsewhere(files, &holders, bytes)?;
@@ -135,7 +135,8 @@ impl Mirror {
         }
     }
 
-    // The same of a file that is to be written over; or it was moved to a file of the directory that is not written yet, and may never be.
+    // The same of a file that is to be written over; or one of its bytes was moved from its place to a file of the directory that is not
+    // written yet, and may never be.
     pub(crate) fn is_lost_below<R: AllocGlobal + Files>(
         &self,
         rt: &R,
@@ -143,11 +144,7 @@ impl Mirror {
         key: &str,
         departure: &Departure<'_>,
     ) -> Result<bool, TransferFault> {
-        let is_unwritten = match self.followed(key) {
-            Some(Destination::At(place)) => self.is_unwritten(files, place)?,
-            Some(Destination::Replaced) | None => false,
-        };
-        Ok(is_unwritten || self.is_last_copy(rt, key, departure)?)
+        Ok(self.has_followed_unwritten(files, key)? || self.is_last_copy(rt, key, departure)?)
     }
 
     // Another file of the folder than the one with this key has these bytes now. A file that is reached by two paths is one.

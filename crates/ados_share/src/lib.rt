@@ -26,6 +26,7 @@ mod made_again;
 mod mirror;
 mod modes;
 mod moves;
+mod notes;
 mod parts;
 mod permissions;
 mod places;

@@ -160,7 +160,8 @@ impl Mirror {
         Ok(first)
     }
 
-    // Deletes an object on this machine; one that is in the way of another one is moved aside.
+    // Deletes an object on this machine; one that is in the way of another one is moved aside. It is noted before: what is aside has no
+    // record.
     fn delete<R: AllocGlobal + Files>(
         &mut self,
         rt: &Below<'_, R>,
@@ -176,6 +177,7 @@ impl Mirror {
         if !departure.is_within_kind_change && !self.is_synced_before(rt, here, account)? {
             return self.hold(key, path, account);
         }
+        self.note_gone(key, departure, here)?;
         let is_done = if departure.is_within_kind_change {
             self.set_aside(rt, key, path, here, account)
         } else {
@@ -188,7 +190,6 @@ impl Mirror {
         }
         match is_done {
             Ok(true) => {
-                self.note_gone(key, departure, here)?;
                 self.forget(key);
                 self.reports.agree(key);
                 Ok(())

@@ -1,0 +1,146 @@
+//! What is noted of files that are gone from the folder while the Shell has their bytes: each file by itself. Two of one path and the same
+//! bytes are told apart by where the script moved them, so that the end of the one is not that of the other.
+ghost use Rattle.std.specs.Prelude.{◌≡◌, OnOk};
+ghost use Rattle.std.specs.List.{list_any};
+ghost use Rattle.std.specs.Option.{option_copied};
+ghost use Rattle.ados_share.specs.Backups.{counts_for, follows, is_of, with_noted};
+ghost use Rattle.ados_share.specs.Moves.{is_one_destination};
+
+use crate::backups::{Backup, Backups};
+use crate::holders::Holders;
+use crate::mirror::Mirror;
+use crate::moves::{Destination, Elsewhere};
+use ados_ram::{FileBytes, Ram};
+use ados_text::NoMemory;
+use ados_transfer::TransferFault;
+
+impl Backups {
+    /// Notes a file that was deleted or written over, unless what is noted counts for it.
+    pub fn note(&mut self, backup: Backup) -> Result<(), NoMemory>
+        ensures noted { OnOk result (self.new.deleted.items ≡ with_noted self.old.deleted.items backup) }
+        ensures rest { self.new ≡ record self.old { deleted = self.new.deleted } }
+    {
+        if !is_noted(self.deleted.as_slice(), &backup) {
+            self.deleted.push(backup)?;
+        }
+        Ok(())
+    }
+}
+
+// One of these counts for a file.
+fn is_noted(noted: &[Backup], backup: &Backup) -> bool
+    ensures { result ≡ list_any (counts_for backup.now) noted.now }
+{
+    for other in noted {
+        if other.counts_for(backup) {
+            return true;
+        }
+    }
+    false
+}
+
+impl Backup {
+    /// It is of the file of this path, which had these bytes.
+    pub fn is_of(&self, path: &str, bytes: &FileBytes) -> bool
+        ensures { result ≡ is_of path.now bytes.now self.now }
+    {
+        self.original.as_str() == path && self.bytes == *bytes
+    }
+
+    // What is noted of its file holds for this one too: both had one path and the same bytes, and they were moved to one place, or this one
+    // was not moved.
+    fn counts_for(&self, backup: &Backup) -> bool
+        ensures { result ≡ counts_for backup.now self.now }
+    {
+        self.is_of(backup.original.as_str(), &backup.bytes)
+            && follows(self.moved.as_ref(), backup.moved.as_ref())
+    }
+}
+
+// What was moved to the first destination is what was moved to the second, or that was not moved.
+fn follows(noted: Option<&Destination>, moved: Option<&Destination>) -> bool
+    ensures { result ≡ follows (option_copied noted.entry) (option_copied moved.entry) }
+{
+    match (noted, moved) {
+        (_, None) => true,
+        (None, Some(_)) => false,
+        (Some(noted), Some(moved)) => noted.is_one_with(moved),
+    }
+}
+
+impl Destination {
+    // Both are one place, or gave way.
+    fn is_one_with(&self, other: &Destination) -> bool
+        ensures { result ≡ is_one_destination self.now other.now }
+    {
+        match (self, other) {
+            (Destination::At(place), Destination::At(other)) => place == other,
+            (Destination::Replaced, Destination::Replaced) => true,
+            (Destination::At(_), Destination::Replaced)
+            | (Destination::Replaced, Destination::At(_)) => false,
+        }
+    }
+}
+
+impl Mirror {
+    // What is a backup no longer, since the folder has its bytes in another file, is noted if they would be in memory alone without that.
+    pub(crate) fn note_former(
+        &mut self,
+        files: &Ram,
+        holders: &Holders<'_>,
+        backup: Backup,
+    ) -> Result<(), TransferFault> {
+        if self.is_in_memory(files, holders, &backup)? {
+            self.backups.note(backup)?;
+        }
+        Ok(())
+    }
+
+    // The Shell has the bytes of a backup outside of the directory, or its file where it was moved, if that is not written.
+    pub(crate) fn is_in_memory(
+        &self,
+        files: &Ram,
+        holders: &Holders<'_>,
+        backup: &Backup,
+    ) -> Result<bool, TransferFault> {
+        let moved = self.unwritten_elsewhere(files, backup.moved.as_ref())?;
+        Ok(moved.is_some() || holders.has_outside(&backup.bytes))
+    }
+
+    // Where the Shell has the file of a backup, or one that was moved, which had the same bytes and has no backup of its own.
+    pub(crate) fn needed_for(
+        &self,
+        files: &Ram,
+        holders: &Holders<'_>,
+        backup: &Backup,
+    ) -> Result<Option<Elsewhere>, TransferFault> {
+        let own = self.elsewhere(files, holders, backup)?;
+        if own.is_some() || self.has_needed(files, holders, &backup.bytes)? {
+            return Ok(own);
+        }
+        for other in &self.backups.deleted {
+            if other.bytes == backup.bytes {
+                let elsewhere = self.unwritten_elsewhere(files, other.moved.as_ref())?;
+                if elsewhere.is_some() {
+                    return Ok(elsewhere);
+                }
+            }
+        }
+        Ok(None)
+    }
+
+    // There is a backup of these bytes that is needed for its own file.
+    pub(crate) fn has_needed(
+        &self,
+        files: &Ram,
+        holders: &Holders<'_>,
+        bytes: &FileBytes,
+    ) -> Result<bool, TransferFault> {
+        for backup in self.backups.by_path.values() {
+            if backup.bytes == *bytes && self.elsewhere(files, holders, backup)?.is_some() {
+                return Ok(true);
+            }
+        }
+        Ok(false)
+    }
+}
