@@ -5,5 +5,6 @@ pub mod Records
 pub mod Changes
 pub mod Contents
 pub mod Fit
+pub mod Elsewhere
 pub mod Moves
 pub mod LeftOut

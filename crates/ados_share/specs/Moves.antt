@@ -1,8 +1,7 @@
 -- Moves: where files of the folder went in the Shell's files.
-use Rattle.std.specs.Prelude.{Bool, true, false, not, Option, Some, None, if◌then◌else◌, string_bytes}
+use Rattle.std.specs.Prelude.{Bool, true, false, not, Option, Some, None, if◌then◌else◌}
 use Rattle.std.specs.FinMap as map
 use Rattle.std.specs.List.{starts_with}
-use Rattle.std.specs.Str.{bytes_eq}
 use Rattle.ados_text.specs.Text.{is_same}
 use Rattle.ados_ram.specs.declared.entries.Entry.{Entry}
 use Rattle.ados_ram.specs.Entry.{is_directory}
@@ -10,8 +9,6 @@ use Rattle.ados_ram.specs.Files.{Files}
 use Rattle.ados_ram.specs.Place.{Place, is_same_place, key_of, moved_place}
 use Rattle.ados_share.specs.declared.moves.Destination.{Destination}
 use Rattle.ados_share.specs.declared.moves.Destination.TheVariants.{At, Replaced}
-use Rattle.ados_share.specs.declared.moves.Elsewhere.{Elsewhere}
-use Rattle.ados_share.specs.declared.moves.Elsewhere.TheVariants.{Copy, Moved, Part, Replaced as GaveWay}
 
 -- where a file is after a Rename; what gave way to what came in is nowhere
 abbrev pub destination_after : Place → Place → Destination → Destination
@@ -48,11 +45,3 @@ abbrev pub may_be_elsewhere : Files → Option Destination → Bool
 may_be_elsewhere files None = false
 may_be_elsewhere files (Some (At place)) = is_file (map.get files (key_of place))
 may_be_elsewhere files (Some Replaced) = true
-
--- both say the same, with the same path
-abbrev pub says_same : Elsewhere → Elsewhere → Bool
-says_same (Copy path) (Copy other) = bytes_eq (string_bytes path) (string_bytes other)
-says_same (Moved path) (Moved other) = bytes_eq (string_bytes path) (string_bytes other)
-says_same (Part path) (Part other) = bytes_eq (string_bytes path) (string_bytes other)
-says_same GaveWay GaveWay = true
-says_same _ _ = false

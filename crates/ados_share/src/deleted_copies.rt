@@ -4,9 +4,9 @@
 use crate::backups::{Backup, Backups};
 use crate::changes::is_made_anew;
 use crate::departure::Departure;
+use crate::elsewhere::Elsewhere;
 use crate::holders::Holders;
 use crate::mirror::Mirror;
-use crate::moves::Elsewhere;
 use ados_ram::{Entry, Ram};
 use ados_transfer::{Draft, Here, Last, Manner, TransferFault, holds, is_beginning_of, lower};
 use std::rt::Files;

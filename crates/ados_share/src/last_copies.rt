@@ -5,9 +5,9 @@ ghost use Rattle.std.specs.BTreeMap.{get_by_text};
 ghost use Rattle.ados_share.specs.Contents.{if_file_of, is_file_of};
 
 use crate::departure::{Departure, Departures};
+use crate::elsewhere::Elsewhere;
 use crate::failures::with_more;
 use crate::mirror::Mirror;
-use crate::moves::Elsewhere;
 use ados_ram::{FileBytes, Place, Ram};
 use ados_transfer::{
     Here, Last, Record, Records, Rights, TransferFault, Volumes, is_descendant, is_one_name,

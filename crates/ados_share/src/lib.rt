@@ -14,6 +14,7 @@ mod copied_folders;
 mod deleted_copies;
 mod departure;
 mod departures;
+mod elsewhere;
 mod failures;
 mod fit;
 mod holders;

@@ -8,8 +8,9 @@ ghost use Rattle.ados_share.specs.Backups.{followed, moved_before, moved_from, m
 
 use crate::backups::{Backup, Backups};
 use crate::deleted_copies::PRIVATE;
+use crate::elsewhere::Elsewhere;
 use crate::mirror::Mirror;
-use crate::moves::{Destination, Elsewhere};
+use crate::moves::Destination;
 use ados_ram::{FileBytes, Place, Ram};
 use ados_text::NoMemory;
 use ados_transfer::{Last, Manner, Record, Rights, TransferFault};

@@ -5,17 +5,16 @@ ghost use Rattle.std.specs.Option.{is_some, option_copied};
 ghost use Rattle.std.specs.BTreeMap.{IsEmpty, IsUnchanged, get_by_text};
 ghost use Rattle.std.specs.FinMap as map;
 ghost use Rattle.ados_ram.specs.Place.{key_of};
-ghost use Rattle.ados_share.specs.Moves.{destination_after, destination_without, is_deleted, is_file, is_within, may_be_elsewhere, says_same};
+ghost use Rattle.ados_share.specs.Moves.{destination_after, destination_without, is_deleted, is_file, is_within, may_be_elsewhere};
 ghost use Rattle.ados_share.specs.Records.{Sets, has_content, is_settled};
 
+use crate::elsewhere::Elsewhere;
 use crate::mirror::Mirror;
 use ados_ram::{Place, Ram};
 use ados_text::NoMemory;
 use ados_transfer::{Last, Record, TransferFault};
 use std::alloc::Global;
 use std::collections::BTreeMap;
-use std::fmt;
-use std::fmt::{Display, Formatter, Write};
 
 /// Where a file of the folder went.
 #[derive(Drop)]
@@ -139,44 +138,6 @@ impl Destination {
         match self {
             Destination::At(place) => !is_file(files, place),
             Destination::Replaced => false,
-        }
-    }
-}
-
-/// Where the Shell has a file of the folder, in most cases outside of the directory.
-#[derive(Drop)]
-pub enum Elsewhere {
-    /// A file of this path has its bytes.
-    Copy(String),
-    /// In a file of this path its bytes stand among others.
-    Part(String),
-    /// It was moved to this path, and other bytes are there by now.
-    Moved(String),
-    /// It had a copy that gave way to what came in from the folder.
-    Replaced,
-}
-
-impl Elsewhere {
-    /// An equal value.
-    pub fn copy(&self) -> Result<Elsewhere, NoMemory>
-        ensures { IfOk result (λ elsewhere. says_same elsewhere self.now ≡ true) }
-    {
-        Ok(match self {
-            Elsewhere::Copy(path) => Elsewhere::Copy(path.clone()?),
-            Elsewhere::Part(path) => Elsewhere::Part(path.clone()?),
-            Elsewhere::Moved(path) => Elsewhere::Moved(path.clone()?),
-            Elsewhere::Replaced => Elsewhere::Replaced,
-        })
-    }
-}
-
-impl Display for Elsewhere {
-    fn fmt<W: Write>(&self, f: &mut Formatter<W>) -> fmt::Result {
-        match self {
-            Elsewhere::Copy(path) => write!(f, "its only other copy is {path}"),
-            Elsewhere::Part(path) => write!(f, "its bytes stand elsewhere only in {path}"),
-            Elsewhere::Moved(path) => write!(f, "it was moved to {path} and changed"),
-            Elsewhere::Replaced => f.write_str("this machine's was kept in place of its copy"),
         }
     }
 }

@@ -7,9 +7,10 @@ ghost use Rattle.ados_share.specs.Backups.{counts_for, follows, is_of, with_note
 ghost use Rattle.ados_share.specs.Moves.{is_one_destination};
 
 use crate::backups::{Backup, Backups};
+use crate::elsewhere::Elsewhere;
 use crate::holders::Holders;
 use crate::mirror::Mirror;
-use crate::moves::{Destination, Elsewhere};
+use crate::moves::Destination;
 use ados_ram::{FileBytes, Ram};
 use ados_text::NoMemory;
 use ados_transfer::TransferFault;

@@ -1,9 +1,9 @@
 //! Files of the folder whose bytes stand among others in a file that the script made outside of the directories, as Join makes them: one is
 //! not deleted while no other file has its bytes.
 
+use crate::elsewhere::Elsewhere;
 use crate::holders::Holders;
 use crate::mirror::Mirror;
-use crate::moves::Elsewhere;
 use ados_ram::{FileBytes, Ram};
 use ados_transfer::TransferFault;
 

@@ -1,9 +1,9 @@
 //! Backups that stay at the end of a run: the names that they get, and the line that reports them.
 
 use crate::departure::own_path;
+use crate::elsewhere::Elsewhere;
 use crate::failures::with_more;
 use crate::mirror::Mirror;
-use crate::moves::Elsewhere;
 use ados_names::is_name;
 use ados_text::Text;
 use ados_transfer::{
