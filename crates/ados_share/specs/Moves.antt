@@ -21,6 +21,11 @@ is_one_destination (At place) (At other) = is_same_place place other
 is_one_destination Replaced Replaced = true
 is_one_destination _ _ = false
 
+-- what was moved gave way to what came in
+abbrev pub gave_way : Destination → Bool
+gave_way (At place) = false
+gave_way Replaced = true
+
 -- a place is a directory, or below it
 abbrev pub is_within : Place → Place → Bool
 is_within directory place = starts_with is_same place directory

@@ -1,5 +1,7 @@
 //! Files whose bytes the Shell has, while the folder of a share has them in another file, or had them until another program deleted or
 //! changed the file that waited. Once no file there has them any longer a backup is made of what the Shell has.
+ghost use Rattle.std.specs.Prelude.{◌≡◌, true, IfOk, Some};
+ghost use Rattle.std.specs.Option.{is_some};
 
 use crate::backups::{Backup, Backups};
 use crate::changes::is_made_anew;
@@ -7,6 +9,7 @@ use crate::departure::Departure;
 use crate::elsewhere::Elsewhere;
 use crate::holders::Holders;
 use crate::mirror::Mirror;
+use crate::moves::Destination;
 use ados_ram::{Entry, Ram};
 use ados_transfer::{Draft, Here, Last, Manner, TransferFault, holds, is_beginning_of, lower};
 use std::rt::Files;
@@ -186,7 +189,9 @@ impl Mirror {
         files: &Ram,
         holders: &Holders<'_>,
         backup: &Backup,
-    ) -> Result<Option<Elsewhere>, TransferFault> {
+    ) -> Result<Option<Elsewhere>, TransferFault>
+        ensures gave_way { backup.now.moved ≡ Some Destination.Replaced → IfOk result (λ elsewhere. is_some elsewhere ≡ true) }
+    {
         if let Some(holder) = holders.first_with(&backup.bytes) {
             return Ok(Some(Elsewhere::Copy(self.copy_path(files, holder.place())?)));
         }

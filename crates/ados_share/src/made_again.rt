@@ -1,10 +1,12 @@
 //! Files of the folder that the script moved away, and that are in their place again with the same bytes: where they went is followed on.
 //! So what was moved is not in memory alone once the new one is deleted or written over, by whomever. The script may move that one too, and so
 //! on: each is followed.
-ghost use Rattle.std.specs.Prelude.{◌≡◌, IfOk, map, string_bytes};
-ghost use Rattle.std.specs.Option.{option_copied};
+ghost use Rattle.std.specs.Prelude.{◌≡◌, IfOk, map, string_bytes, true};
+ghost use Rattle.std.specs.List.{list_any};
+ghost use Rattle.std.specs.Option.{is_some, option_copied};
 ghost use Rattle.std.specs.BTreeMap.{get_by_text};
 ghost use Rattle.ados_share.specs.Backups.{followed, moved_before, moved_from, moved_to};
+ghost use Rattle.ados_share.specs.Moves.{gave_way};
 
 use crate::backups::{Backup, Backups};
 use crate::deleted_copies::PRIVATE;
@@ -121,7 +123,10 @@ impl Mirror {
         &self,
         files: &Ram,
         key: &str,
-    ) -> Result<Option<Elsewhere>, TransferFault> {
+    ) -> Result<Option<Elsewhere>, TransferFault>
+        // None of them hides one that gave way.
+        ensures gave_way { list_any gave_way (followed self.now.backups.deleted.items (get_by_text self.now.records key.now) (get_by_text self.now.moves.by_key key.now)) ≡ true → IfOk result (λ elsewhere. is_some elsewhere ≡ true) }
+    {
         for destination in self.followed(key)? {
             let elsewhere = self.destined_elsewhere(files, Some(destination))?;
             if elsewhere.is_some() {

@@ -1,8 +1,8 @@
 //! What is noted of files that are gone from the folder while the Shell has their bytes: each file by itself. Two of one path and the same
 //! bytes are told apart by where the script moved them, so that the end of the one is not that of the other.
-ghost use Rattle.std.specs.Prelude.{◌≡◌, OnOk};
+ghost use Rattle.std.specs.Prelude.{◌≡◌, true, IfOk, OnOk, Some};
 ghost use Rattle.std.specs.List.{list_any};
-ghost use Rattle.std.specs.Option.{option_copied};
+ghost use Rattle.std.specs.Option.{is_some, option_copied};
 ghost use Rattle.ados_share.specs.Backups.{counts_for, follows, is_of, with_noted};
 ghost use Rattle.ados_share.specs.Moves.{is_one_destination};
 
@@ -103,7 +103,9 @@ impl Mirror {
         files: &Ram,
         holders: &Holders<'_>,
         backup: &Backup,
-    ) -> Result<bool, TransferFault> {
+    ) -> Result<bool, TransferFault>
+        ensures gave_way { backup.now.moved ≡ Some Destination.Replaced → IfOk result (λ is. is ≡ true) }
+    {
         let moved = self.unwritten_elsewhere(files, backup.moved.as_ref())?;
         Ok(moved.is_some() || holders.has_outside(&backup.bytes))
     }
@@ -114,7 +116,9 @@ impl Mirror {
         files: &Ram,
         holders: &Holders<'_>,
         backup: &Backup,
-    ) -> Result<Option<Elsewhere>, TransferFault> {
+    ) -> Result<Option<Elsewhere>, TransferFault>
+        ensures gave_way { backup.now.moved ≡ Some Destination.Replaced → IfOk result (λ elsewhere. is_some elsewhere ≡ true) }
+    {
         let own = self.elsewhere(files, holders, backup)?;
         if own.is_some() || self.has_needed(files, holders, &backup.bytes)? {
             return Ok(own);
