@@ -3,7 +3,6 @@ use Rattle.std.specs.Prelude.{Bool, false, Option, None, Some, if◌then◌else�
 use Rattle.std.specs.Str.{bytes_eq}
 use Rattle.ados_text.specs.Text.{Bytes}
 use Rattle.ados_share.specs.declared.holders.Holder.{Holder}
-use Rattle.ados_transfer.specs.Within.{is_substring}
 use Rattle.ados_transfer.specs.declared.records.Record.{Record}
 use Rattle.ados_transfer.specs.declared.records.Last.{Last}
 use Rattle.ados_transfer.specs.declared.records.Last.TheVariants.{Directory, File, StandIn}
@@ -11,10 +10,6 @@ use Rattle.ados_transfer.specs.declared.records.Last.TheVariants.{Directory, Fil
 -- a file of the Shell has these bytes
 abbrev pub has_bytes : Bytes → Holder → Bool
 has_bytes bytes holder = bytes_eq holder.bytes.now bytes
-
--- these bytes stand in a file of the Shell, among others or alone
-abbrev pub has_within : Bytes → Holder → Bool
-has_within bytes holder = is_substring bytes holder.bytes.now
 
 -- an object was a file of these bytes at the last comparison
 abbrev pub is_file_of : Last → Bytes → Bool

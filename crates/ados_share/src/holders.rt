@@ -1,15 +1,14 @@
 //! Which files of the Shell have the same bytes as a file of the folder of a share.
-ghost use Rattle.std.specs.Prelude.{◌≡◌, true, IfOk, IfSome, find};
+ghost use Rattle.std.specs.Prelude.{◌≡◌, true, IfSome, find};
 ghost use Rattle.std.specs.Option.{option_copied};
-ghost use Rattle.ados_share.specs.Contents.{has_bytes, has_within};
+ghost use Rattle.ados_share.specs.Contents.{has_bytes};
 
-use crate::beside::Top;
 use crate::contents::digest;
 use crate::departure::Departure;
 use crate::mirror::Mirror;
 use ados_ram::{FileBytes, Place, Ram};
 use ados_text::NoMemory;
-use ados_transfer::{TransferFault, is_part};
+use ados_transfer::TransferFault;
 use std::alloc::Global;
 use std::collections::BTreeMap;
 
@@ -24,6 +23,11 @@ impl Holder<'_> {
     /// Where it is.
     pub fn place(&self) -> &Place {
         &self.place
+    }
+
+    /// What it holds.
+    pub fn bytes(&self) -> &FileBytes {
+        self.bytes
     }
 }
 
@@ -63,20 +67,15 @@ impl<'a> Index<'a> {
         Ok(())
     }
 
-    // The first file in which these bytes stand, among others or alone, and which was not there at the beginning as it is now.
-    fn first_around(&self, bytes: &FileBytes, top: &Top) -> Result<Option<&Holder<'a>>, NoMemory>
-        ensures { IfOk result (λ found. IfSome found (λ holder. has_within bytes.now holder.now ≡ true)) }
-    {
+    // All of them.
+    fn all(&self) -> Result<Vec<&Holder<'a>>, NoMemory> {
+        let mut all = Vec::new(self.alloc);
         for alike in self.by_digest.values() {
             for holder in alike {
-                if !top.had(&holder.place, holder.bytes)
-                    && is_part(self.alloc, bytes, holder.bytes)?
-                {
-                    return Ok(Some(holder));
-                }
+                all.push(holder)?;
             }
         }
-        Ok(None)
+        Ok(all)
     }
 
     // The first file that was added with these bytes.
@@ -116,21 +115,14 @@ impl<'a> Holders<'a> {
         self.outside.first_with(bytes).is_some()
     }
 
-    // The first file outside of the directory that the script made or changed, and in which these bytes stand; none if they stand in one of
-    // the directory.
-    pub(crate) fn first_around(
-        &self,
-        bytes: &FileBytes,
-        top: &Top,
-    ) -> Result<Option<&Holder<'a>>, NoMemory>
-        ensures { IfOk result (λ found. IfSome found (λ holder. has_within bytes.now holder.now ≡ true)) }
-    {
-        match self.outside.first_around(bytes, top)? {
-            Some(holder) if self.inside.first_around(bytes, &Top::empty())?.is_none() => {
-                Ok(Some(holder))
-            }
-            _ => Ok(None),
-        }
+    /// All files outside of the directory.
+    pub fn outside(&self) -> Result<Vec<&Holder<'a>>, NoMemory> {
+        self.outside.all()
+    }
+
+    /// All files in the directory.
+    pub fn inside(&self) -> Result<Vec<&Holder<'a>>, NoMemory> {
+        self.inside.all()
     }
 
     // The file whose bytes would be lost with memory if those of a file of the folder are deleted or written over. For one that gives

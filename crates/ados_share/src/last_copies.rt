@@ -102,12 +102,9 @@ impl Mirror {
                     Some(found) => Some(Elsewhere::Copy(self.copy_path(files, found.place())?)),
                     None => self.followed_elsewhere(files, key.as_str())?,
                 };
-                if departure.elsewhere.is_none() && departure.entry.is_none() {
-                    departure.elsewhere = self.part_elsewhere(files, &holders, bytes)?;
-                }
             }
         }
-        Ok(())
+        self.find_parts(files, &holders, departures)
     }
 
     // The path of a file of the Shell, for lines.
@@ -235,7 +232,7 @@ impl Mirror {
 }
 
 // The bytes of the record of a file.
-fn bytes_of<'a>(records: &'a Records, key: &str) -> Option<&'a FileBytes> {
+pub(crate) fn bytes_of<'a>(records: &'a Records, key: &str) -> Option<&'a FileBytes> {
     match records.get(key).map(|record| &record.last) {
         Some(Last::File(bytes)) => Some(bytes),
         _ => None,
