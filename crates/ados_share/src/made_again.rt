@@ -143,10 +143,10 @@ impl Mirror {
         key: &str,
     ) -> Result<bool, TransferFault> {
         for destination in self.followed(key)? {
-            if let Destination::At(place) = destination {
-                if self.is_unwritten(files, place)? {
-                    return Ok(true);
-                }
+            if let Destination::At(place) = destination
+                && self.is_unwritten(files, place)?
+            {
+                return Ok(true);
             }
         }
         Ok(false)

@@ -124,11 +124,10 @@ impl Mirror {
             return Ok(own);
         }
         for other in &self.backups.deleted {
-            if other.bytes == backup.bytes {
-                let elsewhere = self.unwritten_elsewhere(files, other.moved.as_ref())?;
-                if elsewhere.is_some() {
-                    return Ok(elsewhere);
-                }
+            if other.bytes == backup.bytes
+                && let Some(elsewhere) = self.unwritten_elsewhere(files, other.moved.as_ref())?
+            {
+                return Ok(Some(elsewhere));
             }
         }
         Ok(None)
