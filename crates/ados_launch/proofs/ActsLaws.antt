@@ -2,7 +2,7 @@
 use Rattle.std.proofs.Common.{◌≡◌, ℕ, Bool, Option, List, [], ◌∷◌, ◌++◌, Ok, refl, ap, append-nil}
 use Rattle.ados_machine.specs.declared.events.Event.{Event}
 use Rattle.ados_machine.specs.declared.outs.Out.{Out}
-use Rattle.ados_machine.specs.Limits.{IsSane}
+use Rattle.ados_machine.specs.FrameEnds.{IsSane}
 use Rattle.ados_machine.specs.LoneShell.{world_with_opened}
 use Rattle.ados_machine.specs.Runs.{IsResponse, resulting_world}
 use Rattle.ados_machine.specs.Stacks.{standing_at}

@@ -13,7 +13,7 @@ use Rattle.ados_machine.specs.declared.requests.Request.{Request}
 use Rattle.ados_machine.specs.declared.requests.Request.TheVariants.{Start, Read, Wait}
 use Rattle.ados_machine.specs.Children.{child_after_answer, child_in, is_asked, is_launchers, is_marked, shell_named}
 use Rattle.ados_machine.specs.Items.{TraceItem}
-use Rattle.ados_machine.specs.Limits.{IsSane}
+use Rattle.ados_machine.specs.FrameEnds.{IsSane}
 use Rattle.ados_machine.specs.Runs.{IsResponse, resulting_world}
 use Rattle.ados_machine.specs.Step.{Response, Accepted, Refused, step_of}
 use Rattle.ados_machine.specs.World.{WorldState, pending_of}

@@ -10,7 +10,7 @@ use Rattle.ados_machine.specs.declared.events.Event.TheVariants.{Answer}
 use Rattle.ados_machine.specs.declared.requests.Request.{Request}
 use Rattle.ados_machine.specs.declared.requests.Request.TheVariants.{Start, Read, Wait}
 use Rattle.ados_machine.specs.Children.{child_after_answer, child_in, fits, is_marked}
-use Rattle.ados_machine.specs.Limits.{IsSane}
+use Rattle.ados_machine.specs.FrameEnds.{IsSane}
 use Rattle.ados_machine.specs.Step.{Response, Accepted, Refused, is_accepted, step_of}
 use Rattle.ados_machine.specs.World.{WorldState, pending_of}
 use Rattle.ados_machine.proofs.ChildLemmas.{fitting-accepted, requests-are}

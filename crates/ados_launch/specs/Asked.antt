@@ -22,32 +22,33 @@ is_start (Start job) = true
 is_start (Read n) = false
 is_start (Wait n) = false
 
--- the call to which a request leads, with its answer
+-- the call of a launcher to which a request leads, with its answer
 abbrev pub call_of : Request → Reply → Call
 call_of (Start job) reply = Starts job reply
 call_of (Read n) reply = Reads n reply
 call_of (Wait n) reply = Waits n reply
 
--- The request may be made of a child in this state: a start if there is none, a read while its output is read, and a wait
--- for one that is open, even before the end of its reads.
+-- A request may be made of a child in this state: a start if there is none, a read while its output is read, and a wait for one that is
+-- open, even before the end of its reads.
 abbrev pub MayAsk : Request → ChildState → Type 0
 MayAsk (Start job) state = state ≡ Closed
 MayAsk (Read n) state = state ≡ Reading
 MayAsk (Wait n) state = state ≢ Closed
 
--- What a launcher lists for it: the call, with an answer of its kind. A start that finds no room is answered Memory, and is
--- not listed; the launcher is full then, and stays full.
+-- What a launcher, which is full or not in the end, lists for a request with this answer: the call, with an answer of its kind. A start
+-- that finds no room is answered Memory, and is not listed; the launcher is full then, and stays full.
 abbrev pub Lists : Bool → Request → Reply → List Call → Type 0
 Lists is_full request reply listed =
     (fits request reply ≡ true)
     × ((listed ≡ call_of request reply ∷ []) ⊎ ((listed ≡ []) × (is_start request ≡ true) × (reply ≡ Memory) × (is_full ≡ true)))
 
--- what a launcher lists for a request, if there is one
+-- what a launcher, which is full or not in the end, lists for a request with this answer, if there is a request
 abbrev pub ListsOf : Bool → Option Request → Reply → List Call → Type 0
 ListsOf is_full None reply listed = ⊥
 ListsOf is_full (Some request) reply listed = Lists is_full request reply listed
 
--- what is asked for what a run takes: for an answer, what its shell waits for
+-- what a launcher, which is full or not in the end, lists for an item that a run takes in the world w: for an answer, what its shell waits
+-- for, and else nothing
 abbrev pub IsAsked : Bool → WorldState → TakenItem → List Call → Type 0
 IsAsked is_full w (Given (Answer k reply) out) listed = ListsOf is_full (pending_of w k) reply listed
 IsAsked is_full w (Given (Typed line) out) listed = listed ≡ []
@@ -63,7 +64,8 @@ AreNoStarts (Starts job reply ∷ calls) = ⊥
 AreNoStarts (Reads n reply ∷ calls) = AreNoStarts calls
 AreNoStarts (Waits n reply ∷ calls) = AreNoStarts calls
 
--- an answer that was taken without a call is an answer of a full launcher: it lists no start after it
+-- `now` are the calls for an item that was taken: an answer without one is that of a full launcher, so that no start is among the calls
+-- that it lists later
 abbrev pub HasCall : TakenItem → List Call → List Call → Type 0
 HasCall (Given (Answer k reply) out) [] later = AreNoStarts later
 HasCall (Given (Answer k reply) out) (call ∷ calls) later = Unit {0}
@@ -73,13 +75,15 @@ HasCall (Given (Turn k) out) now later = Unit {0}
 HasCall (Given (Break k kind) out) now later = Unit {0}
 HasCall LongLine now later = Unit {0}
 
--- these calls were asked for everything that was taken, in order, each once
+-- `listed` are the calls of a launcher, which is full or not in the end, for everything that was taken from the world w on, in order, each
+-- once
 abbrev pub AreAsked : Bool → WorldState → List TakenItem → List Call → Type 0
 AreAsked is_full w [] listed = listed ≡ []
 AreAsked is_full w (item ∷ taken) listed =
     (now later : List Call) × (listed ≡ now ++ later) × IsAsked is_full w item now × HasCall item now later × AreAsked is_full (world_after_item w item) taken later
 
--- A request was made to a launcher, which gave this answer: what it listed.
+-- A request was made to a launcher, which gave this answer: from one list of calls to the other it listed what it does for that, and it is
+-- full now or not; one that was full stays so.
 pub record Asks (request : Request) (reply : Reply) (was_full is_full : Bool) (calls calls_now : List Call) : Type 0 where
   pub listed : List Call
   pub calls_are : calls_now ≡ calls ++ listed
@@ -87,7 +91,7 @@ pub record Asks (request : Request) (reply : Reply) (was_full is_full : Bool) (c
   pub when_full : is_full ≡ true → AreNoStarts listed
   pub stays : was_full ≡ true → is_full ≡ true
 
--- A launcher was asked for what shell k waits for, and this is the result of its answer.
+-- A launcher was asked for what shell k waits for, listed that, and what became of its answer is the outcome.
 pub record LauncherAnswers (w : WorldState) (k : ℕ) (was_full is_full : Bool) (calls calls_now : List Call) (outcome : Reply → Type 0) : Type 0 where
   pub request : Request
   pub pending_is : pending_of w k ≡ Some request
@@ -95,10 +99,11 @@ pub record LauncherAnswers (w : WorldState) (k : ℕ) (was_full is_full : Bool) 
   pub asks : Asks request reply was_full is_full calls calls_now
   pub led_to : outcome reply
 
--- the world took the answer for shell k, which gave this
+-- the world w took this answer for shell k, which gave `out` and led to the world `now`
 abbrev pub IsTaken : WorldState → ℕ → WorldState → Out → Reply → Type 0
 IsTaken w k now out reply = IsResponse (Answer k reply) (Ok out) (step_of w (Answer k reply)) × (now ≡ resulting_world w (Ok out) (step_of w (Answer k reply)))
 
--- if it took it; otherwise the world is unchanged
+-- the world w took this answer for shell k, with this result: it gave `out` and led to the world `now`; if it did not take it, the world is
+-- unchanged
 abbrev pub TakesAnswer : {X E : Type 0} → WorldState → ℕ → Result X E → WorldState → Out → Reply → Type 0
 TakesAnswer w k result now out reply = MatchResult result (λ _. IsTaken w k now out reply) (λ _. now ≡ w)

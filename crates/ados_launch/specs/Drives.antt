@@ -12,19 +12,19 @@ use Rattle.ados_launch.specs.Faults.{one_more}
 use Rattle.ados_launch.specs.Lines.{IfKnown}
 use Rattle.ados_launch.specs.NoFurther.{ReadsOnlyDueLine}
 use Rattle.ados_launch.specs.Rounds.{IsRunning}
-use Rattle.ados_launch.specs.Schedule.{next_after_taken, has_open_input, IsReading}
+use Rattle.ados_launch.specs.Schedule.{next_after_taken, has_open_input, IsLineNext}
 use Rattle.ados_launch.specs.Session.{Moment, AreDropped, IsReadAhead, LeavesOverlong, Session, SessionProgress, CutSessionProgress}
 use Rattle.ados_launch.specs.Taken.{TakenItem, written_bytes, rest_after_items}
 
--- no read failed
+-- between two moments no read failed
 abbrev pub ReadsWell : Moment → Moment → Type 0
 ReadsWell before now = now.read_faults ≡ before.read_faults
 
--- no write failed, and none stalled (wrote nothing)
+-- between two moments no write failed, and none stalled (wrote nothing)
 abbrev pub WritesWell : Moment → Moment → Type 0
 WritesWell before now = (now.write_faults ≡ before.write_faults) × (now.stalls ≡ before.stalls)
 
--- The run came to its end: no shell is left.
+-- The run between two moments came to its end, which is the result: no shell is left.
 pub record ComesToEnd (turns : ℕ) (breaks : List BreakAt) (before now : Moment) (end : End) : Type 0 where
   -- as many were taken as the result says, all of their bytes were written, and nothing else was asked of the launcher
   pub stands : SessionProgress before now breaks end.events []
@@ -37,7 +37,7 @@ pub record ComesToEnd (turns : ℕ) (breaks : List BreakAt) (before now : Moment
   -- the reader reached its end, unless shell 1 or its input had ended before
   pub reader_ended : IfKnown before.left (λ bytes. has_open_input before.world ≡ true → now.left ≡ Some [])
 
--- As many events and long lines as allowed were taken, all of their bytes were written, and something is due.
+-- Between two moments as many events and long lines as allowed were taken, all of their bytes were written, and something is due.
 pub record StopsAtTurns (turns : ℕ) (breaks : List BreakAt) (before now : Moment) : Type 0 where
   pub stands : SessionProgress before now breaks turns []
   pub running : IsRunning now.world
@@ -47,8 +47,8 @@ pub record StopsAtTurns (turns : ℕ) (breaks : List BreakAt) (before now : Mome
   pub reads_well : ReadsWell before now
   pub writes_well : WritesWell before now
 
--- Fewer than allowed were taken, all of their bytes were written, and something is due, for which there was no memory; at most
--- one call was made for it.
+-- Between two moments fewer events and long lines than allowed were taken, all of their bytes were written, and something is due, for which
+-- there was no memory; at most one call was made for it.
 pub record StopsAtMemory (turns : ℕ) (breaks : List BreakAt) (before now : Moment) : Type 0 where
   pub n : ℕ
   pub few : n < turns
@@ -62,29 +62,29 @@ pub record StopsAtMemory (turns : ℕ) (breaks : List BreakAt) (before now : Mom
   pub reads_well : ReadsWell before now
   pub writes_well : WritesWell before now
 
--- Fewer than allowed were taken, all of their bytes were written, and a line is due: its read failed, or it is too long to
--- be read. In the second case no read failed, and what is left follows its first 65,537 bytes, except for fewer than 4,096
--- bytes that were read with them.
+-- Between two moments fewer events and long lines than allowed were taken, all of their bytes were written, and a line is due: its read
+-- failed, or it is too long to be read. In the second case no read failed, and what is left follows its first 65,537 bytes, except for
+-- fewer than 4,096 bytes that were read with them.
 pub record StopsAtRead (turns : ℕ) (breaks : List BreakAt) (before now : Moment) : Type 0 where
   pub n : ℕ
   pub few : n < turns
   pub stands : SessionProgress before now breaks n []
-  pub reading : IsReading breaks before.world stands.taken now.world
+  pub reading : IsLineNext breaks before.world stands.taken now.world
   pub cause : (now.read_faults ≡ before.read_faults + 1)
       ⊎ (ReadsWell before now × IfKnown before.left (λ bytes. LeavesOverlong (rest_after_items bytes stands.taken) now.left))
   pub writes_well : WritesWell before now
 
--- A prefix of what was printed was written, and not all: a write failed or wrote nothing.
+-- Between two moments a prefix of what was printed was written, and not all: a write failed or wrote nothing.
 pub record StopsAtWrite (turns : ℕ) (breaks : List BreakAt) (before now : Moment) : Type 0 where
   pub n : ℕ
   pub within : n ≤ turns
   pub stands : CutSessionProgress before now breaks n
-  -- it alone failed, or wrote nothing
+  -- one write failed, or one wrote nothing
   pub cause : ((now.write_faults ≡ before.write_faults + 1) × (now.stalls ≡ before.stalls))
       ⊎ ((now.write_faults ≡ before.write_faults) × (now.stalls ≡ one_more before.stalls))
   pub reads_well : ReadsWell before now
 
--- the result of the schedule
+-- between two moments a run of the schedule had this result: the end of all shells, or a stop for one of four reasons
 abbrev pub HasDriveResult : ℕ → List BreakAt → Moment → Moment → Result End DriveFault → Type 0
 HasDriveResult turns breaks before now (Ok end) = ComesToEnd turns breaks before now end
 HasDriveResult turns breaks before now (Err Turns) = StopsAtTurns turns breaks before now
@@ -92,8 +92,8 @@ HasDriveResult turns breaks before now (Err Memory) = StopsAtMemory turns breaks
 HasDriveResult turns breaks before now (Err Read) = StopsAtRead turns breaks before now
 HasDriveResult turns breaks before now (Err Write) = StopsAtWrite turns breaks before now
 
--- What was taken, however it ended, is a session: a run of the machine, which accepted each event, in the order of the schedule.
--- The launcher's list has the calls for what was taken, and after these at most one, for the reply that comes next and was not
+-- What was taken between two moments, however it ended, is a session: a run of the machine, which accepted each event, in the order of the
+-- schedule. The launcher's list has the calls for what was taken, and after these at most one, for the reply that comes next and was not
 -- taken. A prefix of what was printed was written.
 pub record TakesSession (turns : ℕ) (breaks : List BreakAt) (before now : Moment) : Type 0 where
   pub taken : List TakenItem

@@ -13,20 +13,20 @@ use Rattle.ados_launch.specs.Schedule.{Next, scheduled_next, following_schedule_
 use Rattle.ados_launch.specs.Session.{Moment}
 use Rattle.ados_launch.specs.Steps.{SessionState, StopsUntaken}
 
--- What was gathered and these bytes after it are what the writer got and what is gathered now.
+-- A writer got some bytes, and some are gathered now: together they are those that were gathered, followed by `bytes`.
 abbrev pub Gathers : (was now : List ℕ) → (contents contents_now : Option (List ℕ)) → (bytes : List ℕ) → Type 0
 Gathers was now contents contents_now bytes = (got : List ℕ) × Appends contents contents_now got × (was ++ bytes ≡ got ++ now)
 
--- the writer got the first of these bytes, and not all
+-- a writer got the first of these bytes, and not all; `contents` and `contents_now` are what it held and holds
 abbrev pub GetsPart : (contents contents_now : Option (List ℕ)) → (bytes : List ℕ) → Type 0
 GetsPart contents contents_now bytes = (length_written : ℕ) × (length_written < length bytes) × Appends contents contents_now (take length_written bytes)
 
--- one write failed, or one wrote nothing
+-- by the counts before and after, one write failed, or one wrote nothing
 abbrev pub FailsToWrite : (faults faults_now stalls stalls_now : ℕ) → Type 0
 FailsToWrite faults faults_now stalls stalls_now =
     ((faults_now ≡ faults + 1) × (stalls_now ≡ stalls)) ⊎ ((faults_now ≡ faults) × (stalls_now ≡ one_more stalls))
 
--- What came next was taken, and what it printed is gathered or written.
+-- A step of a session, between two states and two moments: what came next was taken, and what it printed is gathered or written.
 pub record GathersNext (was now : SessionState) (before after : Moment) : Type 0 where
   pub next : Next
   pub next_is : scheduled_next was.schedule before.world ≡ Some next
@@ -38,13 +38,13 @@ pub record GathersNext (was now : SessionState) (before after : Moment) : Type 0
   pub reads_well : ReadsWell before after
   pub writes_well : WritesWell before after
 
--- What was gathered was written, and then the step has this result: it took nothing.
+-- A step of a session, between two states and two moments: what was gathered was written, and then the step took nothing, with this result.
 pub record WritesGathered (was now : SessionState) (before after : Moment) (result : Result Bool DriveFault) : Type 0 where
   pub written : Appends before.contents after.contents was.gathered
   pub none_is : length now.gathered ≡ 0
   pub takes : StopsUntaken was now (record before { contents = after.contents }) after result
 
--- Nothing was taken, nor asked of the reader or the launcher, and only a part of what was gathered was written.
+-- A step of a session: nothing was taken, nor asked of the reader or the launcher, and only a part of what was gathered was written.
 pub record StopsBefore (was : SessionState) (before after : Moment) : Type 0 where
   pub world_is : after.world ≡ before.world
   pub calls_are : after.calls ≡ before.calls
@@ -52,7 +52,8 @@ pub record StopsBefore (was : SessionState) (before after : Moment) : Type 0 whe
   pub cause : FailsToWrite before.write_faults after.write_faults before.stalls after.stalls
   pub reads_well : ReadsWell before after
 
--- What came next was taken, and only a part of what was gathered and of what it printed was written.
+-- A step of a session, between two states and two moments: what came next was taken, and only a part of what was gathered and of what it
+-- printed was written.
 pub record StopsAfter (was now : SessionState) (before after : Moment) : Type 0 where
   pub next : Next
   pub next_is : scheduled_next was.schedule before.world ≡ Some next
@@ -64,7 +65,7 @@ pub record StopsAfter (was now : SessionState) (before after : Moment) : Type 0 
   pub cause : FailsToWrite before.write_faults after.write_faults before.stalls after.stalls
   pub reads_well : ReadsWell before after
 
--- the result of a step whose output is gathered
+-- what a step of a session whose output is gathered leaves, by its result; the Bool says whether anything was taken
 abbrev pub HasGatherResult : SessionState → SessionState → Moment → Moment → Result Bool DriveFault → Type 0
 HasGatherResult was now before after (Ok true) = GathersNext was now before after
 HasGatherResult was now before after (Ok false) = WritesGathered was now before after (Ok false)

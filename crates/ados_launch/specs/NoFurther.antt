@@ -4,9 +4,9 @@ use Rattle.ados_launch.specs.Lines.{input_limit, line_of}
 use Rattle.ados_launch.specs.Schedule.{AtLine, Next}
 use Rattle.ados_launch.specs.Session.{IsReadAhead}
 
--- For what comes next nothing was read past the line that is due. Of what was left to read a number of bytes were taken: none
--- if it is not a line; otherwise at most that line and the byte 10 after it, and no more than 65,537. Fewer than 4,096 bytes
--- after them were read ahead.
+-- For what comes next nothing was read past the line that is due, as far as is known. Of what was left to read a number of bytes were
+-- taken: none if a line does not come next; otherwise at most that line and the newline after it, and no more than 65,537. Fewer than 4,096
+-- bytes after them were read ahead.
 pub record ReadsOnlyDueLine (next : Option Next) (left : List ℕ) (now : Option (List ℕ)) : Type 0 where
   pub count : ℕ
   pub none : next ≢ Some AtLine → count ≡ 0
@@ -14,15 +14,15 @@ pub record ReadsOnlyDueLine (next : Option Next) (left : List ℕ) (now : Option
   pub few : count ≤ input_limit + 1
   pub left_is : IsReadAhead (drop count left) now
 
--- Some of these bytes were taken: nothing past the line with which they begin and the byte 10 after it, and no more than
--- show that a line is overlong.
+-- Some of these bytes were taken: nothing past the line with which they begin and the newline after it, and no more than show that a line
+-- is overlong.
 pub record TakesPart (bytes : List ℕ) (now : Option (List ℕ)) : Type 0 where
   pub count : ℕ
   pub within : count ≤ length (line_of bytes) + 1
   pub few : count ≤ input_limit + 1
   pub now_is : now ≡ Some (drop count bytes)
 
--- If this comes next, some of the bytes may have been taken for it, provided that it is a line.
+-- If this comes next, some of these bytes may have been taken for it, provided that it is a line.
 pub record TakesPartAt (next : Next) (bytes : List ℕ) (now : Option (List ℕ)) : Type 0 where
   pub part : TakesPart bytes now
   pub none : next ≢ AtLine → part.count ≡ 0

@@ -23,7 +23,7 @@ pub record ScheduleState : Type 0 where
   pub breaks : List BreakAt
   pub taken : ℕ
 
--- the schedule begins with a list of breaks
+-- the state of a schedule as it begins with this list of breaks
 abbrev pub first_schedule_state : List BreakAt → ScheduleState
 first_schedule_state breaks = record { round = first_round; breaks = breaks; taken = 0 }
 
@@ -35,13 +35,14 @@ pub data Next : Type 0 where
   AtStart : (shell : ℕ) → Next
   AtFurther : (shell : ℕ) → Next
 
--- what comes next, as a session names it, which names no break
+-- what comes next, as a session names it, as the schedule names it; it is no break
 abbrev pub next_named : due.Next → Next
 next_named LineDue = AtLine
 next_named (TurnDue shell) = AtTurn shell
 next_named (StartDue shell) = AtStart shell
 next_named (FurtherDue shell) = AtFurther shell
 
+-- what comes next, if it is not a break
 abbrev pub unless_break : Option Next → Option Next
 unless_break None = None
 unless_break (Some (AtBreak shell kind)) = None
@@ -50,15 +51,15 @@ unless_break (Some (AtTurn shell)) = Some (AtTurn shell)
 unless_break (Some (AtStart shell)) = Some (AtStart shell)
 unless_break (Some (AtFurther shell)) = Some (AtFurther shell)
 
--- what is due at a place of a round: at 0 a line, at 1 to 20 the turn of that shell, at 21 to 40 the answer to its start, and from 41 on that
--- to its read or wait
+-- what is due at this place of a round: at 0 a line, at 1 to 20 the turn of that shell, at 21 to 40 the answer to its start, and from 41 on
+-- that to its read or wait
 abbrev pub next_at : ℕ → Next
 next_at place =
     if nat_lt place 1 then AtLine else
     (if nat_lt place 21 then AtTurn place else
     (if nat_lt place 41 then AtStart (place - 20) else AtFurther (place - 40)))
 
--- the place of what is due; 0 stands for a break, which has none
+-- the place in a round of what comes next; 0 stands for a break, which has none
 abbrev pub round_place : Next → ℕ
 round_place (AtBreak shell kind) = 0
 round_place AtLine = 0
@@ -66,11 +67,11 @@ round_place (AtTurn shell) = shell
 round_place (AtStart shell) = shell + 20
 round_place (AtFurther shell) = shell + 40
 
--- a break whose shell does not run is passed over before the event with its number, for good
+-- a break is passed over before the event with this number, for good, as its shell does not run and its number has come
 abbrev pub is_passed : ℕ → WorldState → BreakAt → Bool
 is_passed number w at = nat_le at.event number && not (is_some (numbered_shell w at.shell))
 
--- the breaks that are left before the next event, without those that are passed over
+-- the breaks that are left of a schedule before the next event, without those that are passed over
 abbrev pub breaks_left : ScheduleState → WorldState → List BreakAt
 breaks_left s w = drop (prefix_len (is_passed (s.taken + 1) w) s.breaks) s.breaks
 
@@ -79,23 +80,24 @@ abbrev pub first_due_break : ℕ → List BreakAt → Option BreakAt
 first_due_break number [] = None
 first_due_break number (at ∷ breaks) = if nat_le at.event number then Some at else None
 
--- a break that is due comes before what else is
+-- what comes next: a break that is due, if there is one, and else what is due at this place of the round
 abbrev pub break_or_due : Option BreakAt → ℕ → Next
 break_or_due None place = next_at place
 break_or_due (Some at) place = AtBreak at.shell at.kind
 
--- what comes next: if nothing is due no break comes either
+-- what comes next in a world, by the schedule; if nothing is due no break comes either
 abbrev pub scheduled_next : ScheduleState → WorldState → Option Next
 scheduled_next s w = option_map (break_or_due (first_due_break (s.taken + 1) (breaks_left s w))) (due_place s.round w)
 
--- the place of what comes next, if it is not a break
+-- the place in the round of what comes next, if it is not a break
 abbrev pub place_due : ScheduleState → WorldState → Option ℕ
 place_due s w = if is_some (first_due_break (s.taken + 1) (breaks_left s w)) then None else due_place s.round w
 
--- the schedule after what came: a break leaves the round unchanged
+-- the schedule after what came at this place of its round
 abbrev pub schedule_state_after_place : ScheduleState → WorldState → ℕ → ScheduleState
 schedule_state_after_place s w place = record { round = following_round s.round w place; breaks = breaks_left s w; taken = s.taken + 1 }
 
+-- the schedule after what came next in a world: a break leaves the round unchanged
 abbrev pub following_schedule_state : ScheduleState → WorldState → Next → ScheduleState
 following_schedule_state s w (AtBreak shell kind) = record { round = s.round; breaks = drop 1 (breaks_left s w); taken = s.taken + 1 }
 following_schedule_state s w AtLine = schedule_state_after_place s w (round_place AtLine)
@@ -103,26 +105,27 @@ following_schedule_state s w (AtTurn shell) = schedule_state_after_place s w (ro
 following_schedule_state s w (AtStart shell) = schedule_state_after_place s w (round_place (AtStart shell))
 following_schedule_state s w (AtFurther shell) = schedule_state_after_place s w (round_place (AtFurther shell))
 
--- what was found to come next, and the schedule after it once the breaks before it were passed over
+-- what was found to come next, as the schedule names it
 abbrev pub found_next : found.Next → Next
 found_next (BreakFound at) = AtBreak at.shell at.kind
 found_next (DueFound due_at) = next_at due_at.place
 
+-- the schedule after what was found to come next, once the breaks before it were passed over
 abbrev pub passed_schedule_state : ScheduleState → found.Next → ScheduleState
 passed_schedule_state s (BreakFound at) = record s { breaks = drop 1 s.breaks; taken = s.taken + 1 }
 passed_schedule_state s (DueFound due_at) = record s { round = passed_round s.round due_at; taken = s.taken + 1 }
 
--- what was found may come: a break of a shell that runs, or what may come at a place
+-- in a world what was found to come next may come: a break of a shell that runs, or what may come at a place
 abbrev pub MayCome : WorldState → found.Next → Type 0
 MayCome w (BreakFound at) = is_some (numbered_shell w at.shell) ≡ true
 MayCome w (DueFound due_at) = (due_at.place < 61) × (has_event w due_at.place ≡ true)
 
--- what is due has a place in the round
+-- what was found to come next has a place in the round, unless it is a break
 abbrev pub IsInRound : found.Next → Type 0
 IsInRound (BreakFound at) = Unit {0}
 IsInRound (DueFound due_at) = due_at.place < 61
 
--- what an event is to a schedule
+-- what an event is to a schedule: a place of a round, or a break
 abbrev pub next_of_event : Event → Next
 next_of_event (Typed line) = AtLine
 next_of_event EndOfInput = AtLine
@@ -130,29 +133,29 @@ next_of_event (Turn k) = AtTurn k
 next_of_event (Answer k reply) = if answers_start reply then AtStart k else AtFurther k
 next_of_event (Break k kind) = AtBreak k kind
 
--- what a thing that was taken is to a schedule: long lines are read at the place of lines
+-- what an item that was taken is to a schedule: long lines are read at the place of lines
 abbrev pub next_of : TakenItem → Next
 next_of (Given event out) = next_of_event event
 next_of LongLine = AtLine
 
--- from this state of the schedule and this world on, each of them was the next to come
+-- from this state of the schedule and this world on, each of these items was the next to come
 abbrev pub InOrder : ScheduleState → WorldState → List TakenItem → Type 0
 InOrder s w [] = Unit {0}
 InOrder s w (item ∷ taken) = (scheduled_next s w ≡ Some (next_of item)) × InOrder (following_schedule_state s w (next_of item)) (world_after_item w item) taken
 
--- the schedule after all of it
+-- the schedule after all of these items, from this state and this world on
 abbrev pub final_schedule_state : ScheduleState → WorldState → List TakenItem → ScheduleState
 final_schedule_state s w [] = s
 final_schedule_state s w (item ∷ taken) = final_schedule_state (following_schedule_state s w (next_of item)) (world_after_item w item) taken
 
--- what comes next in the world `now`, to which what was taken led from the world `w`
+-- what comes next in the world `now`, to which these items led from the world w, by a schedule with these breaks
 abbrev pub next_after_taken : List BreakAt → WorldState → List TakenItem → WorldState → Option Next
 next_after_taken breaks w taken now = scheduled_next (final_schedule_state (first_schedule_state breaks) w taken) now
 
--- a line comes next in the world `now`
-abbrev pub IsReading : List BreakAt → WorldState → List TakenItem → WorldState → Type 0
-IsReading breaks w taken now = next_after_taken breaks w taken now ≡ Some AtLine
+-- a line comes next in the world `now`, to which these items led from the world w, by a schedule with these breaks
+abbrev pub IsLineNext : List BreakAt → WorldState → List TakenItem → WorldState → Type 0
+IsLineNext breaks w taken now = next_after_taken breaks w taken now ≡ Some AtLine
 
--- shell 1 runs, and its input has not ended
+-- in a world shell 1 runs, and its input has not ended
 abbrev pub has_open_input : WorldState → Bool
 has_open_input w = is_some (numbered_shell w 1) && not w.input_ended

@@ -28,7 +28,7 @@ pub record Moment : Type 0 where
   pub calls : List Call
   pub is_full : Bool
 
--- the state at the moment at which a world, a reader, a writer and a launcher are as given, by what is known of the last three
+-- the state of a drive when world, reader, writer and launcher are these, by the six functions that say what is known of the last three
 abbrev pub moment_of : {S K L : Type 0} → (S → Option (List ℕ)) → (S → ℕ) → (K → Option (List ℕ)) → (K → ℕ) → (K → ℕ) → (L → List Call) → (L → Bool)
     → WorldState → S → K → L → Moment
 moment_of left read_faults contents write_faults stalls calls is_full world reader writer launcher = record {
@@ -42,15 +42,15 @@ moment_of left read_faults contents write_faults stalls calls is_full world read
   is_full = is_full launcher;
 }
 
--- Before each thing that was taken the world and the launcher's list agree. So a child is waited for before the end of its reads
--- exactly if the world has broken it.
+-- Before each of the items that were taken from the world w on, the world and the launcher's calls agree. So a child is waited for before
+-- the end of its reads exactly if the world has broken it.
 abbrev pub AgreesThroughout : (is_full : Bool) (w : WorldState) (calls : List Call) (taken : List TakenItem) (listed : List Call) → AreAsked is_full w taken listed → Type 0
 AgreesThroughout is_full w calls [] listed asked = Agrees w calls
 AgreesThroughout is_full w calls (item ∷ taken) listed asked =
     Agrees w calls × AgreesThroughout is_full (world_after_item w item) (calls ++ asked.0) taken asked.1 asked.5
 
--- From a world, with a reader that had this left, these breaks, and a launcher that had these calls, is or is not full in the end
--- and then listed those, this was taken, and the result is the last world.
+-- From the world w, with a reader that had this left to read, these breaks, and a launcher that had these calls, is or is not full in the
+-- end and then listed those, this was taken, and the result is the last world.
 pub record Session (w : WorldState) (left : Option (List ℕ)) (breaks : List BreakAt) (calls : List Call) (is_full : Bool) (listed : List Call) (taken : List TakenItem) (last : WorldState) : Type 0 where
   -- the events are a run of the machine, which accepted each
   pub run : Runs w (taken_events taken) (taken_outs taken) last
@@ -73,14 +73,14 @@ pub record IsForNext (w : WorldState) (next : Option Next) (call : Call) : Type 
   pub fit : fits request reply ≡ true
   pub call_is : call ≡ call_of request reply
 
--- Calls whose answers the world did not take: none, or one for the answer that comes next.
+-- calls whose answers the world did not take: none, or one for the answer that comes next
 abbrev pub AreDropped : WorldState → Option Next → List Call → Type 0
 AreDropped w next [] = Unit {0}
 AreDropped w next (call ∷ []) = IsForNext w next call
 AreDropped w next (call ∷ other ∷ calls) = ⊥
 
--- Between two moments this many events and long lines were taken, and all of their bytes were written. The launcher listed
--- what was asked for them, and then these other calls.
+-- Between two moments n events and long lines were taken, and all of their bytes were written. The launcher listed what was asked for them,
+-- and then these other calls.
 pub record SessionProgress (before now : Moment) (breaks : List BreakAt) (n : ℕ) (others : List Call) : Type 0 where
   pub taken : List TakenItem
   pub listed : List Call
@@ -89,7 +89,8 @@ pub record SessionProgress (before now : Moment) (breaks : List BreakAt) (n : �
   pub written : Appends before.contents now.contents (written_bytes taken)
   pub calls_are : now.calls ≡ before.calls ++ (listed ++ others)
 
--- This many were taken, and of what they printed the last bytes were not written.
+-- Between two moments n events and long lines were taken, and of what they printed the last bytes were not written. The launcher listed
+-- what was asked for them.
 pub record CutSessionProgress (before now : Moment) (breaks : List BreakAt) (n : ℕ) : Type 0 where
   pub taken : List TakenItem
   pub listed : List Call
@@ -100,11 +101,10 @@ pub record CutSessionProgress (before now : Moment) (breaks : List BreakAt) (n :
   pub written : Appends before.contents now.contents (take length_written (written_bytes taken))
   pub calls_are : now.calls ≡ before.calls ++ listed
 
--- of what is left to read, fewer than 4,096 bytes were taken from the reader
+-- `left` is still to be read, of which fewer than 4,096 bytes were taken from the reader ahead, which has the rest, `now`, if that is known
 abbrev pub IsReadAhead : List ℕ → Option (List ℕ) → Type 0
 IsReadAhead left now = (held : List ℕ) × (length held < 4096) × (bytes_ahead held now ≡ Some left)
 
--- of what was left to read, the bytes that show that a line is overlong were taken from the reader, and fewer than 4,096
--- after them
+-- of what was left to read, the bytes that show that a line is overlong were taken from the reader, and fewer than 4,096 after them
 abbrev pub LeavesOverlong : List ℕ → Option (List ℕ) → Type 0
 LeavesOverlong left now = (kind_of left ≡ Overlong) × IsReadAhead (rest_after_overlong left) now

@@ -22,7 +22,7 @@ pub record SessionState : Type 0 where
   pub renamed : Option Renames
   pub gathered : List ℕ
 
--- what the next event asks of the launcher
+-- what the next event, if one comes, asks of the launcher
 abbrev pub next_request : WorldState → Option Next → Option Request
 next_request w (Some (AtStart k)) = pending_of w k
 next_request w (Some (AtFurther k)) = pending_of w k
@@ -31,7 +31,7 @@ next_request w (Some (AtBreak k kind)) = None
 next_request w (Some AtLine) = None
 next_request w None = None
 
--- Nothing comes, and nothing happened.
+-- A step of a session, between two states and two moments: nothing comes, and nothing happened.
 pub record TakesNothing (was now : SessionState) (before after : Moment) : Type 0 where
   pub none : scheduled_next was.schedule before.world ≡ None
   pub stays : after ≡ before
@@ -40,34 +40,34 @@ pub record TakesNothing (was now : SessionState) (before after : Moment) : Type 
   pub held_is : now.held ≡ was.held
   pub reports_are : now.reports ≡ was.reports
 
--- What comes next was not taken, and so nothing was written.
+-- Between two moments what comes next was not taken, and so nothing was written.
 pub record TakesNotNext (before after : Moment) : Type 0 where
   pub world_is : after.world ≡ before.world
   pub contents_are : after.contents ≡ before.contents
   pub writes_well : WritesWell before after
 
--- What comes next is a line, and it could not be read.
+-- A step of a session, between two states and two moments: what comes next is a line, and it could not be read.
 pub record StopsUnread (was now : SessionState) (before after : Moment) : Type 0 where
   pub next : Next
   pub next_is : scheduled_next was.schedule before.world ≡ Some next
   pub fails : FailsToRead next before.read_faults after.read_faults (bytes_ahead was.held before.left) (bytes_ahead now.held after.left) before.calls after.calls
   pub not_taken : TakesNotNext before after
 
--- There was no memory for what comes next.
+-- A step of a session, between two states and two moments: there was no memory for what comes next.
 pub record StopsWithoutMemory (was now : SessionState) (before after : Moment) : Type 0 where
   pub next : Next
   pub next_is : scheduled_next was.schedule before.world ≡ Some next
   pub lacks : LacksMemory before.world next before.read_faults after.read_faults (bytes_ahead was.held before.left) (bytes_ahead now.held after.left) before.calls after.calls
   pub not_taken : TakesNotNext before after
 
--- the writer failed, or wrote nothing
+-- a run stopped since the writer failed, or wrote nothing
 abbrev pub is_write : DriveFault → Bool
 is_write Read = false
 is_write Write = true
 is_write Turns = false
 is_write Memory = false
 
--- the result of a step that took nothing
+-- what a step of a session leaves that took nothing, by its result
 abbrev pub StopsUntaken : SessionState → SessionState → Moment → Moment → Result Bool DriveFault → Type 0
 StopsUntaken was now before after (Ok true) = ⊥
 StopsUntaken was now before after (Ok false) = TakesNothing was now before after

@@ -1,6 +1,6 @@
 // Asks a launcher for what a shell waits for, and gives the world its answer.
 ghost use Rattle.std.specs.Prelude.{◌≡◌, ◌≢◌, ◌<◌, false, None};
-ghost use Rattle.ados_machine.specs.Limits.{IsSane};
+ghost use Rattle.ados_machine.specs.FrameEnds.{IsSane};
 ghost use Rattle.ados_machine.specs.World.{pending_of};
 ghost use Rattle.ados_machine.specs.Children.{child_after_answer, shell_named};
 ghost use Rattle.ados_shell.specs.Drafts.{out_of};

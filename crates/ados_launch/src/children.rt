@@ -1,6 +1,6 @@
 // The open children of a launcher.
 ghost use Rattle.std.specs.Prelude.{◌≡◌, ◌≢◌, ◌<◌, ℕ, List, true, false, get_or, MatchBool};
-ghost use Rattle.ados_machine.specs.Limits.{IsSane};
+ghost use Rattle.ados_machine.specs.FrameEnds.{IsSane};
 ghost use Rattle.ados_machine.specs.World.{pending_of};
 ghost use Rattle.ados_machine.specs.declared.children.ChildState.TheVariants.{Closed};
 ghost use Rattle.ados_launcher.specs.declared.calls.Call.{Call};

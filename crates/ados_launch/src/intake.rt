@@ -1,6 +1,6 @@
 // What the events of a run share, and how each is taken.
 ghost use Rattle.std.specs.Prelude.{◌≡◌, ◌<◌, ◌^◌, ◌-◌, ℕ, [], true, false, not, get_or, length, OnOk, OnErr, IsErrOf};
-ghost use Rattle.ados_machine.specs.Limits.{IsSane};
+ghost use Rattle.ados_machine.specs.FrameEnds.{IsSane};
 ghost use Rattle.ados_machine.specs.World.{pending_of, wants_line};
 ghost use Rattle.ados_shell.specs.Drafts.{out_of};
 ghost use Rattle.ados_launch.specs.Agreement.{Agrees, IsOpenTable};

@@ -2,7 +2,7 @@
 ghost use Rattle.std.specs.Prelude.{◌≡◌, ◌<◌, ◌^◌, ◌-◌, ◌+◌, ◌≤◌, ℕ, List, [], true, false, None, get_or, is_none, option_map, IfOk, OnOk, OnErr, IsErrOf, length};
 ghost use Rattle.std.specs.Io.KnownBytes.{Appends};
 ghost use Rattle.std.specs.Option.{option_copied};
-ghost use Rattle.ados_machine.specs.Limits.{IsSane};
+ghost use Rattle.ados_machine.specs.FrameEnds.{IsSane};
 ghost use Rattle.ados_machine.specs.World.{codes_at, pending_of};
 ghost use Rattle.ados_launch.specs.Agreement.{Agrees, AreOver, IsOpenTable, WaitsForOpen};
 ghost use Rattle.ados_launcher.specs.declared.calls.Call.{Call};

@@ -15,55 +15,59 @@ use Rattle.ados_line.specs.declared.lines.Expanded.{Expanded}
 use Rattle.ados_line.specs.declared.lines.Expanded.TheVariants.{Nothing, Ready}
 use Rattle.ados_line.specs.Signs.{is_both, sign_at, width_of}
 
--- how the cut continues from a place, after what has been read
+-- how the cut of a line continues from a place, after what has been read
 abbrev pub CutContinuation : Type 0
 CutContinuation = ℕ → Cut → Result Cut LineFault
 
--- the first item is the command, and each later piece of the line is appended to the arguments
+-- what has been read, with one more item: without a command the item's value is the command, and with one the item as it is written,
+-- `piece`, is appended to the arguments
 abbrev pub with_piece : Option Text → Text → Text → Cut → Cut
 with_piece None value piece read = record read { command = Some value }
 with_piece (Some command) value piece read = record read { args = read.args ++ piece }
 
--- blanks before the command are dropped
+-- what has been read, with the blanks of a line: those before the command are dropped, and those after it are appended to the arguments
 abbrev pub with_blanks : Option Text → Text → Cut → Cut
 with_blanks None blanks read = read
 with_blanks (Some command) blanks read = record read { args = read.args ++ blanks }
 
--- the name of an input or an output
+-- what has been read, with the name of a redirection, which has this sign
 abbrev pub with_name : Sign → Text → Cut → Cut
 with_name Input name read = record read { input = Some name }
 with_name Output name read = record read { output = Some (record { name = name; append = false }) }
 with_name Append name read = record read { output = Some (record { name = name; append = true }) }
 
--- the redirection whose name is the item after its sign: a quoted item, or a run up to a blank or `;`
+-- a redirection with this sign, whose name is this item, the one after the sign: a quoted item, or a run up to a blank or `;`; `next`
+-- continues the cut
 abbrev pub read_name : CutContinuation → Text → Sign → Cut → Item → Result Cut LineFault
 read_name next line sign read (Word from to) = next to (with_name sign (value_of line (Word from to)) read)
 read_name next line sign read (Quoted from to) = next (to + 1) (with_name sign (value_of line (Quoted from to)) read)
 read_name next line sign read (Unmatched from) = Err UnmatchedQuotes
 read_name next line sign read _ = Err ArgumentMissing
 
--- an input, or an output, was named before: a line takes one of each
+-- a redirection of this sign's direction has been read already: a line takes one input and one output
 abbrev pub is_taken : Sign → Cut → Bool
 is_taken Input read = is_some read.input
 is_taken Output read = is_some read.output
 is_taken Append read = is_some read.output
 
--- the redirection whose sign is at a place; the blanks before it have been read
+-- the redirection whose sign is at a place; the blanks before it have been read, and `next` continues the cut
 abbrev pub read_redirection : CutContinuation → Text → ℕ → Cut → Sign → Result Cut LineFault
 read_redirection next line place read sign =
     if is_taken sign read then Err TooManyArguments else read_name next line sign read (item_at false line (place + width_of sign))
 
--- a word that may begin with a sign: a redirection, or a piece
+-- the word at `from` .. `to`, which begins with this sign, or with none: a redirection, or a piece of the line; the line has been read up
+-- to `place`
 abbrev pub by_sign : CutContinuation → Text → ℕ → Cut → ℕ → ℕ → Option Sign → Result Cut LineFault
 by_sign next line place read from to (Some sign) = read_redirection next line from (with_blanks read.command (bytes_between line place from) read) sign
 by_sign next line place read from to None = next to (with_piece read.command (value_of line (Word from to)) (bytes_between line place to) read)
 
--- a word
+-- the word at `from` .. `to`, if the line has been read up to `place`: `<>` is refused, and any other sign at its start makes it a
+-- redirection
 abbrev pub cut_word : CutContinuation → Text → ℕ → Cut → ℕ → ℕ → Result Cut LineFault
 cut_word next line place read from to =
     if is_both line from then Err NotImplemented else by_sign next line place read from to (sign_at line from)
 
--- an item of the line, after a place up to which the line has been read
+-- an item of a line that is not one of Run, if the line has been read up to `place`; `next` continues the cut after it
 abbrev pub cut_item : CutContinuation → Text → ℕ → Cut → Item → Result Cut LineFault
 cut_item next line place read (Word from to) = cut_word next line place read from to
 cut_item next line place read (Quoted from to) =
@@ -73,36 +77,40 @@ cut_item next line place read (Equal at) =
 cut_item next line place read (End at) = Ok (with_blanks read.command (drop place line) read)
 cut_item next line place read (Unmatched from) = Err UnmatchedQuotes
 
--- the command is Run, case ignored
+-- the command, if there is one, is Run, case ignored
 abbrev pub is_run : Option Text → Bool
 is_run None = false
 is_run (Some command) = is_same command (codes "Run")
 
--- the rest of the line, unchanged
+-- what has been read, with the rest of the line, unchanged, appended to the arguments
 abbrev pub with_rest : Text → Cut → Cut
 with_rest rest read = record read { args = read.args ++ rest }
 
--- a word after Run: a redirection, or the rest of the line begins at the blanks before it
+-- a word after Run, which begins with this sign, or with none: a redirection, or the rest of the line begins at the blanks before it, at
+-- `place`
 abbrev pub run_word : CutContinuation → Text → ℕ → Cut → ℕ → Option Sign → Result Cut LineFault
 run_word next line place read from (Some sign) = read_redirection next line from read sign
 run_word next line place read from None = Ok (with_rest (drop place line) read)
 
--- an item after Run: only a word may begin with a sign
+-- an item after Run, if the line has been read up to `place`: only a word may begin with a sign, and any other item begins the rest of the
+-- line
 abbrev pub run_item : CutContinuation → Text → ℕ → Cut → Item → Result Cut LineFault
 run_item next line place read (Word from to) =
     if is_both line from then Err NotImplemented else run_word next line place read from (sign_at line from)
 run_item next line place read _ = Ok (with_rest (drop place line) read)
 
--- an item, by the command that has been read, if there is one
+-- an item of the line, if the line has been read up to `place`, by the command that has been read, if there is one: after Run other rules
+-- hold
 abbrev pub cut_item_by_command : CutContinuation → Text → ℕ → Cut → Item → Result Cut LineFault
 cut_item_by_command next line place read item =
     if is_run read.command then run_item next line place read item else cut_item next line place read item
 
--- the items from a place on, at most `count`
+-- the cut of the line's items from a place on, after what has been read; at most `count` items are read
 abbrev pub cut_later_items : ℕ → Text → ℕ → Cut → Result Cut LineFault
 cut_later_items zero line place read = Ok read
 cut_later_items (suc count) line place read = cut_item_by_command (cut_later_items count line) line place read (item_at true line place)
 
+-- what has been read at the start of a line: no command, no arguments, no redirections
 abbrev pub nothing_read : Cut
 nothing_read = record { command = None; args = []; input = None; output = None }
 
@@ -110,11 +118,12 @@ nothing_read = record { command = None; args = []; input = None; output = None }
 abbrev pub cut_of : Text → Result Cut LineFault
 cut_of line = cut_later_items (length line + 1) line 0 nothing_read
 
--- a line without a command asks for nothing
+-- what a cut is as a line, by its command: a line without a command asks for nothing
 abbrev pub line_or_nothing : Option Text → Cut → Expanded
 line_or_nothing None read = Nothing
 line_or_nothing (Some command) read = Ready (record { command = command; args = read.args; input = read.input; output = read.output })
 
+-- what a line is read as, by its cut or the fault of its cut
 abbrev pub expanded_of_cut : Result Cut LineFault → Result Expanded LineFault
 expanded_of_cut (Ok read) = Ok (line_or_nothing read.command read)
 expanded_of_cut (Err fault) = Err fault

@@ -13,15 +13,15 @@ use Rattle.ados_line.specs.Cut.{is_run}
 use Rattle.ados_line.specs.Pieces.{Piece, Stand, command_of, inputs, outputs, piece_bytes}
 use Rattle.ados_line.specs.Signs.{is_both, sign_at, width_of}
 
--- an input, or an output, was named before
+-- a redirection of this sign's direction was named before, by the input and the output that were named so far
 abbrev pub is_redirected : Option Text → Option Redirection → Sign → Bool
 is_redirected input output Input = is_some input
 is_redirected input output Output = is_some output
 is_redirected input output Append = is_some output
 
--- The fault at a place of a line, after this command, if there is one already, and after some signs were named: a second
--- input or output; one without a name; `<>`; and a quote that is not closed, in the place of the name, or as an item.
--- After Run an item is not a fault.
+-- The fault at a place of a line, after this command, if there is one already; `named` says whether the direction of a sign was named
+-- before. It is: a second input or output; one without a name; `<>`; and a quote that is not closed, as the name or as an item. After Run
+-- an item that is not a redirection has no fault.
 pub data IsFaultAt (line : Text) (command : Option Text) (named : Sign → Bool) (place : ℕ) : LineFault → Type 0 where
   second : (sign : Sign) → sign_at line place ≡ Some sign → is_both line place ≡ false → named sign ≡ true
       → IsFaultAt line command named place TooManyArguments
@@ -33,8 +33,8 @@ pub data IsFaultAt (line : Text) (command : Option Text) (named : Sign → Bool)
   open_item : (from : ℕ) → is_run command ≡ false → item_at true line place ≡ Unmatched from
       → IsFaultAt line command named place UnmatchedQuotes
 
--- The fault is the first of the line: pieces of it lead up to a place, one input and one output among them at most, and
--- at that place is the fault.
+-- The fault is the first of the line: pieces of it lead up to a place, at most one input and one output among them, and at that place is
+-- the fault.
 pub record IsFirstFault (line : Text) (fault : LineFault) : Type 0 where
   pub pieces : List Piece
   pub rest : Text

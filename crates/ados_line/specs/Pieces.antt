@@ -37,7 +37,7 @@ piece_bytes (Kept bytes text) = bytes
 piece_bytes (Redirected sign after name) = sign_bytes sign ++ after
 piece_bytes (Rest bytes) = bytes
 
--- an item ends at a place: neither the line's end nor an open quote does
+-- an item of a line ends at this place; the end of the line and a quote that is not closed have no end
 abbrev pub EndsAt : ℕ → Item → Type 0
 EndsAt place (Word from to) = place ≡ to
 EndsAt place (Quoted from to) = place ≡ to + 1
@@ -45,7 +45,7 @@ EndsAt place (Equal at) = place ≡ at + 1
 EndsAt place (End at) = ⊥
 EndsAt place (Unmatched from) = ⊥
 
--- no item begins before a place: if there are no more items, the place is the line's end
+-- no item of the line begins before a place, if this is the next item: if there are no more items, the place is the line's end
 abbrev pub StopsBefore : Text → ℕ → Item → Type 0
 StopsBefore line place (Word from to) = place ≤ from
 StopsBefore line place (Quoted from to) = place < from
@@ -53,7 +53,7 @@ StopsBefore line place (Equal at) = place ≤ at
 StopsBefore line place (End at) = place ≡ length line
 StopsBefore line place (Unmatched from) = place < from
 
--- an item is a word that begins with the sign of a redirection, at a word's start
+-- an item of the line is a word that begins with the sign of a redirection
 abbrev pub is_signed : Text → Item → Bool
 is_signed line (Word from to) = begins line 60 from || begins line 62 from
 is_signed line (Quoted from to) = false
@@ -78,20 +78,20 @@ IsPieceAt line command place (Redirected sign after name) =
 IsPieceAt line command place (Rest bytes) =
     (is_run command ≡ true) × (place + length bytes ≡ length line) × (is_signed line (item_at true line place) ≡ false)
 
--- the command after a piece: the first item that is kept
+-- the command after a piece, by the command before it, if there was one: it is the first item that is kept
 abbrev pub next_command : Option Text → Piece → Option Text
 next_command command (Blank bytes) = command
 next_command command (Kept bytes text) = option_or command (Some text)
 next_command command (Redirected sign after name) = command
 next_command command (Rest bytes) = command
 
--- the pieces follow one another in the line from a place on
+-- the pieces follow one another in the line from a place on, with this command before them, if there is one
 abbrev pub Stand : Text → Option Text → ℕ → List Piece → Type 0
 Stand line command place [] = Unit {0}
 Stand line command place (piece ∷ pieces) =
     IsPieceAt line command place piece × Stand line (next_command command piece) (place + length (piece_bytes piece)) pieces
 
--- the pieces are the line, in order
+-- the pieces, in order, are the whole line, and each is a piece at its place
 pub record AreLinePieces (line : Text) (pieces : List Piece) : Type 0 where
   pub joined : flat_map piece_bytes pieces ≡ line
   pub placed : Stand line None 0 pieces
@@ -103,7 +103,7 @@ piece_args command (Kept bytes text) = bytes
 piece_args command (Redirected sign after name) = []
 piece_args command (Rest bytes) = bytes
 
--- the command is the first item that is kept
+-- the command of a line's pieces: the first item that is kept, if there is one
 abbrev pub command_of : List Piece → Option Text
 command_of [] = None
 command_of (Blank bytes ∷ pieces) = command_of pieces
@@ -111,7 +111,7 @@ command_of (Kept bytes text ∷ pieces) = Some text
 command_of (Redirected sign after name ∷ pieces) = command_of pieces
 command_of (Rest bytes ∷ pieces) = command_of pieces
 
--- the arguments are the text kept after the command, joined unchanged
+-- the arguments of a line's pieces: the text kept after the command, joined unchanged
 abbrev pub args_of : List Piece → Text
 args_of [] = []
 args_of (Blank bytes ∷ pieces) = args_of pieces
@@ -119,31 +119,33 @@ args_of (Kept bytes text ∷ pieces) = flat_map (piece_args text) pieces
 args_of (Redirected sign after name ∷ pieces) = args_of pieces
 args_of (Rest bytes ∷ pieces) = args_of pieces
 
+-- the inputs that a redirection with this sign and this name gives: one or none
 abbrev pub input_by : Sign → Text → List Text
 input_by Input name = name ∷ []
 input_by Output name = []
 input_by Append name = []
 
+-- the outputs that a redirection with this sign and this name gives: one or none
 abbrev pub output_by : Sign → Text → List Redirection
 output_by Input name = []
 output_by Output name = record { name = name; append = false } ∷ []
 output_by Append name = record { name = name; append = true } ∷ []
 
--- the input, if the piece names one
+-- the inputs that a piece names: one or none
 abbrev pub inputs : Piece → List Text
 inputs (Blank bytes) = []
 inputs (Kept bytes text) = []
 inputs (Redirected sign after name) = input_by sign name
 inputs (Rest bytes) = []
 
--- the output, if the piece names one
+-- the outputs that a piece names: one or none
 abbrev pub outputs : Piece → List Redirection
 outputs (Blank bytes) = []
 outputs (Kept bytes text) = []
 outputs (Redirected sign after name) = output_by sign name
 outputs (Rest bytes) = []
 
--- A line is what its pieces say: the redirections are at most one input and at most one output.
+-- A line is what its pieces say: their command and arguments, and at most one input and one output.
 pub record IsSaid (line : Line) (pieces : List Piece) : Type 0 where
   pub command : command_of pieces ≡ Some line.command
   pub args : args_of pieces ≡ line.args

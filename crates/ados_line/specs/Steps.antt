@@ -8,17 +8,17 @@ use Rattle.ados_line.specs.declared.cuts.Reading.{Reading}
 use Rattle.ados_line.specs.declared.cuts.Reading.TheVariants.{Onward, Done}
 use Rattle.ados_line.specs.Cut.{CutContinuation}
 
--- with what has been read, the cut continues with `next` from a place, or is done, or has this fault, unless an
--- allocation failed
+-- One step of a cut leads to the whole cut, unless an allocation failed: with what has been read, the cut continues with `next` from a
+-- place, or is done, or has this fault.
 abbrev pub Goes : CutContinuation → Result Reading LineFault → Cut → Result Cut LineFault → Type 0
 Goes next (Ok (Onward to)) read whole = whole ≡ next to read
 Goes next (Ok Done) read whole = whole ≡ Ok read
 Goes next (Err fault) read whole = (fault ≡ NoMemory) ⊎ (whole ≡ Err fault)
 
--- the result is this cut or this fault, or an allocation failed
+-- the first result, a call's, is the second, a cut or a fault, unless an allocation failed in the call
 abbrev pub IsCut : Result Cut LineFault → Result Cut LineFault → Type 0
 IsCut result whole = (result ≡ Err NoMemory) ⊎ (result ≡ whole)
 
--- a line of a command and its arguments alone
+-- the cut of a line that has a command and its arguments alone
 abbrev pub with_arguments : Text → Text → Cut
 with_arguments command args = record { command = Some command; args = args; input = None; output = None }

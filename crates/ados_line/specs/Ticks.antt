@@ -18,40 +18,43 @@ use Rattle.ados_line.specs.Values.{is_plain}
 abbrev pub is_tick : Letter → Bool
 is_tick letter = is_plain 96 letter
 
--- characters as they are written, and without the stars before back-ticks
+-- characters as text, stars included
 abbrev pub text_of : List Letter → Text
 text_of letters = flat_map letter_text letters
 
+-- characters as text, without the stars before back-ticks
 abbrev pub tickless_text : List Letter → Text
 tickless_text letters = flat_map (starless_text 96) letters
 
--- the second back-tick ends the command; the text after it stays as it is
+-- a line split at a pair of back-ticks, by the characters after the first one and the place of the second among them: it ends the command,
+-- and the text after it stays as it is; None: no second one, a fault
 abbrev pub by_second : Text → List Letter → Option ℕ → Result Parted LineFault
 by_second before rest None = Err UnmatchedQuotes
 by_second before rest (Some place) =
     Ok (Ticked (record { before = before; command = tickless_text (take place rest); after = text_of (drop (place + 1) rest) }))
 
--- the first one begins it
+-- a line split at its first pair of back-ticks: these characters follow a text that is kept as it is, and the first back-tick is at this
+-- place of them; None: no back-tick, so that the line stays whole
 abbrev pub by_first : Text → List Letter → Option ℕ → Result Parted LineFault
 by_first kept letters None = Ok (Whole (kept ++ tickless_text letters))
 by_first kept letters (Some place) =
     (let rest = drop (place + 1) letters in by_second (kept ++ tickless_text (take place letters)) rest (position is_tick rest))
 
--- characters split at their first two back-ticks, after a text that is kept as it is
+-- a line split at its first pair of back-ticks, by a text that is kept as it is and the characters after it
 abbrev pub split_at_pair : Text → List Letter → Result Parted LineFault
 split_at_pair kept letters = by_first kept letters (position is_tick letters)
 
--- how many characters end within `size` bytes
+-- how many of these characters, from the first on, end within `size` bytes
 abbrev pub within_bytes : ℕ → List Letter → ℕ
 within_bytes size [] = 0
 within_bytes size (l ∷ ls) = if nat_le (length (letter_bytes l)) size then suc (within_bytes (size - length (letter_bytes l)) ls) else 0
 
--- characters split after the first `count` ones, which are kept as they are
+-- a line split at the first pair of back-ticks after its first `count` characters, which are kept as they are
 abbrev pub split_after_letters : ℕ → List Letter → Result Parted LineFault
 split_after_letters count letters = split_at_pair (text_of (take count letters)) (drop count letters)
 
--- A line split after its first `size` bytes, which are kept as they are. A star there and the byte after it may be one
--- character, which is then read.
+-- A line split at the first pair of back-ticks after its first `size` bytes, which are kept as they are. A star at their end and the byte
+-- after it may be one character, which is then read.
 abbrev pub split_after_bytes : ℕ → Text → Result Parted LineFault
 split_after_bytes size line = (let letters = letters_of line in split_after_letters (within_bytes size letters) letters)
 
@@ -65,15 +68,15 @@ pub record ArePairAt (letters before command after : List Letter) : Type 0 where
   pub first : HasNoTick before
   pub second : HasNoTick command
 
--- A tick is what its characters say, after a text that is kept: stars before back-ticks are removed before the pair and
--- between the two, and the text after it stays as it was.
+-- A command substitution is what these characters say, after a text that is kept as it is: stars before back-ticks are removed before the
+-- pair and between the two, and the text after it stays as it was.
 abbrev pub IsTick : Text → List Letter → Tick → Type 0
 IsTick kept letters tick =
     (before : List Letter) × (command : List Letter) × (after : List Letter) × ArePairAt letters before command after
     × (tick.before ≡ kept ++ tickless_text before) × (tick.command ≡ tickless_text command) × (tick.after ≡ text_of after)
 
--- A line's characters up to the end of the kept text, and those that are read: a star at that end is read with the byte
--- after it.
+-- `before` are the line's characters up to the end of the kept text, and `tail` those that are read: a star at that end is read with the
+-- byte after it.
 pub record IsSeam (kept line : Text) (before tail : List Letter) : Type 0 where
   pub joined : before ++ tail ≡ letters_of line
   pub ends : (flat_map letter_bytes before ≡ kept) ⊎ (flat_map letter_bytes before ++ 42 ∷ [] ≡ kept)

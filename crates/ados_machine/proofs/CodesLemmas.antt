@@ -16,7 +16,7 @@ use Rattle.ados_machine.specs.declared.events.BreakKind.{BreakKind}
 use Rattle.ados_machine.specs.Breaks.{kind_breaks, shells_after_break}
 use Rattle.ados_machine.specs.Carrying.{carried_shells, carried_or_same}
 use Rattle.ados_machine.specs.Items.{TraceItem, Began, Answered, Ended, Broke}
-use Rattle.ados_machine.specs.Limits.{IsSane}
+use Rattle.ados_machine.specs.FrameEnds.{IsSane}
 use Rattle.ados_machine.specs.Numbers.{free_number}
 use Rattle.ados_machine.specs.Runs.{resulting_world}
 use Rattle.ados_machine.specs.Apply.{TurnResult}

@@ -9,7 +9,7 @@ use Rattle.ados_flow.specs.declared.records.Record.{Record}
 use Rattle.ados_flow.specs.Frames.{FrameState, is_script, is_at_limit}
 use Rattle.ados_machine.specs.Items.{TraceItem}
 use Rattle.ados_machine.specs.Trace.{trace, own, frames_of}
-use Rattle.ados_machine.specs.Limits.{End, EndsBy, BelowLimits, IsBelowIf, IsBelowLimit, Obeys, ObeysLimit, ObeyLimits, Story, last_of}
+use Rattle.ados_machine.specs.FrameEnds.{End, EndsBy, BelowLimits, IsBelowIf, IsBelowLimit, Obeys, ObeysLimit, ObeyLimits, Story, last_of}
 use Rattle.ados_machine.specs.Early.{reaches, first_reaching, place_of_last, ended_early_at, EndsEarlyAtFirst, GivesBack, OfEachFrame, EarlyAndBackIsToObey, ScriptsEndEarlyAtTheirFirst, FramesGiveBack}
 use Rattle.ados_machine.proofs.Traces.{limits-hold}
 

@@ -25,7 +25,7 @@ use Rattle.ados_machine.specs.Children.{read_unless, mark_of_shell, is_marked, f
 use Rattle.ados_machine.specs.Course.{Course}
 use Rattle.ados_machine.specs.Completions.{Completion, Passes, Answers, Jumps, Calls, Ticks, Waits}
 use Rattle.ados_machine.specs.Laws.{AnswersMoveChildren}
-use Rattle.ados_machine.specs.Limits.{RunsFrame}
+use Rattle.ados_machine.specs.FrameEnds.{RunsFrame}
 use Rattle.ados_machine.specs.Opening.{OpenedOutput, line_output}
 use Rattle.ados_machine.specs.Requests.{request_while, request_of}
 use Rattle.ados_machine.specs.Apply.{turn_by_rule, frames_at_line, rule_state_of, turn_of_completion}

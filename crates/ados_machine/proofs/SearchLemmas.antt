@@ -20,7 +20,7 @@ use Rattle.ados_resident.specs.declared.residents.Internal.{Internal}
 use Rattle.ados_resident.specs.declared.residents.Resident.{Resident}
 use Rattle.ados_resident.specs.Programs.{recognized_program}
 use Rattle.ados_resident.specs.Residents.{resident_internal, entry_in}
-use Rattle.ados_machine.specs.Manual.{as_program, as_file, file_there, file_at, directory_there, directory_at_place, file_from, directory_from, file_on_path, if_enabled, if_listed, places_in_order, first_there, WordsAreLookedUpInOrder}
+use Rattle.ados_machine.specs.LookupOrder.{as_program, as_file, file_there, file_at, directory_there, directory_at_place, file_from, directory_from, file_on_path, if_enabled, if_listed, places_in_order, first_there, WordsAreLookedUpInOrder}
 
 program-is : (place : Place) (program : Option Program) → found_program place program ≡ as_program place program
 program-is place None = refl

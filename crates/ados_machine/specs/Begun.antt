@@ -24,7 +24,7 @@ use Rattle.ados_machine.specs.World.{WorldState, numbered_shell}
 abbrev pub settings_at : WorldState → ℕ → Option Settings
 settings_at w k = option_map (λ shell. shell.parts.settings) (numbered_shell w k)
 
--- this shell takes a line next whose command is Run: it names no input and no output, has a command for the new shell, and does not
+-- shell k takes this line next, whose command is Run: it names no input and no output, has a command for the new shell, and does not
 -- continue in the next line
 pub record TakesRun (w : WorldState) (k : ℕ) (shell : ShellState) (line : Line) : Type 0 where
   pub takes : TakesLine w k shell line
@@ -34,13 +34,14 @@ pub record TakesRun (w : WorldState) (k : ℕ) (shell : ShellState) (line : Line
   pub command : has_no_command line.args ≡ false
   pub ends : before_plus line.args ≡ None
 
--- a shell begins where its maker is, with copies of its maker's settings, and with the text after Run as its one command, at the limit 10
+-- the shell of this number begins where its maker is, with copies of its maker's settings, and with the text after Run as its one command,
+-- at the limit 10
 pub record BeginsBy (maker : ShellState) (line : Line) (world : WorldState) (number : ℕ) : Type 0 where
   pub directory : directory_at world number ≡ Some maker.parts.directory
   pub settings : settings_at world number ≡ Some (copied_settings number maker.parts.settings)
   pub frames : frames_of number world ≡ new_frame RunCommands (line.args ∷ []) (record { 0 = pos 10 }) None ∷ []
 
--- Run makes a shell at the lowest free number
+-- a Run whose output goes to the console makes a shell at the lowest free number, which begins by its maker and its line
 abbrev pub ShellsBeginByTheirMakers : Type 0
 ShellsBeginByTheirMakers =
     (w : WorldState) (k : ℕ) (shell : ShellState) (line : Line) (number : ℕ) (world : WorldState) (out : Out) (items : List (ℕ × TraceItem)) →

@@ -15,7 +15,8 @@ use Rattle.ados_machine.specs.Apply.{TurnResult}
 use Rattle.ados_machine.specs.Step.{Accepted, turn_taken}
 use Rattle.ados_machine.specs.World.{WorldState}
 
--- one of these assigns was bound, and stands for a directory now: it has the name, was a Defer, and was used
+-- an assign of this folded name was bound, and stands now for a directory that is there: it was among those before, was a Defer, and its
+-- device is among those used
 pub record IsBound (used : List Text) (files : Files) (before : List Assign) (name : Text) (now : Option Assign) : Type 0 where
   pub assign : Assign
   pub was : Contains before assign
@@ -26,7 +27,7 @@ pub record IsBound (used : List Text) (files : Files) (before : List Assign) (na
   pub stands_for : option_map (λ a. a.binding) now ≡ Some (Dirs (place ∷ []))
   pub directory : is_some_directory (map.get files (key_of place)) ≡ true
 
--- each assign is as it was, except for Defers among these devices, which may have been bound to directories that are there
+-- each assign is as it was before, except for Defers among the devices used, which may have been bound to directories that are there
 abbrev pub BindsOnly : List Text → Files → AssignMap → AssignMap → Type 0
 BindsOnly used files before after = (name : Text) → (map.get after name ≡ map.get before name) ⊎ IsBound used files (map.values before) name (map.get after name)
 

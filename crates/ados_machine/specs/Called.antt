@@ -30,8 +30,8 @@ use Rattle.ados_machine.specs.Step.{Accepted, step_of}
 use Rattle.ados_machine.specs.Trace.{frames_of}
 use Rattle.ados_machine.specs.World.{WorldState, numbered_shell, seen_shells}
 
--- a line without redirections whose word stands for a script with these bytes, of which its arguments make these lines: what runs
--- next are these lines, from the first, and the frames of before wait below
+-- A line without redirections whose word stands for a script with these bytes, of which its arguments make these lines: after its turn a
+-- new frame has these lines, from the first, and the frames of before are below it.
 abbrev pub ScriptsBeginWithTheirLines : Type 0
 ScriptsBeginWithTheirLines =
     (w : WorldState) (k : ℕ) (shell : ShellState) (line : Line) (place : Place) (bytes : Bytes) (first : Text) (further : List Text)
@@ -43,7 +43,8 @@ ScriptsBeginWithTheirLines =
     step_of w (Turn k) ≡ Accepted world out items →
     frames_of k world ≡ new_frame (Script (full_path w.shared.files place) line.command) (first ∷ further) shell.parts.limit None ∷ frames_at shell
 
--- so it is of a command that calls a script, as Execute does
+-- A command that calls a script, as Execute does: after its turn a new frame has the script's lines, from the first, and the frames of
+-- before are below it.
 abbrev pub CalledScriptsBeginWithTheirLines : Type 0
 CalledScriptsBeginWithTheirLines =
     (w : WorldState) (k : ℕ) (shell : ShellState) (line : Line) (builtin : Builtin) (name first : Text) (further : List Text)
@@ -53,8 +54,8 @@ CalledScriptsBeginWithTheirLines =
     step_of w (Turn k) ≡ Accepted world out items →
     frames_of k world ≡ new_frame (Script name line.command) (first ∷ further) shell.parts.limit None ∷ frames_at shell
 
--- After a plain command below the limit that is not the last of its frame, the frame goes on: its lines are the same, its position is
--- that after the command's line, and its last record is that of the command.
+-- After a plain command below the limit that is not the last of its frame, the frame goes on: its lines are the same, its position is that
+-- after the command's line, and its last record is that of the command.
 abbrev pub FramesGoOn : Type 0
 FramesGoOn =
     (w : WorldState) (k : ℕ) (shell : ShellState) (line : Line) (effect : Effect) (frame : FrameState) (frames : List FrameState)
@@ -74,12 +75,13 @@ JumpsLeadToTheirLine =
     step_of w (Turn k) ≡ Accepted world out items →
     frames_of k world ≡ record frame { position = to - 1; last = Some (recorded (frame ∷ frames) codes shell.parts.limit) } ∷ frames
 
--- what each frame is, and its lines
+-- what each of these frames is, with its lines
 abbrev pub lines_in : List FrameState → List (FrameKind × List Text)
 lines_in [] = []
 lines_in (frame ∷ frames) = (frame.kind, frame.lines) ∷ lines_in frames
 
--- they are those of before, of which the newest may have ended; or one frame more is there on top of all
+-- by kind and lines, the frames after an event are those before, of which the newest may have ended; or there is one new frame on top of
+-- all
 abbrev pub LinesStay : List (FrameKind × List Text) → List (FrameKind × List Text) → Type 0
 LinesStay before after = ((n : ℕ) × (after ≡ drop n before)) ⊎ ((new : FrameKind × List Text) × (after ≡ new ∷ before))
 

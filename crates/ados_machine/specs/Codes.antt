@@ -28,7 +28,7 @@ UnknownCommandsFail = (w : WorldState) (k : ℕ) (shell : ShellState) (line : Li
     TakesLine w k shell line → stands_for w shell line.command ≡ found.Unknown →
     first_record (step_of w (Turn k)) ≡ Some (recorded (frames_at shell) (numbers 10 205) shell.parts.limit)
 
--- on the console it is told so, with the limit 10 also that it failed
+-- of a command that is not known the console is told so, and with the limit 10 also that it failed
 abbrev pub UnknownCommandsAreTold : Type 0
 UnknownCommandsAreTold = (w : WorldState) (k : ℕ) (shell : ShellState) (line : Line) (world : WorldState) (out : Out) (items : List (ℕ × TraceItem)) →
     TakesLine w k shell line → stands_for w shell line.command ≡ found.Unknown → frames_at shell ≡ [] → shell.parts.limit ≡ record { 0 = pos 10 } →
@@ -41,44 +41,48 @@ FaultyLinesFail = (w : WorldState) (k : ℕ) (shell : ShellState) (fault : LineF
     Takes w k shell (Err fault) →
     first_record (step_of w (Turn k)) ≡ Some (recorded (frames_at shell) (record { code = record { 0 = pos 20 }; result2 = result2_of fault }) shell.parts.limit)
 
--- this shell of a number waits for an answer
+-- shell k is this one, and waits for this
 pub record Awaits (w : WorldState) (k : ℕ) (shell : ShellState) (wait : Wait) : Type 0 where
   pub runs : numbered_shell w k ≡ Some shell
   pub waits : shell.phase ≡ Waiting wait
 
--- the answer to it is recorded as what its command returns
+-- an answer to shell k, which waits for a launcher, is recorded as the return of its command with these codes
 abbrev pub Returns : WorldState → ℕ → ShellState → Reply → Codes → Type 0
 Returns w k shell reply answered = first_record (step_of w (Answer k reply)) ≡ Some (recorded shell.frames answered shell.parts.limit)
 
--- a program that ends, at which there was no fault before: 0 returns 0, an exit status below 10 returns 5, one below 20 returns 10, and
--- any other returns 20
+-- what the command of shell k returns at its program's end, if there was no fault before: 0 for the exit status 0, 5 for one below 10, 10
+-- for one below 20, and 20 for any other
 pub record ExitsReturn (w : WorldState) (k : ℕ) (shell : ShellState) : Type 0 where
   pub well : Returns w k shell (Exit 0) (numbers 0 0)
   pub warns : (status : ℕ) → 1 ≤ status → status < 10 → Returns w k shell (Exit status) (numbers 5 0)
   pub fails_at_10 : (status : ℕ) → 10 ≤ status → status < 20 → Returns w k shell (Exit status) (numbers 10 0)
   pub fails_at_20 : (status : ℕ) → 20 ≤ status → Returns w k shell (Exit status) (numbers 20 0)
 
+-- a command whose program ends without a fault returns 0, 5, 10 or 20, by the exit status
 abbrev pub ExitStatusesAreReturned : Type 0
 ExitStatusesAreReturned = (w : WorldState) (k : ℕ) (shell : ShellState) (child : Child) →
     Awaits w k shell (ForEnd child) → child.fault ≡ None → ExitsReturn w k shell
 
--- if there was a fault before, the command returns 20 and that, however the program ends
+-- what the command of shell k returns at its program's end, if there was this fault before: 20 and the fault, however the program ends
 pub record FaultsReturn (w : WorldState) (k : ℕ) (shell : ShellState) (fault : Result2) : Type 0 where
   pub exits : (status : ℕ) → Returns w k shell (Exit status) (record { code = record { 0 = pos 20 }; result2 = fault })
   pub signals : Returns w k shell Signal (record { code = record { 0 = pos 20 }; result2 = fault })
   pub lost : Returns w k shell WaitFault (record { code = record { 0 = pos 20 }; result2 = fault })
 
+-- a command whose program had a fault returns 20 and that fault when the program ends
 abbrev pub FaultsAreReturned : Type 0
 FaultsAreReturned = (w : WorldState) (k : ℕ) (shell : ShellState) (child : Child) (fault : Result2) →
     Awaits w k shell (ForEnd child) → child.fault ≡ Some fault → FaultsReturn w k shell fault
 
--- a start that failed: 205 if there is no such program, 305 if it may not be started, 103 if there is no memory, and else 236
+-- what the command of shell k returns if its program could not be started: 20, and 205 if there is no such program, 305 if it may not be
+-- started, 103 if there is no memory, and else 236
 pub record StartsReturn (w : WorldState) (k : ℕ) (shell : ShellState) : Type 0 where
   pub not_found : Returns w k shell NotFound (numbers 20 205)
   pub denied : Returns w k shell Denied (numbers 20 305)
   pub memory : Returns w k shell Memory (numbers 20 103)
   pub other : Returns w k shell Other (numbers 20 236)
 
+-- a command whose program could not be started returns 20, and a number by the reason
 abbrev pub FailedStartsAreReturned : Type 0
 FailedStartsAreReturned = (w : WorldState) (k : ℕ) (shell : ShellState) (starting : Starting) →
     Awaits w k shell (ForStart starting) → StartsReturn w k shell

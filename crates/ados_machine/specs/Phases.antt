@@ -2,7 +2,8 @@
 use Rattle.ados_machine.specs.declared.phases.Parted.{Parted}
 use Rattle.ados_machine.specs.declared.phases.Wait.{Wait}
 
--- it takes the next line of its newest frame, or of its input; it continues a line whose command substitution has ended; or it waits
+-- what a shell does next: it takes the next line of its newest frame, or of its input; it continues a line whose command substitution has
+-- ended; or it waits
 pub data Phase : Type 0 where
   Ready : Phase
   GoingOn : Parted → Phase

@@ -43,11 +43,12 @@ use Rattle.ados_machine.specs.Sinks.{Console, newest_sink}
 use Rattle.ados_machine.specs.Step.{Accepted, start, step_of}
 use Rattle.ados_machine.specs.World.{WorldState, numbered_shell}
 
--- the shell's own command that a word stands for, if it does for one
+-- the shell's own command that a program is, if it is one
 abbrev pub disk_command : Program → Option Builtin
 disk_command (Disk command) = Some (disk_builtin command)
 disk_command (Host program) = None
 
+-- the shell's own command that a word stands for, by what it stands for, if it is one
 abbrev pub own_command : Found → Option Builtin
 own_command (found.Internal command) = internal_builtin command
 own_command (found.Resident entry) = disk_command entry.program
@@ -57,49 +58,49 @@ own_command (found.Directory place) = None
 own_command (found.NotExecutable fault) = None
 own_command found.Unknown = None
 
--- a line of a command that names no input and no output, and does not ask for its arguments
+-- the line of a command names no input and no output, and does not ask for its arguments
 pub record IsPlain (dialect : Dialect) (builtin : Builtin) (line : Line) : Type 0 where
   pub no_input : line.input ≡ None
   pub no_output : line.output ≡ None
   pub no_prompt : query_of dialect builtin line.args ≡ None
 
--- the shell does this plain line next, whose word stands for this command
+-- shell k, which is this one, does this plain line next, whose word stands for this command
 pub record TakesCommand (w : WorldState) (k : ℕ) (shell : ShellState) (line : Line) (builtin : Builtin) : Type 0 where
   pub takes : TakesLine w k shell line
   pub is : own_command (stands_for w shell line.command) ≡ Some builtin
   pub plain : IsPlain w.shared.dialect builtin line
 
--- what the command's row says of it
+-- what the row of this command says of the line that this shell does next
 abbrev pub action_at : WorldState → ShellState → Line → Builtin → flow.Action
 action_at w shell line builtin =
     action_of builtin w.shared (script_line_of (newest (frames_at shell))) (view_of line.command None (start w shell)) line.args
 
--- the shell does this plain line next, and its command's row has this effect
+-- shell k, which is this one, does this plain line next, and its command's row has this effect
 pub record TakesEffect (w : WorldState) (k : ℕ) (shell : ShellState) (line : Line) (effect : Effect) : Type 0 where
   pub builtin : Builtin
   pub command : TakesCommand w k shell line builtin
   pub does : action_at w shell line builtin ≡ flow.Does effect
 
--- an internal command on the resident list that is enabled is what its name stands for, if that is no path
+-- a word that is no path stands for the internal command of its name, if the resident list has that and it is enabled
 abbrev pub EnabledCommandsAreFound : Type 0
 EnabledCommandsAreFound = (w : WorldState) (shell : ShellState) (word : Text) (internal : Internal) →
     is_path word ≡ false → resident_internal w.shared.residents word ≡ Some internal → internal.is_disabled ≡ false →
     stands_for w shell word ≡ found.Internal internal.command
 
--- the limit after a change: the one that it sets, or that of before
+-- the limit after a command that makes this change, if it makes one: the one that it sets, or that of before
 abbrev pub limit_after : Option Change → Code → Code
 limit_after (Some (Limit limit)) before = limit
 limit_after change before = before
 
--- A command's record has the codes of its effect, and the limit that it sets, if it sets one. If it puts out something where a
--- file is to take it, that may fail, and then the codes are those of the fault.
+-- A plain command's record has the codes of its effect, and the limit that it sets, if it sets one; this is said of output that goes to the
+-- console, or none, as a file may fail to take it.
 abbrev pub EffectsAreRecorded : Type 0
 EffectsAreRecorded = (w : WorldState) (k : ℕ) (shell : ShellState) (line : Line) (effect : Effect) →
     TakesEffect w k shell line effect →
     (effect.output ≡ []) ⊎ (newest_sink (frames_at shell) ≡ Console) →
     first_record (step_of w (Turn k)) ≡ Some (recorded (frames_at shell) effect.codes (limit_after effect.change shell.parts.limit))
 
--- what it puts out on the console comes first of what its event prints
+-- what a plain command puts out on the console comes first of what its event prints
 abbrev pub EffectsArePrinted : Type 0
 EffectsArePrinted =
     (w : WorldState) (k : ℕ) (shell : ShellState) (line : Line) (effect : Effect) (world : WorldState) (out : Out) (items : List (ℕ × TraceItem)) →
@@ -112,8 +113,8 @@ FailAtSetsTheLimit = (w : WorldState) (k : ℕ) (shell : ShellState) (line : Lin
     TakesCommand w k shell line (Env env.FailAt) → fill_of (codes "RCLIM/N") line.args ≡ Ok args → option_number args 0 ≡ Some (pos n) →
     first_record (step_of w (Turn k)) ≡ Some (recorded (frames_at shell) (numbers 0 0) (record { 0 = pos n }))
 
--- What is put out in a command substitution goes into its line: after the last line of its frame the line goes on with what it has
--- kept, the first 1,024 bytes of it.
+-- What a plain command puts out in a command substitution goes into the line of that: after the last line of its frame that line goes on
+-- with what was kept, the first 1,024 bytes of it.
 abbrev pub SubstitutionsKeepTheirOutput : Type 0
 SubstitutionsKeepTheirOutput =
     (w : WorldState) (k : ℕ) (shell : ShellState) (line : Line) (effect : Effect) (before after : Text) (frame : FrameState) (frames : List FrameState)
@@ -131,7 +132,8 @@ pub record HasGone (renamed : Renamed) (w world : WorldState) : Type 0 where
 abbrev pub directory_at : WorldState → ℕ → Option Place
 directory_at w k = option_map (λ shell. shell.parts.directory) (numbered_shell w k)
 
--- The current directory of each other shell moves with all that was renamed, one object after the other; if nothing was, it stays.
+-- After a plain command the current directory of each other shell has moved with all that was renamed, one object after the other; if
+-- nothing was, it stays.
 abbrev pub DirectoriesAreCarried : Type 0
 DirectoriesAreCarried =
     (w : WorldState) (k : ℕ) (shell : ShellState) (line : Line) (effect : Effect) (world : WorldState) (out : Out) (items : List (ℕ × TraceItem))

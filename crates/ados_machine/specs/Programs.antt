@@ -26,11 +26,12 @@ use Rattle.ados_machine.specs.Sinks.{Console, newest_sink}
 use Rattle.ados_machine.specs.Step.{Accepted, step_of}
 use Rattle.ados_machine.specs.World.{WorldState, numbered_shell}
 
--- the program of the host that a word stands for, if it does for one
+-- the program of the host that a program is, if it is one
 abbrev pub host_program : Program → Option Text
 host_program (Disk command) = None
 host_program (Host program) = Some program
 
+-- the program of the host that a word stands for, by what it stands for, if it is one
 abbrev pub program_found : Found → Option Text
 program_found (found.Internal command) = None
 program_found (found.Resident entry) = host_program entry.program
@@ -48,15 +49,15 @@ StartsAskForTheirProgram =
     step_of w (Turn k) ≡ Accepted world out items →
     out.request ≡ Some (Start (record { shell = shell.parts.number; program = program; args = words }))
 
--- a line whose word stands for an entry of the resident list that is a program of the host: if after it something is asked of a
--- launcher, that entry is in use
+-- A line whose word stands for an entry of the resident list that is a program of the host: if after its turn something is asked of a
+-- launcher, that entry is in use.
 abbrev pub StartsUseTheirEntry : Type 0
 StartsUseTheirEntry =
     (w : WorldState) (k : ℕ) (shell : ShellState) (line : Line) (entry : Resident) (program : Text) (world : WorldState) (out : Out) (items : List (ℕ × TraceItem)) →
     TakesLine w k shell line → stands_for w shell line.command ≡ found.Resident entry → entry.program ≡ Host program →
     step_of w (Turn k) ≡ Accepted world out items → has_request world k ≡ true → resident_name_of world k ≡ Some entry.name
 
--- the fault that came first of a program that runs, if one did
+-- the fault that came first of the program of a shell that waits for this, if one came
 abbrev pub fault_while : Wait → Option Result2
 fault_while (ForAnswer asking) = None
 fault_while (ForLines gathering) = None
@@ -64,22 +65,26 @@ fault_while (ForStart starting) = None
 fault_while (ForPiece child) = child.fault
 fault_while (ForEnd child) = child.fault
 
+-- the fault that came first of the program of a shell in this phase, if one came
 abbrev pub fault_in : Phase → Option Result2
 fault_in Ready = None
 fault_in (GoingOn parted) = None
 fault_in (Waiting wait) = fault_while wait
 
+-- the fault that came first of a shell's program, if the shell is there and one came
 abbrev pub fault_of_shell : Option ShellState → Option Result2
 fault_of_shell None = None
 fault_of_shell (Some shell) = fault_in shell.phase
 
+-- the fault that came first of the program of the shell of a number, if one came
 abbrev pub fault_of : WorldState → ℕ → Option Result2
 fault_of w k = fault_of_shell (numbered_shell w k)
 
+-- the shell of a number runs a program at which a fault came
 abbrev pub has_fault : WorldState → ℕ → Bool
 has_fault w k = is_some (fault_of w k)
 
--- the first fault stays as long as the program runs
+-- the first fault of a program stays as long as the program runs
 abbrev pub FirstFaultsStay : Type 0
 FirstFaultsStay = StaysWhile has_fault fault_of
 

@@ -19,8 +19,8 @@ use Rattle.ados_machine.specs.Shells.{ShellState}
 use Rattle.ados_machine.specs.Step.{step_of}
 use Rattle.ados_machine.specs.World.{WorldState, seen_shells}
 
--- the shell does this line next: one of its own commands, of which the output is to go to a file; it names no input, and does not ask
--- for its arguments
+-- shell k, which is this one, does this line next: it is one of the shell's own commands, whose output is to go to a file at this place; it
+-- names no input, and does not ask for its arguments
 pub record TakesRedirected (w : WorldState) (k : ℕ) (shell : ShellState) (line : Line) (output : Redirection) (place : Place) : Type 0 where
   pub takes : TakesLine w k shell line
   pub builtin : Builtin
@@ -30,7 +30,7 @@ pub record TakesRedirected (w : WorldState) (k : ℕ) (shell : ShellState) (line
   pub output_is : line.output ≡ Some output
   pub leads : target_of w.shared shell.parts.directory output.name ≡ Ok (At place)
 
--- there is a file at a place, which is the open output of a shell
+-- at this place there is this file, which is the open output of a shell
 pub record IsOpenFile (w : WorldState) (place : Place) (entry : Entry) : Type 0 where
   pub way : way_fault w.shared.files [] (key_of place) ≡ None
   pub there : finite.get w.shared.files (key_of place) ≡ Some entry

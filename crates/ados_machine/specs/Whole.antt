@@ -72,6 +72,7 @@ pub record Remainder : Type 0 where
   pub events : ℕ
   pub answers : List Reply
 
+-- what is left of a run: n events, and these answers
 abbrev pub remainder : ℕ → List Reply → Remainder
 remainder n answers = record { events = n; answers = answers }
 
@@ -80,22 +81,24 @@ pub record Configuration : Type 0 where
   pub common : Common
   pub at : At
 
+-- where lines are, and what they pass on, as one
 abbrev pub configuration : Common → At → Configuration
 configuration common at = record { common = common; at = at }
 
--- what lines mean, also by a line that continues after its command substitution. As `go` it is the recursion, given as an argument,
--- with a bound on its depth that the events left never exceed (`lines` in LoneShell).
+-- what lines mean from here on, with this left of the run, and, if they do, continuing a line after its command substitution. As `go` it is
+-- the recursion, given as an argument, with a bound on its depth that the events left never exceed (`lines` in LoneShell).
 abbrev pub Continuation : Type 0
 Continuation = Remainder → Configuration → Option Parted → Whole
 
--- no lines may be deeper
+-- the lines are as deep as frames may be, so that they call no other lines
 abbrev pub is_deepest : At → Bool
 is_deepest at = nat_le frame_limit at.depth
 
--- what a line knows of where it is
+-- where a line is in its script, if it is in one
 abbrev pub script_line_at : At → Option ScriptLine
 script_line_at at = if at.in_script then Some (record { lines = at.lines; line = at.line }) else None
 
+-- what a line knows of where it is
 abbrev pub here_at : At → Here
 here_at at = record {
   sink = at.sink;
@@ -104,20 +107,22 @@ here_at at = record {
   is_full = is_deepest at;
 }
 
--- what a shell that waits for something, or for nothing, keeps open by that, runs from, and is called
+-- what a shell keeps open while it waits for this, or for nothing
 abbrev pub held_at : Option Wait → List Place
 held_at None = []
 held_at (Some wait) = held_while wait
 
+-- the name of the resident entry from which a shell runs while it waits for this, or for nothing
 abbrev pub waiting_entry : Option Wait → Option Text
 waiting_entry None = None
 waiting_entry (Some wait) = entry_while wait
 
+-- the name of a shell in Status while it waits for this, or for nothing; it has this name if no command waits
 abbrev pub name_at : Text → Option Wait → Text
 name_at name None = name
 name_at name (Some wait) = waiting_word wait
 
--- what is seen of it
+-- what the others see of a shell whose lines are here, which waits for this, or for nothing, in this current directory
 abbrev pub seen_at : At → Option Wait → Place → SeenShell
 seen_at at wait directory = record {
   directory = directory;
@@ -126,17 +131,17 @@ seen_at at wait directory = record {
   name = name_at at.name wait;
 }
 
--- an event of the shell begins, which waits for something or for nothing
+-- the course of an event as it begins, of a shell whose lines are here and which waits for this, or for nothing
 abbrev pub start_at : Configuration → Option Wait → Course
 start_at now wait =
     new_course now.common.rule_state.parts now.common.rule_state.kept now.common.shared
     (slice_set (seen_shells now.common.shells) (now.at.shell - 1) (Some (seen_at now.at wait now.common.rule_state.parts.directory))) now.common.flagged
 
--- a current directory moves with what was moved
+-- a shell's parts after these objects have moved: its current directory follows them
 abbrev pub carried_parts : List Renamed → Parts → Parts
 carried_parts moved parts = record parts { directory = place_after_moves moved parts.directory }
 
--- an event ends, and what was printed is appended to what was printed before
+-- what lines pass on after an event of this course: what was printed is appended to what was printed before
 abbrev pub common_after_event : Common → Course → Common
 common_after_event common course =
     (let later = after_event common.shared common.shells course in
@@ -148,27 +153,30 @@ common_after_event common course =
       flagged = course.flagged;
     })
 
--- a command returned: the shell has its codes, and if its code reaches the limit it is printed that it failed
+-- what lines pass on after a command of this word returned these codes: the shell has them, and if the code reaches the limit it is printed
+-- that the command failed
 abbrev pub says : Text → Codes → Common → Common
 says word answer common = record common { rule_state = with_answer word answer common.rule_state }
 
--- its record: the line at which it began, its codes, and the limit in force
+-- the record of a command of these lines that returned these codes: the line at which it began, the codes, and the limit in force
 abbrev pub record_at : At → Codes → Common → Record
 record_at at answer common = record { line = at.line; codes = answer; limit = common.rule_state.parts.limit }
 
--- a command of these lines returned: a script ends here at its limit, or if it quits; other lines continue
+-- what lines mean after a command of theirs returned, by its word, its codes, and whether it quits its script: a script ends here at its
+-- limit, or if the command quits; other lines continue
 abbrev pub after_answer : Continuation → Remainder → Configuration → Text → Codes → Bool → Whole
 after_answer go left now word answer quits =
     if now.at.in_script && (quits || is_reached now.common.rule_state.parts.limit answer.code)
     then Done left.events left.answers (Some (record_at now.at answer now.common)) (says word answer now.common)
     else go left (configuration (says word answer now.common) (record now.at { last = Some (record_at now.at answer now.common) })) None
 
--- the same if the command did its work itself: the text of its fault is printed first, which that of a script was already
+-- what lines mean after a command of theirs returned that did its work itself and was no call: the text of its fault is printed first; the
+-- Bool says whether it quits its script
 abbrev pub after_own_answer : Continuation → Remainder → Configuration → Text → Codes → Bool → Whole
 after_own_answer go left now word answer quits =
     after_answer go left (configuration (record now.common { rule_state = with_fault_line word answer.result2 now.common.rule_state }) now.at) word answer quits
 
--- where a script's lines begin, and those of a command substitution
+-- where the lines of a script begin that was called from here, with this output, if the call names one
 abbrev pub script_at : At → Option Target → Called → At
 script_at at output called = record {
   shell = at.shell;
@@ -184,6 +192,7 @@ script_at at output called = record {
   last = None;
 }
 
+-- where the lines of a command substitution begin, which has this command and stands in a line here
 abbrev pub tick_at : At → Text → At
 tick_at at command = record at {
   sink = Kept;
@@ -195,7 +204,8 @@ tick_at at command = record at {
   last = None;
 }
 
--- a script ended: its shell, its name, the line of its last record or 0, that one's code, and whether it reached its limit
+-- the report of a script of this name in shell k that ended, by its last record: that one's line, or 0, its code, and whether it reached
+-- its limit
 abbrev pub report_of : ℕ → Text → Option Record → EndReport
 report_of k name last = record {
   shell = k;
@@ -206,23 +216,25 @@ report_of k name last = record {
   broken = false;
 }
 
--- a script ended at a break: the line of its last record or 0, and 10
+-- the report of a script of this name in shell k that ended at a break: the line of its last record, or 0, and the code 10
 abbrev pub report_broken : ℕ → Text → Option Record → EndReport
 report_broken k name last = record (report_of k name last) { code = broken_codes.code; early = false; broken = true }
 
+-- what lines pass on after the end of a script with this report
 abbrev pub with_report : EndReport → Common → Common
 with_report report common = record common { reports = report ∷ common.reports }
 
--- after a script that ended at a break, with this many scripts at or below these lines: after the outermost one the command
--- that called it returns 10 and 304, and otherwise these lines end too, at the same break
+-- what lines mean after a script that they called ended at a break, which began at this limit and was called by a command of this word,
+-- with this many scripts at or below the lines: after the outermost one that command returns 10 and 304, and otherwise the lines end too,
+-- at the same break
 abbrev pub after_broken : Continuation → Remainder → Configuration → Code → Text → ℕ → Whole
 after_broken go left now limit word zero =
     after_answer go left (configuration (record now.common { rule_state = with_limit (limit_above_scripts now.at.scripts limit) now.common.rule_state }) now.at)
     word broken_codes false
 after_broken go left now limit word (suc scripts) = Broken left.events left.answers now.at.last now.common
 
--- after a script: it is reported, the limit of its beginning is restored, or 10 if no script is left; its last codes are
--- the return of the command that called it
+-- what lines mean after a script that they called, by its own meaning: it is reported, the limit of its beginning is restored, or 10 if no
+-- script is left, and its last codes are the return of the command of this word that called it
 abbrev pub after_call : Continuation → At → Code → Text → Text → Whole → Whole
 after_call go at limit name word (Done n answers last common) =
     after_answer go (remainder n answers)
@@ -233,13 +245,16 @@ after_call go at limit name word (Broken n answers last common) =
 after_call go at limit name word (Late answers) = Late answers
 after_call go at limit name word Short = Short
 
--- a command substitution begins to keep output, and gives it to the line that continues after it
+-- what lines pass on as a command substitution begins, which keeps its output
 abbrev pub common_with_tick : Common → Common
 common_with_tick common = record common { rule_state = with_tick common.rule_state }
 
+-- what lines pass on after a command substitution, whose output is no longer kept
 abbrev pub common_without_tick : Common → Common
 common_without_tick common = record common { rule_state = without_tick common.rule_state }
 
+-- what lines mean after a command substitution, by its own meaning: its line continues, with its output between the texts `before` and
+-- `after`
 abbrev pub after_tick : Continuation → At → Text → Text → Whole → Whole
 after_tick go at before after (Done n answers last common) =
     go (remainder n answers) (configuration (common_without_tick common) at)
@@ -248,7 +263,7 @@ after_tick go at before after (Broken n answers last common) = Broken n answers 
 after_tick go at before after (Late answers) = Late answers
 after_tick go at before after Short = Short
 
--- what a completion means after its event; `further` is what it means to wait
+-- what lines mean of which one did this, after its event; `further` is what it means to wait, and `go` what the lines mean afterwards
 abbrev pub after_completion : (Configuration → Wait → Whole) → Continuation → Remainder → Configuration → Completion → Whole
 after_completion further go left now (Passes course) = go left now None
 after_completion further go left now (Answers word answer quits course) = after_own_answer go left now word answer quits
@@ -261,23 +276,24 @@ after_completion further go left now (Ticks before command after course) =
     after_tick go now.at before after (go left (configuration (common_with_tick now.common) (tick_at now.at command)) None)
 after_completion further go left now (Waits wait course) = further now wait
 
--- what a completion means
+-- what lines mean of which one did this; its event ends first. `further` is what it means to wait, and `go` what the lines mean afterwards
 abbrev pub completion_meaning : (Configuration → Wait → Whole) → Continuation → Remainder → Configuration → Completion → Whole
 completion_meaning further go left now completion =
     after_completion further go left (configuration (common_after_event now.common (course_of completion)) now.at) completion
 
--- an answer of another kind is treated as missing
+-- what an answer of a launcher means, by what it does; an answer of another kind than what is waited for is treated as missing
 abbrev pub after_reply : (Completion → Whole) → Option Completion → Whole
 after_reply meaning None = Short
 after_reply meaning (Some completion) = meaning completion
 
--- a turn clears the flag
+-- what lines pass on after a turn, which clears the flag
 abbrev pub common_without_flag : Common → Common
 common_without_flag common = record common { flagged = false }
 
--- a turn that finds the flag in a script
+-- a turn here finds the flag, in a script
 abbrev pub breaks_at : Configuration → Bool
 breaks_at now = now.common.flagged && nat_lt 0 now.at.scripts
 
+-- what lines pass on after a turn that found the flag: the break is printed, and the flag cleared
 abbrev pub common_after_break : Common → Common
 common_after_break common = record common { rule_state = record common.rule_state { printed = common.rule_state.printed ++ break_text }; flagged = false }

@@ -11,13 +11,14 @@ ghost use Rattle.ados_machine.specs.Early.{ScriptsEndEarlyAtTheirFirst, FramesGi
 ghost use Rattle.ados_machine.specs.Given.{EventsGiveWhatIsPending, FurtherLinesWait, ReadyShellsAreTurned, TypedLinesAreTakenInOrder};
 ghost use Rattle.ados_machine.specs.InUse.{EntriesStayInUse, IdleShellsUseNoEntry, OutputsStayOpen, StartsOpenOutputs};
 ghost use Rattle.ados_machine.specs.Kept.{EventsKeepAllCodes, FreshWorldsHaveAllCodes, LastCodesStay};
-ghost use Rattle.ados_machine.specs.Manual.{ElsesLeadPastTheirBlock, IfsLeadPastTheirBlock, SkipsLeadPastTheirLabel, WordsAreLookedUpInOrder};
+ghost use Rattle.ados_machine.specs.Manual.{ElsesLeadPastTheirBlock, IfsLeadPastTheirBlock, SkipsLeadPastTheirLabel};
+ghost use Rattle.ados_machine.specs.LookupOrder.{WordsAreLookedUpInOrder};
 ghost use Rattle.ados_machine.specs.Plain.{EnabledCommandsAreFound, EffectsAreRecorded, EffectsArePrinted, FailAtSetsTheLimit, SubstitutionsKeepTheirOutput, DirectoriesAreCarried};
 ghost use Rattle.ados_machine.specs.Programs.{StartsAskForTheirProgram, StartsUseTheirEntry, FirstFaultsStay, PiecesArePrinted};
 ghost use Rattle.ados_machine.specs.Redirected.{OpenOutputsAreInUse};
 ghost use Rattle.ados_machine.specs.Reports.{ReportsTellLastRecords};
 ghost use Rattle.ados_machine.specs.Laws.{ScriptsEndWhereTheRuleSays, EventsKeepWorldsSane, ReportsAreTheEnds, EachFrameEndsOnce, BreaksEndScripts, BreaksKeepWhatComes, FreshWorldsHaveNoChild, TurnsKeepChildren, AnswersMoveChildren, RequestsAreOfChildren, FittingAnswersAreAccepted, AcceptedAnswersFit, RequestsNameTheirShells};
-ghost use Rattle.ados_machine.specs.Limits.{IsSane};
+ghost use Rattle.ados_machine.specs.FrameEnds.{IsSane};
 ghost use Rattle.ados_machine.specs.Quiet.{QuietShellsAreInvisible};
 ghost use Rattle.ados_machine.specs.Starts.{FailedStartsChangeTheCodes, FailedStartsLeaveNothing};
 ghost use Rattle.ados_machine.specs.LoneReports.{AloneTellsReports};

@@ -21,23 +21,24 @@ use Rattle.ados_session.specs.declared.recordings.RecordLine.TheVariants.{Host, 
 use Rattle.ados_session.specs.declared.recordings.Form.{Form}
 use Rattle.ados_session.specs.declared.recordings.Form.TheVariants.{First, Second, Third}
 
--- what a line that gives this answer says
+-- what a line of a recording says that is to give this answer; without one it is invalid
 abbrev pub answer_line : Option Answer → RecordLine
 answer_line (Some answer) = Answered answer
 answer_line None = Bad
 
--- what a line that writes this break says
+-- what a line of a recording says that is to write this break; without one it is invalid
 abbrev pub break_line : Option BreakAt → RecordLine
 break_line (Some at) = Broken at
 break_line None = Bad
 
--- in a recording of the first form there are no breaks
+-- what a line with a break says in a recording of this form, by the text after its word; the first form has no breaks
 abbrev pub break_line_in_form : Form → Text → RecordLine
 break_line_in_form First text = Bad
 break_line_in_form Second text = break_line (break_of text)
 break_line_in_form Third text = break_line (break_of text)
 
--- what the text after a word says: a command whose program has its name, a typed line, an answer, or a break
+-- what a line of a recording of this form says, by its word and the text after it: a command whose program has its name, a typed line, an
+-- answer, or a break
 abbrev pub record_of : Form → Text → Text → RecordLine
 record_of form word text =
     if bytes_eq word (codes "host") then Host (record { name = text; program = text }) else
@@ -45,27 +46,31 @@ record_of form word text =
     (if bytes_eq word (codes "answer") then answer_line (answer_of text) else
     (if bytes_eq word (codes "break") then break_line_in_form form text else Bad)))
 
--- what a line after the first says
+-- what a line after the first says in a recording of this form
 abbrev pub record_line : Form → Text → RecordLine
 record_line form line = option_map_or (λ p. record_of form p.0 p.1) (split_at_space line) Bad
 
+-- a line of a recording says something: it is valid
 abbrev pub is_record : RecordLine → Bool
 is_record Bad = false
 is_record _ = true
 
--- the command that a line says, what it types, the answer that it gives, and the break
+-- the host command that a line of a recording says, if it says one
 abbrev pub host_in : RecordLine → Option HostEntry
 host_in (Host host) = Some host
 host_in _ = None
 
+-- the bytes that a line of a recording types, with a newline; none if it types no line
 abbrev pub typed_in : RecordLine → Bytes
 typed_in (Typed text) = text ++ 10 ∷ []
 typed_in _ = []
 
+-- the answer that a line of a recording gives, if it gives one
 abbrev pub answer_in : RecordLine → Option Answer
 answer_in (Answered answer) = Some answer
 answer_in _ = None
 
+-- the break that a line of a recording writes, if it writes one
 abbrev pub break_in : RecordLine → Option BreakAt
 break_in (Broken at) = Some at
 break_in _ = None
@@ -76,7 +81,7 @@ dialect_of First = Core
 dialect_of Second = Core
 dialect_of Third = Full
 
--- a recorded session: the dialect of its world, its commands, its typed lines, a launcher's answers, and the breaks
+-- a recorded session: the dialect of its world, its host commands, its typed bytes, a launcher's answers, and the breaks
 pub record RecordedSession : Type 0 where
   pub dialect : Dialect
   pub hosts : List HostEntry
@@ -84,7 +89,7 @@ pub record RecordedSession : Type 0 where
   pub answers : List Answer
   pub breaks : List BreakAt
 
--- the one session followed by the other, in the world of the one
+-- the first session followed by the second, in the world of the first
 abbrev pub joined_sessions : RecordedSession → RecordedSession → RecordedSession
 joined_sessions one other = record {
   dialect = one.dialect;
@@ -94,7 +99,7 @@ joined_sessions one other = record {
   breaks = one.breaks ++ other.breaks;
 }
 
--- the session of the lines after the first
+-- the session that these lines, those after the first, record in this form
 abbrev pub session_of_lines : Form → List Text → RecordedSession
 session_of_lines form lines = record {
   dialect = dialect_of form;
@@ -104,40 +109,43 @@ session_of_lines form lines = record {
   breaks = filter_map (λ line. break_in (record_line form line)) lines;
 }
 
--- a world can be made with its commands, and its breaks name no earlier event than those before them
+-- a session can be: a world can be made with its host commands, and its breaks name no earlier event than those before them
 abbrev pub is_session : RecordedSession → Bool
 is_session session = are_free session.dialect session.hosts && are_rising session.breaks
 
--- each line says one of these, and together they are a session
+-- each of these lines, those after the first, says something in this form, and together they are a session
 abbrev pub are_records : Form → List Text → Bool
 are_records form lines = list_all (λ line. is_record (record_line form line)) lines && is_session (session_of_lines form lines)
 
--- the form that the first line of a recording names
+-- the form that the first line of a recording names, if it names one
 abbrev pub recording_form : Text → Option Form
 recording_form line =
     if bytes_eq line (codes "amishell 1") then Some First else
     (if bytes_eq line (codes "amishell 2") then Some Second else
     (if bytes_eq line (codes "amishell 3") then Some Third else None))
 
--- the lines of a recording
+-- these lines are a recording: the first names a form, and the others are a session of it
 abbrev pub is_recording : List Text → Bool
 is_recording [] = false
 is_recording (first ∷ lines) = option_map_or (λ form. are_records form lines) (recording_form first) false
 
--- the session that its lines record
+-- the session that these lines, those after the first, record, if there is a form
 abbrev pub session_of : Option Form → List Text → Option RecordedSession
 session_of form lines = option_map (λ found. session_of_lines found lines) form
 
+-- the session that a recording of these lines records, if its first line names a form
 abbrev pub session_in : List Text → Option RecordedSession
 session_in [] = None
 session_in (first ∷ lines) = session_of (recording_form first) lines
 
--- a fault names the first invalid line: the first, which names no form or is missing, or one after it
+-- A fault names the first invalid line of a recording whose first line names this form, or the first line if that names none; `lines` are
+-- those after it.
 abbrev pub IsFaultAfterFirst : Option Form → List Text → FileFault → Type 0
 IsFaultAfterFirst (Some form) lines fault = IsFault (are_records form) 1 lines fault
 IsFaultAfterFirst None lines (BadLine number) = number ≡ 1
 IsFaultAfterFirst None lines NoMemory = Unit {0}
 
+-- a fault names the first invalid line of a recording of these lines: the first, which names no form or is missing, or one after it
 abbrev pub IsRecordingFault : List Text → FileFault → Type 0
 IsRecordingFault [] (BadLine number) = number ≡ 1
 IsRecordingFault [] NoMemory = Unit {0}

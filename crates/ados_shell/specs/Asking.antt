@@ -3,7 +3,7 @@ use Rattle.std.specs.Prelude.{Bool, false}
 use Rattle.ados_machine.specs.Phases.{Phase, Ready, GoingOn, Waiting}
 use Rattle.ados_machine.specs.World.{is_for_input}
 
--- it waits for an answer to a prompt, or for another line of a Run
+-- a shell in this phase waits for a line of its input: the answer to a prompt, or another line of a Run
 abbrev pub asks_for_line : Phase → Bool
 asks_for_line Ready = false
 asks_for_line (GoingOn parted) = false

@@ -35,19 +35,20 @@ use Rattle.ados_shell.specs.Reports.{report_of}
 use Rattle.ados_shell.specs.Suspensions.{phase_of}
 use Rattle.ados_shell.specs.Stacks.{drafted_frames}
 
+-- the phase that a draft gives its shell
 abbrev pub drafted_phase : ShellDraft → Phase
 drafted_phase draft = phase_of (option_map (λ p. p.value) draft.phase)
 
--- the output of the command substitutions, if that changed
+-- the outputs of the shell's command substitutions that a draft holds, the newest first, if they changed
 abbrev pub drafted_outputs : ShellDraft → Option (List Bytes)
 drafted_outputs draft = option_map (λ k. reverse k.items) draft.kept
 
--- the settings after a change, if there was one
+-- a shell's settings after this one was changed, if one was
 abbrev pub changed_settings : Option Setting → Settings → Settings
 changed_settings None settings = settings
 changed_settings (Some setting) settings = with_setting setting settings
 
--- the shell after what a turn makes of it
+-- a shell after what a turn makes of it, by the draft
 abbrev pub drafted_shell : ShellDraft → ShellState → ShellState
 drafted_shell draft shell = record {
   frames = drafted_frames shell draft.frames;
@@ -63,34 +64,37 @@ drafted_shell draft shell = record {
   flagged = draft.flagged;
 }
 
--- the shell with the codes, the limit and the flag of a draft
+-- a shell with the codes, the limit and the flag of a draft
 abbrev pub with_codes : ShellDraft → ShellState → ShellState
 with_codes draft shell = record shell { parts = record shell.parts { limit = draft.limit; codes = draft.codes }; flagged = draft.flagged }
 
--- what is given by an event that a draft holds
+-- what an event gives, by its draft: what it printed, what it asks a launcher for, and its reports
 abbrev pub out_of : Draft → Out
 out_of draft = event_out draft.printed.items draft.request draft.reports.items
 
+-- the frames of the scene's shell as a draft has changed them, the newest first
 abbrev pub frames_of : Scene → Draft → List FrameState
 frames_of scene draft = drafted_frames scene.shell.now draft.shell.frames
 
--- what the next line of the newest frame knows of the frames
+-- what the next line of the scene's shell knows of its frames, as a draft has changed them
 abbrev pub here_in : Scene → Draft → Here
 here_in scene draft = here_of (frames_of scene draft)
 
--- the shell's parts as they are now
+-- the parts of the scene's shell as a draft has changed them
 abbrev pub parts_of : Scene → Draft → Parts
 parts_of scene draft = (drafted_shell draft.shell scene.shell.now).parts
 
--- an event of the scene's shell begins: nothing is done yet
+-- the course of an event of the scene's shell as it begins: nothing is done yet
 abbrev pub event_start : Scene → Course
 event_start scene = new_course scene.shell.now.parts scene.shell.now.kept scene.shared.now (seen_shells scene.shells.now) scene.shell.now.flagged
 
--- a turn begins: it clears the flag
+-- the course of a turn of the scene's shell as it begins: nothing is done yet, except that its flag is cleared
 abbrev pub turn_start : Scene → Course
 turn_start scene = course_without_flag (event_start scene)
 
--- what a turn holds that no answer changes
+-- the part of a draft that is no code, no limit, no frame and nothing printed: the new directory, the setting that was changed, the outputs
+-- of command substitutions, the new shared state, what was renamed, the shell that begins, the devices used, the shell that is broken, and
+-- the flag; None: no change
 pub record HeldState : Type 0 where
   pub directory : Option Place
   pub setting : Option Setting
@@ -102,6 +106,7 @@ pub record HeldState : Type 0 where
   pub breaking : Option Breaking
   pub flagged : Bool
 
+-- the part of this draft that is no code, no limit, no frame and nothing printed
 abbrev pub held_state : Draft → HeldState
 held_state draft = record {
   directory = draft.shell.directory;
@@ -115,6 +120,7 @@ held_state draft = record {
   flagged = draft.shell.flagged;
 }
 
+-- the course of an event in this scene, by this part of its draft, and the limit, the codes and what was printed
 abbrev pub held_course : Scene → HeldState → Code → Codes → Bytes → Course
 held_course scene held limit codes printed = record {
   parts = record {
@@ -135,22 +141,22 @@ held_course scene held limit codes printed = record {
   flagged = held.flagged;
 }
 
--- what a turn in this scene has changed so far, as the machine's course
+-- what a turn in this scene has changed so far, by its draft, as the machine's course
 abbrev pub course_of : Scene → Draft → Course
 course_of scene draft = held_course scene (held_state draft) draft.shell.limit draft.shell.codes draft.printed.items
 
--- nothing is set yet: a command changes a setting at most once
+-- the draft holds no changed setting: a command changes one at most once
 abbrev pub IsUnset : Draft → Type 0
 IsUnset draft = draft.shell.setting ≡ None
 
--- nothing is changed yet of a shell
+-- a draft changes nothing of this shell yet, except perhaps its phase and its flag
 pub record IsUnchanged (shell : ShellState) (draft : ShellDraft) : Type 0 where
   pub frames_are : drafted_frames shell draft.frames ≡ shell.frames
   pub parts_are : (drafted_shell draft shell).parts ≡ shell.parts
   pub setting_is : draft.setting ≡ None
   pub kept_is : (drafted_shell draft shell).kept ≡ shell.kept
 
--- nothing is changed yet, and the shell is flagged, or is not
+-- a draft changes nothing yet, neither of this shell nor of what all share, except that the shell is flagged as the Bool says
 pub record IsFresh (shell : ShellState) (flagged : Bool) (draft : Draft) : Type 0 where
   pub shell_is : IsUnchanged shell draft.shell
   pub flagged_is : draft.shell.flagged ≡ flagged
@@ -162,22 +168,22 @@ pub record IsFresh (shell : ShellState) (flagged : Bool) (draft : Draft) : Type 
   pub used_are : draft.used.items ≡ []
   pub breaking_is : draft.breaking ≡ None
 
--- a turn went on by what a definition leaves
+-- in this scene a turn went on from one draft to another by what the machine's event leaves
 pub record GoesOn (scene : Scene) (before after : Draft) (turned : TurnResult) : Type 0 where
   pub frames : frames_of scene after ≡ turned.frames
   pub phase : drafted_phase after.shell ≡ turned.phase
   pub course : course_of scene after ≡ turned.course
   pub reports : after.reports.items ≡ before.reports.items ++ reports_of scene.number turned.log
 
--- a turn went on by a completion
+-- in this scene a turn went on from one draft to another by what this completion does
 abbrev pub IsApplied : Scene → Draft → Draft → Completion → Type 0
 IsApplied scene before after completion = GoesOn scene before after (turn_of_completion completion (frames_of scene before))
 
--- a turn went on by what the code rule leaves
+-- in this scene a turn went on from one draft to another by what the code rule leaves
 abbrev pub IsRuled : Scene → Draft → Draft → RuleResult → Type 0
 IsRuled scene before after settled = GoesOn scene before after (turn_by_rule (course_of scene before) settled)
 
--- the draft holds what a turn of the scene's shell leaves, and the assigns that it used are bound
+-- the draft holds what the machine's event leaves of the scene's shell, and the Defers that it used are bound
 pub record IsDrafted (scene : Scene) (draft : Draft) (turned : TurnResult) : Type 0 where
   pub shell_is : drafted_shell draft.shell scene.shell.now ≡ shell_of_turn turned
   pub shared_is : version scene.shared.now draft.shared ≡ shared_after_event turned.course
@@ -187,7 +193,7 @@ pub record IsDrafted (scene : Scene) (draft : Draft) (turned : TurnResult) : Typ
   pub printed_is : draft.printed.items ≡ turned.course.printed
   pub reports_are : draft.reports.items ≡ reports_of scene.number turned.log
 
--- the end of a script was reported, and the limit of its beginning restored
+-- between two drafts the end of this frame, the script of this name, was reported, and the limit of its beginning restored
 pub record IsReported (scene : Scene) (before after : Draft) (name : Text) (frame : FrameState) : Type 0 where
   pub frames : after.shell.frames ≡ before.shell.frames
   pub held : held_state after ≡ held_state before
@@ -196,14 +202,15 @@ pub record IsReported (scene : Scene) (before after : Draft) (name : Text) (fram
   pub printed : after.printed.items ≡ before.printed.items
   pub reports : after.reports.items ≡ before.reports.items ++ report_of scene.number name frame ∷ []
 
--- the end of a command substitution left its line to go on, with its output
+-- between two drafts the end of a command substitution left its line to go on, with its output between the texts `front` and `tail`
 pub record IsTicked (scene : Scene) (mid after : Draft) (front tail : Text) : Type 0 where
   pub frames : after.shell.frames ≡ mid.shell.frames
   pub phase : drafted_phase after.shell ≡ GoingOn (record { before = front; output = newest_kept (course_of scene mid).kept; after = tail })
   pub course : course_of scene after ≡ record (course_of scene mid) { kept = drop 1 (course_of scene mid).kept }
   pub reports : after.reports.items ≡ mid.reports.items
 
--- the draft holds what a command made
+-- between two drafts a command of the shell of this number did its work: the second holds what it changed of the shell, the new shared
+-- state, if there is one, what it renamed, and which shell it broke
 pub record HoldsEffect (number : ℕ) (before after : Draft) (change : Option Change) (shared : Option SharedState) (renamed : List Renamed) (breaking : Option Breaking) : Type 0 where
   pub frames : after.shell.frames ≡ before.shell.frames
   pub parts_are : (shell : ShellState) → (drafted_shell after.shell shell).parts ≡ parts_after_command change (drafted_shell before.shell shell).parts
@@ -217,7 +224,7 @@ pub record HoldsEffect (number : ℕ) (before after : Draft) (change : Option Ch
   pub printed : after.printed.items ≡ before.printed.items
   pub reports : after.reports.items ≡ before.reports.items
 
--- a shell of this number was drafted, which is to begin with these commands and this output
+-- between two drafts a shell of this number was drafted, which is to begin with these commands and this output
 pub record HasBegun (scene : Scene) (before after : Draft) (number : ℕ) (commands : List Text) (output : Option Target) : Type 0 where
   pub frames : after.shell.frames ≡ before.shell.frames
   pub course : course_of scene after ≡ with_shell_begun number commands output (course_of scene before)

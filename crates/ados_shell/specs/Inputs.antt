@@ -11,12 +11,13 @@ use Rattle.ados_shell.specs.declared.drafts.Draft.{Draft}
 use Rattle.ados_shell.specs.Drafts.{course_of}
 use Rattle.ados_shell.specs.Uses.{HasUsed}
 
--- a turn after the input of a line was read, if it names one: these are its lines, and its device is used; if it was
--- refused, nothing changed
+-- between two drafts the input of a line was read, if it names one: the lines read are those that the machine reads, and its device is used
 pub record Reads (scene : Scene) (before after : Draft) (name : Option Text) (lines given : Option (List Text)) : Type 0 where
   pub lines_are : lines ≡ given
   pub used : HasUsed scene before after (with_devices_used (devices_named name) (course_of scene before))
 
+-- between two drafts the input of a line was read, if it names one, with the result that the machine has; if it was refused, nothing
+-- changed; or an allocation failed
 abbrev pub HasRead : Scene → Draft → Draft → Option Text → Result (Option (List Text)) Stop → Result (Option (List Text)) Result2 → Type 0
 HasRead scene before after name (Ok lines) (Ok given) = Reads scene before after name lines given
 HasRead scene before after name (Err (Refused fault)) (Err other) = (fault ≡ other) × (after ≡ before)

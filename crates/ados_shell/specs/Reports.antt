@@ -5,7 +5,7 @@ use Rattle.ados_flow.specs.Frames.{FrameState, last_line, last_codes, is_early}
 use Rattle.ados_machine.specs.declared.outs.EndReport.{EndReport}
 use Rattle.ados_machine.specs.Items.{broken_codes}
 
--- the report of the end of a frame that is the script with this name
+-- the report of the end of this frame, which is the script of this name, in the shell of this number
 abbrev pub report_of : ℕ → Text → FrameState → EndReport
 report_of shell name frame = record {
   shell = shell;
@@ -16,7 +16,7 @@ report_of shell name frame = record {
   broken = false;
 }
 
--- the report of its end at a break
+-- the report of the end at a break of this frame, which is the script of this name, in the shell of this number
 abbrev pub broken_report : ℕ → Text → FrameState → EndReport
 broken_report shell name frame = record {
   shell = shell;

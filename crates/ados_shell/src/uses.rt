@@ -68,7 +68,7 @@ impl Draft {
         ensures { OnOk result (HasUsed scene.now self.old self.new (with_devices_used (route_devices route word.now) (course_of scene.now self.old))) }
     {
         match route {
-            Route::Listed => Ok(()),
+            Route::BeforeC => Ok(()),
             Route::ByPath => {
                 self.note_question(scene, &[], word);
                 self.use_path(scene, word)

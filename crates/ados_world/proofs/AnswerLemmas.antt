@@ -10,7 +10,7 @@ use Rattle.ados_machine.specs.declared.refusals.Refusal.TheVariants.{NoMemory, O
 use Rattle.ados_machine.specs.declared.events.BreakKind.{BreakKind}
 use Rattle.ados_machine.specs.Breaks.{kind_breaks, broken_number}
 use Rattle.ados_machine.specs.Shells.{ShellState}
-use Rattle.ados_machine.specs.Limits.{IsSane}
+use Rattle.ados_machine.specs.FrameEnds.{IsSane}
 use Rattle.ados_machine.specs.Runs.{IsResponse, resulting_world}
 use Rattle.ados_machine.specs.Turning as turning
 use Rattle.ados_machine.specs.World.{WorldState, input_of, is_over, numbered_shell}

@@ -4,7 +4,7 @@ use Rattle.ados_machine.specs.declared.events.Event.{Event}
 use Rattle.ados_machine.specs.declared.outs.Out.{Out}
 use Rattle.ados_machine.specs.Given.{request_after_event}
 use Rattle.ados_machine.specs.InUse.{has_request, resident_name_of, outputs_held, runs_program}
-use Rattle.ados_machine.specs.Limits.{IsSane}
+use Rattle.ados_machine.specs.FrameEnds.{IsSane}
 use Rattle.ados_machine.specs.World.{WorldState}
 use Rattle.ados_machine.specs.Step.{Response, Refused, Accepted, step_of}
 use Rattle.ados_machine.specs.Runs.{IsResponse, resulting_world}

@@ -8,7 +8,7 @@ use Rattle.ados_flow.specs.Frames.{FrameState}
 use Rattle.ados_machine.specs.declared.events.Event.TheVariants as event
 use Rattle.ados_machine.specs.declared.refusals.Refusal.TheVariants.{NoMemory}
 use Rattle.ados_machine.specs.Items.{TraceItem}
-use Rattle.ados_machine.specs.Limits.{IsSane, RunsFrame}
+use Rattle.ados_machine.specs.FrameEnds.{IsSane, RunsFrame}
 use Rattle.ados_machine.specs.Numbers.{free_number}
 use Rattle.ados_machine.specs.Runs as memory
 use Rattle.ados_machine.specs.Course.{shared_after_event}

@@ -9,7 +9,7 @@ use Rattle.ados_machine.specs.Items.{Began}
 use Rattle.ados_machine.specs.Numbers.{free_number}
 use Rattle.ados_machine.specs.World.{WorldState, numbered_shell}
 use Rattle.ados_machine.specs.Trace.{frames_of, own}
-use Rattle.ados_machine.specs.Limits.{AllRunOn, RunsFrame, IsNumbered, IsSane}
+use Rattle.ados_machine.specs.FrameEnds.{AllRunOn, RunsFrame, IsNumbered, IsSane}
 use Rattle.ados_machine.specs.LoneShell.{world_with_opened, opened_shell}
 use Rattle.ados_machine.proofs.Moves.{Moves, begun-moves}
 use Rattle.ados_machine.proofs.Sane.{sane-shells}

@@ -13,7 +13,7 @@ use Rattle.ados_machine.specs.declared.refusals.Refusal.{Refusal}
 use Rattle.ados_machine.specs.declared.refusals.Refusal.TheVariants.{NoMemory, NotReady, Over}
 use Rattle.ados_machine.specs.Items.{TraceItem, reports_of}
 use Rattle.ados_machine.specs.Shells.{ShellState}
-use Rattle.ados_machine.specs.Limits.{IsSane}
+use Rattle.ados_machine.specs.FrameEnds.{IsSane}
 use Rattle.ados_machine.specs.Runs.{IsResponse, resulting_world}
 use Rattle.ados_machine.specs.Turning as turning
 use Rattle.ados_machine.specs.World.{WorldState, input_of, is_over, seen_shells, numbered_shell}

@@ -11,12 +11,11 @@ use Rattle.ados_machine.specs.Step.{step_of}
 use Rattle.ados_machine.specs.Runs.{resulting_world}
 use Rattle.ados_machine.specs.Quiet.{IsQuiet, CanBeTakenOut}
 
--- one of these reports is about a break
+-- one of these reports is that of a script that was broken
 abbrev pub reports_break : List EndReport → Bool
 reports_break reports = list_any (λ report. report.broken) reports
 
--- each accepted event of a run ends scripts at a break exactly when it is a turn that finds the flag of its shell, in which a
--- script runs
+-- each accepted event of a run ends scripts at a break exactly when it is a turn that finds the flag of its shell, in which a script runs
 abbrev pub BreaksEndScriptsIn : WorldState → List Event → List (Result Out Refusal) → Type 0
 BreaksEndScriptsIn w (event ∷ events) (out ∷ outs) =
     IfOk out (λ given. reports_break given.reports ≡ finds_flag w event)

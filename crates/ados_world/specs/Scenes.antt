@@ -4,7 +4,7 @@ use Rattle.ados_machine.specs.Shells.{ShellState}
 use Rattle.ados_machine.specs.World.{WorldState, numbered_shell}
 use Rattle.ados_shell.specs.declared.scenes.Scene.{Scene}
 
--- a scene shows the shell with this number, as the world has it
+-- this scene shows shell k, as the world has it
 pub record Shows (w : WorldState) (k : ℕ) (shell : ShellState) (scene : Scene) : Type 0 where
   pub here : numbered_shell w k ≡ Some shell
   pub number_is : scene.number ≡ k

@@ -9,47 +9,51 @@ use Rattle.ados_machine.specs.World.{option_flatten, at_number}
 use Rattle.ados_shell.specs.declared.drafts.ShellDraft.{ShellDraft}
 use Rattle.ados_shell.specs.Drafts.{drafted_shell}
 
+-- a shell may have this number: 1 to 20
 pub record IsShellNumber (number : ℕ) : Type 0 where
   pub first : 1 ≤ number
   pub last : number ≤ 20
 
--- the shell at a number is replaced by what a function makes of it
+-- `others` with the shell of this number as `change` makes it of the one in `shells`
 abbrev pub with_shell : ℕ → (ShellState → ShellState) → List (Option ShellState) → List (Option ShellState) → List (Option ShellState)
 with_shell number change shells others = slice_set others (number - 1) (option_map change (option_flatten (at_number shells number)))
 
--- the shells after what a turn makes of one of them
+-- the shells after what a turn makes of the one of this number, by its draft
 abbrev pub updated_shells : ℕ → ShellDraft → List (Option ShellState) → List (Option ShellState)
 updated_shells number draft shells = with_shell number (drafted_shell draft) shells shells
 
--- the shells after what a turn makes of one of them, where objects were moved
+-- the shells after what a turn makes of the one of this number, by its draft, where these objects were moved: the current directory of each
+-- follows them
 abbrev pub updated_carried_shells : ℕ → List Renamed → ShellDraft → List (Option ShellState) → List (Option ShellState)
 updated_carried_shells number moved draft shells =
     with_shell number (λ shell. carried_shell moved (drafted_shell draft shell)) shells (map (carried_place moved) shells)
 
--- the shells after what a turn makes of one of them; objects may have been moved
+-- the shells after what a turn makes of the one of this number, by its draft; the current directory of each follows the objects that were
+-- moved, if any were
 abbrev pub shells_after_draft : ℕ → ShellDraft → List Renamed → List (Option ShellState) → List (Option ShellState)
 shells_after_draft number draft [] shells = updated_shells number draft shells
 shells_after_draft number draft (moved ∷ more) shells = updated_carried_shells number (moved ∷ more) draft shells
 
--- a shell runs from the resident entry with this name
+-- a resident entry is named, and has this name
 abbrev pub is_entry : Option Text → Text → Bool
 is_entry None name = false
 is_entry (Some entry) name = is_same entry name
 
+-- a shell, if it is there, runs from the resident entry of this name
 abbrev pub runs_from : Option ShellState → Text → Bool
 runs_from None name = false
 runs_from (Some shell) name = is_entry (phase_entry shell.phase) name
 
--- the current directories of all shells, after they moved along with what was moved
+-- the current directories of all shells, after they followed these objects, which have moved
 abbrev pub carried_directories : List Renamed → List (Option ShellState) → List (Option Place)
 carried_directories moved shells = map (option_map (carried_directory moved)) shells
 
--- a shell is in the directory that is given for it, if one is
+-- a shell, if it is there, in the directory that is given for it, if one is
 abbrev pub placed_shell : Option Place → Option ShellState → Option ShellState
 placed_shell None shell = shell
 placed_shell (Some directory) shell = option_map (in_directory directory) shell
 
--- each shell is in the directory that is given for its number, if one is
+-- the shells, each in the directory that is given for its number, if one is
 abbrev pub placed_shells : List (Option Place) → List (Option ShellState) → List (Option ShellState)
 placed_shells [] shells = shells
 placed_shells (directory ∷ directories) [] = []

@@ -1,7 +1,7 @@
 // Shells that are opened for a line of their own.
 ghost use Rattle.std.specs.Prelude.{◌≡◌, ◌≤◌, ◌∷◌, ◌-◌, ℕ, List, [], length, IfOk, IfSome, Some};
 ghost use Rattle.std.specs.List.{slice_set};
-ghost use Rattle.ados_machine.specs.Limits.{IsSane};
+ghost use Rattle.ados_machine.specs.FrameEnds.{IsSane};
 ghost use Rattle.ados_machine.specs.Numbers.{free_number};
 ghost use Rattle.ados_machine.specs.declared.answers.Answer.{Answer};
 ghost use Rattle.ados_machine.specs.LoneReports.{TellsReports, collect_reports};

@@ -4,7 +4,7 @@ ghost use Rattle.ados_machine.specs.Early.{EndsEarlyAtFirst, GivesBack, OfEachFr
 ghost use Rattle.ados_machine.specs.Given.{all_lines_taken, all_lines_typed};
 ghost use Rattle.ados_machine.specs.Kept.{codes_after_trace};
 ghost use Rattle.ados_machine.specs.Runs.{Runs};
-ghost use Rattle.ados_machine.specs.Limits.{LimitsHold, ReportsHold};
+ghost use Rattle.ados_machine.specs.FrameEnds.{LimitsHold, ReportsHold};
 ghost use Rattle.ados_machine.specs.Reports.{reports_of_trace, shell_stack};
 ghost use Rattle.ados_machine.specs.Stacks.{FramesHold};
 ghost use Rattle.ados_machine.specs.Trace.{own, all_reports, trace};

@@ -3,7 +3,7 @@ ghost use Rattle.std.specs.Prelude.{◌≡◌, ℕ, [], drop, false, IfErr, IfOk
 ghost use Rattle.ados_machine.specs.Given.{request_after_event};
 ghost use Rattle.ados_machine.specs.InUse.{has_request, resident_name_of, outputs_held, runs_program};
 ghost use Rattle.ados_machine.specs.Laws.{finds_flag};
-ghost use Rattle.ados_machine.specs.Limits.{IsSane};
+ghost use Rattle.ados_machine.specs.FrameEnds.{IsSane};
 ghost use Rattle.ados_machine.specs.World.{at_number, is_over, numbered_shell, option_flatten};
 ghost use Rattle.ados_machine.specs.Step.{step_of, turn_response, answer_response, break_response, event_out, queue_after_event};
 ghost use Rattle.ados_machine.specs.Runs.{IsResponse, resulting_world};

@@ -2,13 +2,13 @@
 ghost use Rattle.std.specs.Prelude.{◌≡◌, ◌≤◌, Some, IfOk, IfSome, OnSome};
 ghost use Rattle.std.specs.Option.{option_copied};
 ghost use Rattle.ados_world.specs.Due.{first_number};
-ghost use Rattle.ados_world.specs.Hosts.{Answers, hosts_fault};
+ghost use Rattle.ados_world.specs.Hosts.{IsMadeUnless, hosts_fault};
 ghost use Rattle.ados_world.specs.Scenes.{Shows};
 ghost use Rattle.ados_world.specs.Shells.{IsShellNumber};
 ghost use Rattle.ados_resident.specs.declared.dialects.Dialect.TheVariants.{Core};
 ghost use Rattle.ados_machine.specs.Children.{child_in};
 ghost use Rattle.ados_machine.specs.InUse.{has_request};
-ghost use Rattle.ados_machine.specs.Limits.{IsSane};
+ghost use Rattle.ados_machine.specs.FrameEnds.{IsSane};
 ghost use Rattle.ados_machine.specs.Starts.{use_count};
 ghost use Rattle.ados_machine.specs.World.{fresh_world, numbered_shell, is_over, is_ready, wants_line, codes_at, left_codes, running_numbers, pending_of};
 
@@ -40,7 +40,7 @@ pub struct World {
 
 impl Model for World {
     ghost use Rattle.ados_machine.specs.World.{WorldState};
-    ghost use Rattle.ados_machine.specs.Limits.{IsSane};
+    ghost use Rattle.ados_machine.specs.FrameEnds.{IsSane};
     ghost use Rattle.std.specs.Coded.{codes};
     ghost use Rattle.ados_ram.specs.Files.{coded_files};
     ghost use Rattle.ados_assign.specs.Assigns.{coded_assigns};
@@ -60,7 +60,7 @@ impl World {
     /// As [`with_dialect`](World::with_dialect), in Core.
     pub fn new(alloc: Global, hosts: &[HostEntry]) -> Result<World, NewFault>
         ensures world { IfOk result (λ world. world ≡ fresh_world Core hosts.now) }
-        ensures fault { Answers result (hosts_fault Core hosts.now) }
+        ensures fault { IsMadeUnless result (hosts_fault Core hosts.now) }
     {
         World::with_dialect(alloc, hosts, Dialect::Core)
     }
@@ -78,7 +78,7 @@ impl World {
         dialect: Dialect,
     ) -> Result<World, NewFault>
         ensures world { IfOk result (λ world. world ≡ fresh_world dialect hosts.now) }
-        ensures fault { Answers result (hosts_fault dialect hosts.now) }
+        ensures fault { IsMadeUnless result (hosts_fault dialect hosts.now) }
     {
         if let Some(fault) = hosts_fault(dialect, hosts) {
             return Err(fault);

@@ -1,6 +1,6 @@
 -- A launcher and a world that agree.
 use Rattle.std.proofs.Common.{◌≡◌, Option, None, length, refl, ap, sym, subst, ℕ, List, [], Bool, false, get_or}
-use Rattle.ados_machine.specs.Limits.{IsSane}
+use Rattle.ados_machine.specs.FrameEnds.{IsSane}
 use Rattle.ados_machine.specs.World.{WorldState, pending_of}
 use Rattle.ados_launcher.specs.declared.calls.Call.{Call}
 use Rattle.ados_launch.specs.Agreement.{Agrees, AreOver, IsOpenTable}

@@ -1,7 +1,7 @@
 use Rattle.std.proofs.Common.{◌≡◌, ◌∙◌, List, Option, not, true, ap, subst, sym}
 use Rattle.std.specs.Prelude.{is_some}
 use Rattle.ados_machine.specs.Breaks.{kind_breaks, broken_number}
-use Rattle.ados_machine.specs.Limits.{IsSane}
+use Rattle.ados_machine.specs.FrameEnds.{IsSane}
 use Rattle.ados_machine.specs.Shells.{ShellState}
 use Rattle.ados_machine.specs.World.{WorldState, numbered_shell}
 use Rattle.ados_world.proofs.AnswerLemmas.{copied-some, sane-broken}

@@ -1,5 +1,5 @@
 use Rattle.std.proofs.Common.{rules, subst}
-use Rattle.ados_machine.specs.Limits.{IsSane}
+use Rattle.ados_machine.specs.FrameEnds.{IsSane}
 use Rattle.ados_world.proofs.TakenLemmas.{taken-by}
 use Rattle.ados_world.proofs.worlds.World.take.Goals as goal
 
