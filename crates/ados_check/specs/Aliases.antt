@@ -6,10 +6,11 @@ use Rattle.ados_items.specs.Parts.{first_word, rest_of, trimmed_text}
 use Rattle.ados_vars.specs.Vars.{value_in}
 use Rattle.ados_check.specs.declared.made_aliases.MadeAliases.{MadeAliases}
 
--- a word without quotes around it
+-- a byte is no quote
 abbrev pub not_quote : ℕ → Bool
 not_quote c = not (c == 34)
 
+-- a word without quotes around it: if it begins with a quote, what comes before the next one
 abbrev pub bare : Text → Text
 bare [] = []
 bare (c ∷ cs) = if c == 34 then take (prefix_len not_quote cs) cs else c ∷ cs
@@ -18,11 +19,11 @@ bare (c ∷ cs) = if c == 34 then take (prefix_len not_quote cs) cs else c ∷ c
 abbrev pub alias_name : Text → Option Text
 alias_name line = let text = trimmed_text line in if is_same (first_word text) (codes "Alias") then Some (bare (first_word (rest_of text))) else None
 
--- arguments or variables stand in a name: it may be any
+-- a name has a `<` or a `$`: an argument or a variable stands in it, and it may be any
 abbrev pub is_open : Text → Bool
 is_open name = list_any (λ c. c == 60) name || list_any (λ c. c == 36) name
 
--- the word is the name, ignoring case, or may be
+-- a word is the name that an alias has, case ignored, or may be; without a name (none) it is not
 abbrev pub may_be : Text → Option Text → Bool
 may_be word None = false
 may_be word (Some name) = is_open name || is_same word name
@@ -35,15 +36,15 @@ makes_alias word line = may_be word (alias_name line)
 abbrev pub may_be_alias : List Text → Text → Bool
 may_be_alias lines word = list_any (makes_alias word) lines
 
--- the word is among those that were sought out
+-- the code takes a word for a possible alias: it is one of the names that it found, or any word may be one
 abbrev pub has_made : MadeAliases → Text → Bool
 has_made made word = made.is_any || is_some (value_in made.names word)
 
--- the new words that may be aliases are the old ones, and that of one more line
+-- the new possible aliases are the old ones, and those that a line makes or may make
 abbrev pub HasLine : MadeAliases → MadeAliases → Text → Type 0
 HasLine old new line = (word : Text) → has_made new word ≡ (has_made old word || makes_alias word line)
 
--- the new words that may be aliases are the old ones, and those of lines
+-- the new possible aliases are the old ones, and those that one of these lines makes or may make
 abbrev pub HasLines : MadeAliases → MadeAliases → List Text → Type 0
 HasLines old new lines = (word : Text) → has_made new word ≡ (has_made old word || may_be_alias lines word)
 
@@ -51,6 +52,6 @@ HasLines old new lines = (word : Text) → has_made new word ≡ (has_made old w
 abbrev pub HasNone : MadeAliases → Type 0
 HasNone made = (word : Text) → has_made made word ≡ false
 
--- the words that may be aliases are those of the typed lines and of these lines
+-- the possible aliases are those that one of the typed lines or one of the lines of a script makes or may make
 abbrev pub HasAll : MadeAliases → List Text → List Text → Type 0
 HasAll made typed lines = (word : Text) → has_made made word ≡ (may_be_alias typed word || may_be_alias lines word)

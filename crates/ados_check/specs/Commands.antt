@@ -10,12 +10,12 @@ use Rattle.ados_resident.specs.Names.{disk_named, internal_named}
 use Rattle.ados_check.specs.declared.commands.Meaning.{Meaning}
 use Rattle.ados_check.specs.declared.commands.Meaning.TheVariants as meaning
 
--- what follows a text with which a word begins, ignoring case
+-- what follows the text `start` in a word that begins with it, ignoring case
 abbrev pub after : Text → Text → Option Text
 after word start =
     if nat_lt (length word) (length start) then None else (if is_same (take (length start) word) start then Some (drop (length start) word) else None)
 
--- it, or otherwise another text
+-- a text that was found, or otherwise another text
 abbrev pub or_text : Option Text → Text → Text
 or_text (Some found) other = found
 or_text None other = other
@@ -24,18 +24,21 @@ or_text None other = other
 abbrev pub name_in_c : Text → Text
 name_in_c word = or_text (after word (codes "C:")) (or_text (after word (codes "SYS:C/")) (or_text (after word (codes "RAM:C/")) (or_text (after word (codes ":C/")) word)))
 
+-- what the name of an internal command stands for, given which of the Shell's own commands it is; none: it is Run
 abbrev pub internal_meaning : Option Builtin → Meaning
 internal_meaning (Some command) = meaning.Builtin command
 internal_meaning None = meaning.Run
 
+-- what a name in C: stands for, given the disk command that has it
 abbrev pub disk_meaning : Option DiskCommand → Meaning
 disk_meaning (Some command) = meaning.Builtin (disk_builtin command)
 disk_meaning None = meaning.Other
 
+-- what a word stands for in a dialect, given the internal command that has it as its name; without one it may name a disk command
 abbrev pub meaning_found : Dialect → Text → Option InternalCommand → Meaning
 meaning_found dialect word (Some command) = internal_meaning (internal_builtin command)
 meaning_found dialect word None = disk_meaning (disk_named dialect (name_in_c word))
 
--- an internal command by its name alone, and a disk command also by a path
+-- what a word stands for in a dialect: an internal command by its name alone, or a disk command also by a path
 abbrev pub meaning_of : Dialect → Text → Meaning
 meaning_of dialect word = meaning_found dialect word (internal_named word)

@@ -16,7 +16,7 @@ use Rattle.ados_resident.specs.declared.commands.Builtin.TheVariants.{Files}
 use Rattle.ados_resident.specs.declared.commands.FilesCommand.TheVariants.{Copy}
 use Rattle.ados_resident.specs.declared.dialects.Dialect.{Dialect}
 
--- a text that is a pattern, and not the name of one object
+-- what was read of a text is a pattern, and not the name of one object; false if it is no pattern at all
 abbrev pub says_several : Result Meaning Codes → Bool
 says_several (Ok pattern) = not (is_some pattern.name)
 says_several (Err codes) = false
@@ -30,11 +30,12 @@ is_wild text = says_several (pattern_of (piece_of text))
 abbrev pub copies_flat : List Arg → Bool
 copies_flat args = has_switch args COPY_ALL && list_any is_wild (option_texts args COPY_FROM)
 
+-- arguments of Copy, if they fill its template, put what is in several directories into one
 abbrev pub flat_filled : Result (List Arg) ArgFault → Bool
 flat_filled (Ok args) = copies_flat args
 flat_filled (Err fault) = false
 
--- a command with the text of its arguments is such a Copy in a dialect
+-- a command with this text of arguments is a Copy that puts what is in several directories into one, in a dialect
 abbrev pub is_flat_copy : Dialect → Builtin → Text → Bool
 is_flat_copy dialect (Files Copy) text = flat_filled (fill_of (template_of dialect (Files Copy)) text)
 is_flat_copy dialect command text = false

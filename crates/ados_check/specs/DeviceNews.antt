@@ -8,28 +8,31 @@ use Rattle.ados_check.specs.declared.device_news.News.{News}
 use Rattle.ados_check.specs.declared.findings.Finding.{Finding}
 use Rattle.ados_check.specs.declared.findings.Problem.TheVariants.{NoDevice}
 
--- the devices that are known, and what is found
+-- what is known after some lines: the devices that they mention, assign or ask for, and what is found in them
 pub record Known : Type 0 where
-  pub known : List Text
+  pub devices : List Text
   pub found : List Finding
 
+-- what is known as the code has it
 abbrev pub news_of : News → Known
-news_of news = record { known = news.known.items; found = news.found.items }
+news_of news = record { devices = news.known.items; found = news.found.items }
 
--- a device that a line mentions is told unless it is known, and is known from then on
+-- what is known after the line of a number mentioned a device: unless it was known it is told, and it is known from then on
 abbrev pub with_device : ℕ → Known → Text → Known
 with_device number news device =
-    if is_among news.known device then news
-    else record { known = news.known ++ device ∷ []; found = news.found ++ record { line = number; problem = NoDevice device } ∷ [] }
+    if is_among news.devices device then news
+    else record { devices = news.devices ++ device ∷ []; found = news.found ++ record { line = number; problem = NoDevice device } ∷ [] }
 
+-- what is known after the line of a number mentioned these devices, one after another
 abbrev pub with_devices : ℕ → List Text → Known → Known
 with_devices number [] news = news
 with_devices number (device ∷ devices) news = with_devices number devices (with_device number news device)
 
--- the devices that a line assigns or asks for are known
+-- what is known after a line that assigns or asks for these devices
 abbrev pub with_assigned : List Text → Known → Known
-with_assigned devices news = record { known = news.known ++ devices; found = news.found }
+with_assigned devices news = record { devices = news.devices ++ devices; found = news.found }
 
+-- what is known after the line of a number: what it assigns or asks for is known before what it mentions is told
 abbrev pub with_line : Dialect → ℕ → Bytes → Known → Known
 with_line dialect number line news =
     with_devices number (mentioned_in dialect (command_text line)) (with_assigned (assigned_in dialect (command_text line)) news)
@@ -41,7 +44,7 @@ with_lines dialect number (line ∷ lines) news = with_lines dialect (number + 1
 
 -- Each device that lines mention is told at the first line that does, but for those that this line or one before it assigns or asks for.
 abbrev pub news_in : Dialect → List Text → List Finding
-news_in dialect lines = (with_lines dialect 1 lines (record { known = []; found = [] })).found
+news_in dialect lines = (with_lines dialect 1 lines (record { devices = []; found = [] })).found
 
 -- the devices that a line assigns or asks for
 abbrev pub assigned_at : Dialect → Text → List Text

@@ -15,7 +15,7 @@ use Rattle.ados_check.specs.declared.arguments.Word.{Word}
 use Rattle.ados_check.specs.declared.commands.Meaning.{Meaning}
 use Rattle.ados_check.specs.declared.commands.Meaning.TheVariants as meaning
 
--- what the word of a command stands for
+-- what a word of a line stands for as a command, in a dialect
 abbrev pub meaning_at : Dialect → Bytes → Word → Meaning
 meaning_at dialect line word = meaning_of dialect (map to_ascii (name_in (bytes_between line word.from word.to)))
 
@@ -33,21 +33,22 @@ abbrev pub first_path : List Word → List Word
 first_path [] = []
 first_path (word ∷ words) = if word.name_to == word.from || word.name_to == word.to then word ∷ [] else []
 
--- of a command that also takes other texts only the first is known to be a path
+-- which of the words after a command of files are paths: all of them, but for a command that also takes other texts only the first
 abbrev pub paths_of_files : List Word → FilesCommand → List Word
 paths_of_files words Filenote = first_path words
 paths_of_files words ListCommand = first_path words
 paths_of_files words Search = first_path words
 paths_of_files words command = words
 
--- Assign has an option by which its target is looked up later
+-- one of the words after Assign is an option by which its target is looked up later
 abbrev pub binds_later : Bytes → List Word → Bool
 binds_later line words = list_any (λ word. is_word line (codes "DEFER") word || is_word line (codes "PATH") word) words
 
+-- which of the words after Assign are paths: all, or none if its target is looked up later
 abbrev pub paths_of_assign : Bytes → List Word → List Word
 paths_of_assign line words = if binds_later line words then [] else words
 
--- the words after a command that are paths
+-- which of the words after a command are paths, by what the command's word stands for
 abbrev pub path_words : Bytes → List Word → Meaning → List Word
 path_words line words (meaning.Builtin (Files command)) = paths_of_files words command
 path_words line words (meaning.Builtin (Env Assign)) = paths_of_assign line words

@@ -9,7 +9,7 @@ use Rattle.ados_check.specs.declared.findings.Finding.{Finding}
 use Rattle.ados_check.specs.declared.directives.Sample.{Sample}
 use Rattle.ados_check.specs.declared.directives.Sample.TheVariants.{Lines, Bad, Unknown}
 
--- the fault of the directive in a line, or one of the arguments
+-- what comes of substituting the arguments is the fault of the directive in a line, or one of the arguments
 abbrev pub HasFault : ℕ → Result (List Text) SubstFault → Type 0
 HasFault line result = (result ≡ Err (BadDirective line)) ⊎ ((of_args : ArgFault) × (result ≡ Err (Args of_args)))
 
@@ -18,17 +18,17 @@ HasFault line result = (result ≡ Err (BadDirective line)) ⊎ ((of_args : ArgF
 abbrev pub IsNeverCalled : List Text → ℕ → Type 0
 IsNeverCalled lines line = (args : Bytes) (process : Text) → HasFault line (script_of lines args process)
 
--- what holds of the line in which a directive is said to be bad
+-- P holds of the line in which a sample says that a directive is bad, if it says so of one
 abbrev pub IfBad : Sample → (ℕ → Type 0) → Type 0
 IfBad (Lines lines) P = Unit {0}
 IfBad (Bad line) P = P line
 IfBad Unknown P = Unit {0}
 
--- with some arguments a script of lines as they are written is a script of these lines
+-- with some arguments a script of lines as they are written is a script of the lines `sample`
 abbrev pub IsSample : List Text → List Text → Type 0
 IsSample lines sample = (args : Bytes) × (process : Text) × (script_of lines args process ≡ Ok sample)
 
--- what holds of the lines that are known
+-- P holds of the lines of a sample, if it has lines
 abbrev pub IfLines : Sample → (List Text → Type 0) → Type 0
 IfLines (Lines lines) P = P lines
 IfLines (Bad line) P = Unit {0}
@@ -38,12 +38,13 @@ IfLines Unknown P = Unit {0}
 abbrev pub IsAlwaysBad : List Text → ℕ → Type 0
 IsAlwaysBad lines line = (args : Bytes) (process : Text) → script_of lines args process ≡ Err (BadDirective line)
 
--- the directive in this line is said to be bad
+-- a sample says that the directive in this line is bad
 abbrev pub IsBadAt : ℕ → Sample → Type 0
 IsBadAt line (Lines lines) = ⊥
 IsBadAt line (Bad other) = other ≡ line
 IsBadAt line Unknown = ⊥
 
+-- what was found is of this line
 abbrev pub IsFoundAt : ℕ → Option Finding → Type 0
 IsFoundAt line None = ⊥
 IsFoundAt line (Some one) = one.line ≡ line

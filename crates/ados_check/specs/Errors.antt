@@ -38,12 +38,13 @@ use Rattle.ados_check.specs.declared.findings.Finding.{Finding}
 use Rattle.ados_check.specs.declared.findings.Problem.{Problem}
 use Rattle.ados_check.specs.declared.findings.Problem.TheVariants as problem
 
--- whatever the variables are, each shell that has no alias for a line's first word reads the line so
+-- whatever the variables are, each shell that has no alias for a line's first word reads the line as `read` says
 abbrev pub IsReadAs : Text → Result Expanded LineFault → Type 0
 IsReadAs line read = (aliases : Pairs) (variables : Variables) → with_alias aliases (without_comment line) ≡ without_comment line
     → expand_raw_line aliases variables line ≡ read
 
--- so it is read as a command of the Shell, with the text of its arguments
+-- whatever the variables are, each shell that has no alias for a line's first word reads the line as this command, with this text of
+-- arguments
 abbrev pub IsCommand : Dialect → Text → Builtin → Text → Type 0
 IsCommand dialect line command args = (read : Line) × IsReadAs line (Ok (Ready read)) × (meaning_of dialect read.command ≡ meaning.Builtin command) × (read.args ≡ args)
 
@@ -52,24 +53,26 @@ abbrev pub Answers : Dialect → Builtin → Text → ArgFault → Type 0
 Answers dialect command args fault = (shared : SharedState) (script_line : Option ScriptLine) (view : View) → shared.dialect ≡ dialect
     → action_of command shared script_line view args ≡ fault_answer shared (result2_of fault)
 
--- wherever it is executed in that line of a script of these lines, the script ends there with 20 and 205
+-- wherever a command is executed with these arguments in the line of a number of a script, whose lines are `sample`, the script ends there
+-- with 20 and 205
 abbrev pub EndsScript : Dialect → FlowCommand → Text → List Text → ℕ → Type 0
 EndsScript dialect command args sample number = (shared : SharedState) (view : View) → shared.dialect ≡ dialect
     → action_of (Flow command) shared (Some (record { lines = sample; line = number })) view args ≡ Quits (fail_codes OBJECT_NOT_FOUND)
 
--- both lists have the same line of a number, of which P holds
+-- two lists of lines have the same line of a number, of which P holds
 abbrev pub IsHere : List Text → List Text → ℕ → (Text → Type 0) → Type 0
 IsHere lines sample number P = (line : Text) × (line_of lines number ≡ Some line) × (line_of sample number ≡ Some line) × P line
 
--- with some arguments the line of a number stays as it is written, and P holds of it and of all lines
+-- with some arguments, for which the script's lines are the sample, the line of a number stays as it is written, and P holds of the sample
+-- and of that line
 abbrev pub IsLine : List Text → ℕ → (List Text → Text → Type 0) → Type 0
 IsLine lines number P = (sample : List Text) × IsSample lines sample × IsHere lines sample number (P sample)
 
--- a line is this command with arguments that it does not take: it answers the fault
+-- a line is a command of the Shell with arguments that it does not take: it answers the fault
 abbrev pub IsRefused : Dialect → ArgFault → Text → Type 0
 IsRefused dialect fault line = (command : Builtin) × (args : Text) × IsCommand dialect line command args × Answers dialect command args fault
 
--- a line is a jump that leads nowhere
+-- the line of a number in a script is this jump, and leads nowhere
 abbrev pub IsLost : Dialect → ℕ → FlowCommand → List Text → Text → Type 0
 IsLost dialect number command sample line = (args : Text) × IsCommand dialect line (Flow command) args × EndsScript dialect command args sample number
 
@@ -93,33 +96,37 @@ SaysSo dialect lines number problem.ElseWithoutEndIf = IsLine lines number (IsLo
 SaysSo dialect lines number problem.FlatCopy = IsLine lines number (λ sample. IsFlat dialect)
 SaysSo dialect lines number other = Unit {0}
 
--- what a problem says of the line of a number is so, and it is not said of a sign
+-- what a problem says of the line of a number is so, and the problem does not speak of a sign
 abbrev pub IsSound : Dialect → List Text → ℕ → Problem → Type 0
 IsSound dialect lines number what = (told_sign what ≡ None) × SaysSo dialect lines number what
 
+-- what each finding says of its line is so
 abbrev pub AreSo : Dialect → List Text → List Finding → Type 0
 AreSo dialect lines found = All (λ one. SaysSo dialect lines one.line one.problem) found
 
--- what a problem says of the line of a number is so whatever the dialect and the script are
+-- what a problem says of the line of a number is so whatever the dialect and the script are, and the problem does not speak of a sign
 abbrev pub IsAlwaysSound : ℕ → Problem → Type 0
 IsAlwaysSound number what = (dialect : Dialect) (lines : List Text) → IsSound dialect lines number what
 
+-- what each finding says of its line is so whatever the dialect and the script are
 abbrev pub AreAlwaysSo : List Finding → Type 0
 AreAlwaysSo found = (dialect : Dialect) (lines : List Text) → AreSo dialect lines found
 
--- findings that were so still are
+-- if what each old finding says of its line is so, then what each new one says is so
 abbrev pub StaySo : List Finding → List Finding → Type 0
 StaySo old new = (dialect : Dialect) (lines : List Text) → AreSo dialect lines old → AreSo dialect lines new
 
--- the new findings are so if the old ones are, and what one more problem says of a line is
+-- if what each old finding says of its line is so, and what a problem says of the line of a number, then what each new finding says is so
 abbrev pub AreSoWith : ℕ → Problem → List Finding → List Finding → Type 0
 AreSoWith number what old new = (dialect : Dialect) (lines : List Text) → AreSo dialect lines old → SaysSo dialect lines number what → AreSo dialect lines new
 
+-- if what each old finding says of its line is so, and the problem that was found, if there is one, is sound in the line of a number, then
+-- what each new finding says is so
 abbrev pub AreSoWithFound : ℕ → Option Problem → List Finding → List Finding → Type 0
 AreSoWithFound number found old new =
     (dialect : Dialect) (lines : List Text) → AreSo dialect lines old → IfSome found (IsSound dialect lines number) → AreSo dialect lines new
 
--- the line ends in a carriage return, which no comment takes
+-- a line ends in a carriage return, which no comment takes
 abbrev pub EndsInReturn : Bytes → Type 0
 EndsInReturn line = (slice_index line (length line - 1) ≡ 13) × (length (without_comment line) ≡ length line)
 

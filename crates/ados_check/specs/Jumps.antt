@@ -24,6 +24,7 @@ use Rattle.ados_flow.specs.Branches.{label_sought}
 use Rattle.ados_check.specs.declared.findings.Problem.{Problem}
 use Rattle.ados_check.specs.declared.findings.Problem.TheVariants as problem
 
+-- a jump leads nowhere
 abbrev pub is_nowhere : Jump → Bool
 is_nowhere Nowhere = true
 is_nowhere jump = false
@@ -40,6 +41,7 @@ lost_jump (problem.NoLab label) = Some Skip
 lost_jump problem.ElseWithoutEndIf = Some Else
 lost_jump other = None
 
+-- a label; empty if there is none
 abbrev pub label_or_none : Option Text → Text
 label_or_none None = []
 label_or_none (Some label) = label

@@ -32,7 +32,7 @@ abbrev pub given_by : Dialect → Bytes → List Word → Option Command → Lis
 given_by dialect text words None = []
 given_by dialect text words (Some command) = given_options dialect command text words
 
--- the options left out that a command is given which is the first of some words
+-- the options left out that a command is given, which is the first of some words of a text; no option if there is no word
 abbrev pub given_from : List Command → Dialect → Pairs → Bytes → List Word → List Given
 given_from commands dialect aliases text [] = []
 given_from commands dialect aliases text (word ∷ words) = given_by dialect text words (named_command commands (command_name aliases text word))
@@ -50,21 +50,25 @@ name_from commands aliases text (word ∷ words) = option_map (λ command. comma
 abbrev pub name_in : List Command → Pairs → Bytes → Option (Bor Bytes)
 name_in commands aliases text = name_from commands aliases text (from_command (lead_of aliases text) 0 (argument_words text))
 
+-- the name of the command of a finding of options left out
 abbrev pub name_of : LeftOut → Bor Bytes
 name_of one = one.command
 
+-- the options left out of a finding; no option without a finding (none)
 abbrev pub given_of : Option LeftOut → List Given
 given_of None = []
 given_of (Some one) = one.options.items
 
+-- what a finding of options left out shows: the place at which the command's text begins, and the options
 abbrev pub shown : LeftOut → ℕ × List Given
 shown one = (one.from, one.options.items)
 
--- the options left out that a text gives, with the place at which it begins; nothing if there are none
+-- the options left out that a text gives, with the place at which it begins, alone in a list; the list is empty if there are no options
 abbrev pub part_of : ℕ → List Given → List (ℕ × List Given)
 part_of from [] = []
 part_of from (one ∷ more) = (from, one ∷ more) ∷ []
 
+-- the options left out that a text between back-ticks of a line gives, with the place at which it begins; an empty list if it gives none
 abbrev pub ticked_part : List Command → Dialect → Pairs → Bytes → Ticked → List (ℕ × List Given)
 ticked_part commands dialect aliases line text = part_of text.from (given_in commands dialect aliases (bytes_between line text.from text.to))
 
@@ -81,6 +85,7 @@ left_out_around commands dialect aliases line =
 abbrev pub left_out_in : List Command → Dialect → Pairs → Bytes → List (ℕ × List Given)
 left_out_in commands dialect aliases line = left_out_around commands dialect aliases (command_text line)
 
+-- a list is not empty
 abbrev pub has_any : {A : Type 0} → List A → Bool
 has_any [] = false
 has_any (x ∷ xs) = true
@@ -93,37 +98,38 @@ gives_left_out commands dialect aliases line = has_any (left_out_in commands dia
 abbrev pub gives_at : List Command → Dialect → Pairs → List Text → ℕ → Bool
 gives_at commands dialect aliases lines number = is_some_and (gives_left_out commands dialect aliases) (line_of lines number)
 
+-- a problem is that of options left out
 abbrev pub is_left_out : Problem → Bool
 is_left_out (problem.LeftOut options) = true
 is_left_out other = false
 
--- it is told that the line of a number gives an option that is left out
+-- one of some findings tells that the line of a number gives an option that is left out
 abbrev pub is_told : ℕ → List Finding → Bool
 is_told number found = list_any (λ one. is_at number one && is_left_out one.problem) found
 
--- it is told of exactly the lines that give an option that is left out
+-- findings tell of an option left out in exactly the lines that give one
 abbrev pub TellsLeftOut : Dialect → Pairs → List Text → List Finding → Type 0
 TellsLeftOut dialect aliases lines found =
     (commands : List Command) × AreReleaseTwo commands × ((number : ℕ) → is_told number found ≡ gives_at commands dialect aliases lines number)
 
--- the new findings tell of the same lines as the old ones, and of this line too if it gives an option that is left out
+-- the new findings tell of options left out in the same lines as the old ones, and in this line too if it gives one
 abbrev pub ToldWith : ℕ → Bool → List Finding → List Finding → Type 0
 ToldWith line gives old new = (number : ℕ) → is_told number new ≡ (is_told number old || (line == number && gives))
 
--- it is told of each line that gives an option that is left out
+-- findings tell of an option left out in each line that gives one
 abbrev pub TellsEach : Dialect → List Text → List Finding → Type 0
 TellsEach dialect lines found =
     (commands : List Command) × AreReleaseTwo commands × ((number : ℕ) → gives_at commands dialect [] lines number ≡ true → is_told number found ≡ true)
 
--- the new findings tell of each line of which the old ones tell
+-- the new findings tell of options left out in each line in which the old ones do
 abbrev pub StayTold : List Finding → List Finding → Type 0
 StayTold old new = (number : ℕ) → is_told number old ≡ true → is_told number new ≡ true
 
--- no line is told of
+-- findings tell of options left out in no line
 abbrev pub TellsNone : List Finding → Type 0
 TellsNone found = (number : ℕ) → is_told number found ≡ false
 
--- the new findings tell of the same lines as the old ones
+-- the new findings tell of options left out in the same lines as the old ones
 abbrev pub ToldTheSame : List Finding → List Finding → Type 0
 ToldTheSame old new = (number : ℕ) → is_told number new ≡ is_told number old
 
@@ -131,11 +137,11 @@ ToldTheSame old new = (number : ℕ) → is_told number new ≡ is_told number o
 abbrev pub IsBlanked : Bytes → Bytes → Type 0
 IsBlanked old new = (length new ≡ length old) × ((k : ℕ) → k < length old → (slice_index new k == slice_index old k || slice_index new k == 32) ≡ true)
 
--- a byte, or the blank in its place
+-- a byte, or a blank in its place if it is struck
 abbrev pub struck : Bool → ℕ → ℕ
 struck is byte = if is then 32 else byte
 
--- the new text is as long as the old one; each byte is a blank if this holds of its place, and otherwise unchanged
+-- the new text is as long as the old one; each byte is a blank if `test` holds of its place, and otherwise unchanged
 abbrev pub IsStruck : (ℕ → Bool) → Bytes → Bytes → Type 0
 IsStruck test old new = (length new ≡ length old) × ((k : ℕ) → k < length old → slice_index new k ≡ struck (test k) (slice_index old k))
 
@@ -143,22 +149,23 @@ IsStruck test old new = (length new ≡ length old) × ((k : ℕ) → k < length
 abbrev pub are_idle : List Given → Bool
 are_idle options = list_all (λ given. given.option.is_idle) options
 
+-- a place is one of those from the place `from` on, and before the place `to`
 abbrev pub is_between : ℕ → ℕ → ℕ → Bool
 is_between from to k = nat_le from k && nat_lt k to
 
--- a place lies in an option that has no effect, in a text that begins at another
+-- a place lies in an option that has no effect, in a text that begins at the place `from`
 abbrev pub is_in : ℕ → ℕ → Given → Bool
 is_in from k given = given.option.is_idle && is_between (from + given.from) (from + given.to) k
 
--- a place lies in one of some options that has no effect, in a text that begins at another
+-- a place lies in one of some options that has no effect, in a text that begins at the place `from`
 abbrev pub is_in_idle : ℕ → List Given → ℕ → Bool
 is_in_idle from options k = list_any (is_in from k) options
 
--- a place lies in an option without effect that the commands of a line are given, which begins at another
+-- a place lies in an option without effect that the commands of a line are given; the line begins at the place `from`
 abbrev pub is_idle_in_line : List Command → Dialect → Pairs → ℕ → Bytes → ℕ → Bool
 is_idle_in_line commands dialect aliases from line k = list_any (λ part. is_in_idle (from + part.0) part.1 k) (left_out_in commands dialect aliases line)
 
--- a place lies in an option without effect that lines give, the first of which begins at another
+-- a place lies in an option without effect that one of some lines gives; the first of them begins at the place `from`
 abbrev pub is_idle_in_lines : List Command → Dialect → ℕ → List Text → ℕ → Bool
 is_idle_in_lines commands dialect from [] k = false
 is_idle_in_lines commands dialect from (line ∷ lines) k =

@@ -6,34 +6,35 @@ use Rattle.ados_check.specs.LeftOut.{are_idle}
 use Rattle.ados_check.specs.declared.findings.Problem.{Problem}
 use Rattle.ados_check.specs.declared.findings.Problem.TheVariants as problem
 
--- the line may be run all the same
+-- a problem is harmless: its line may be run all the same
 abbrev pub is_harmless : Problem → Bool
 is_harmless (problem.PrintedByte byte) = true
 is_harmless (problem.PrintedReturn others) = true
 is_harmless other = false
 
--- its byte above 127 is only printed
+-- a problem is that of a byte above 127 that its line only prints
 abbrev pub is_printed_byte : Problem → Bool
 is_printed_byte (problem.PrintedByte byte) = true
 is_printed_byte other = false
 
--- a problem where Echo or Ask is another command: then nothing of it is harmless
+-- a problem as it is in a script where Echo or Ask is another command: not harmless
 abbrev pub refused : Problem → Problem
 refused (problem.PrintedByte byte) = problem.NotAscii byte
 refused (problem.PrintedReturn others) = problem.EndReturn others
 refused other = other
 
--- the line must not be run, since it ends in a carriage return
+-- a problem is that of a line which must not be run, since it ends in a carriage return
 abbrev pub refuses_return : Problem → Bool
 refuses_return (problem.EndReturn others) = true
 refuses_return other = false
 
+-- a problem is that of a carriage return at the end of a line, harmless or not
 abbrev pub speaks_of_return : Problem → Bool
 speaks_of_return (problem.EndReturn others) = true
 speaks_of_return (problem.PrintedReturn others) = true
 speaks_of_return other = false
 
--- because of it a run does not run the script, unless it is to be lenient
+-- because of a problem a run does not run the script, unless it is to be lenient
 abbrev pub is_refused : Problem → Bool
 is_refused (problem.NotAscii byte) = true
 is_refused (problem.EndReturn others) = true
@@ -46,12 +47,12 @@ abbrev pub is_idle : Problem → Bool
 is_idle (problem.LeftOut one) = are_idle one.options.items
 is_idle other = false
 
--- the command that is given options which the Shell leaves out
+-- the command of which a problem says that it is given options which the Shell leaves out
 abbrev pub command_left_out : Problem → Option (Bor Bytes)
 command_left_out (problem.LeftOut one) = Some one.command
 command_left_out other = None
 
--- whenever the line is taken, it fails, or it must not be run
+-- a problem is an error: whenever its line is taken, it fails, or it must not be run
 abbrev pub is_error : Problem → Bool
 is_error (problem.NotAscii byte) = true
 is_error (problem.EndReturn others) = true

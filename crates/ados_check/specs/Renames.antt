@@ -30,13 +30,14 @@ is_resident line = is_same (first_word (trimmed_text line)) (codes "Resident")
 abbrev pub renames_printers : Pairs → List Text → Bool
 renames_printers aliases lines = is_renamed aliases lines (codes "Echo") || is_renamed aliases lines (codes "Ask") || list_any is_resident lines
 
--- what is known of a command is not that it has no other script run
+-- a command may have another script run, as far as is known
 abbrev pub is_caller : Meaning → Bool
 is_caller (meaning.Builtin (Flow Execute)) = true
 is_caller (meaning.Builtin command) = false
 is_caller meaning.Run = true
 is_caller meaning.Other = true
 
+-- the command of a line, whose words are given, may have another script run; a directive has none
 abbrev pub calls_by : Dialect → Bytes → List Word → Bool
 calls_by dialect line [] = false
 calls_by dialect line (word ∷ words) = not (is_dotted line) && is_caller (meaning_of dialect (map to_ascii (name_in (bytes_between line word.from word.to))))
@@ -45,6 +46,6 @@ calls_by dialect line (word ∷ words) = not (is_dotted line) && is_caller (mean
 abbrev pub calls : Dialect → Bytes → Bool
 calls dialect line = list_any (λ c. c == 96) line || calls_by dialect line (argument_words line)
 
--- one of these lines may have another script run
+-- one of these lines may have another script run, its comment left out
 abbrev pub may_call : Dialect → List Text → Bool
 may_call dialect lines = list_any (λ line. calls dialect (without_comment line)) lines

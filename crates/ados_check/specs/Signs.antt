@@ -10,12 +10,13 @@ use Rattle.ados_check.specs.declared.findings.Finding.{Finding}
 use Rattle.ados_check.specs.declared.findings.Problem.{Problem}
 use Rattle.ados_check.specs.declared.findings.Problem.TheVariants.{ByteOrderMark, EndReturn, NotAscii, PrintedByte, PrintedReturn}
 
--- after the dot comes a blank or `\`: a directive that says nothing
+-- a line is a directive that says nothing: after its dot comes a blank or `\`
 abbrev pub is_remark : Bytes → Bool
 is_remark (dot ∷ c ∷ cs) = dot == 46 && (is_blank c || c == 92)
 is_remark (dot ∷ []) = false
 is_remark [] = false
 
+-- a byte is a carriage return
 abbrev pub is_return : ℕ → Bool
 is_return byte = byte == 13
 
@@ -23,15 +24,16 @@ is_return byte = byte == 13
 abbrev pub end_return : Bytes → Bytes → Option ℕ
 end_return line text = if is_return (slice_index line (length line - 1)) && length text == length line then Some 13 else None
 
--- its first byte past ASCII before its comment, or otherwise that carriage return
+-- the sign of a line, which is `text` without its comment: the first byte past ASCII of that text, or else the carriage return at the
+-- line's end
 abbrev pub first_sign : Bytes → Bytes → Option ℕ
 first_sign line text = option_or (find is_past_ascii text) (end_return line text)
 
--- the sign of a line, if it has one; in a script with directives one that says nothing has none
+-- the sign of a line, if it has one; in a script with directives (`dotted`) a directive that says nothing has none
 abbrev pub sign_of : Bool → Bytes → Option ℕ
 sign_of dotted line = if dotted && is_remark line then None else first_sign line (without_comment line)
 
--- the file has directives: its first byte is a dot
+-- a file has directives: its first byte is a dot
 abbrev pub is_dotted : Bytes → Bool
 is_dotted [] = false
 is_dotted (c ∷ cs) = c == 46
@@ -45,16 +47,17 @@ abbrev pub line_at : Bytes → ℕ → Bytes
 line_at bytes zero = []
 line_at bytes (suc k) = file_line bytes k
 
+-- a byte alone in a list; without a byte (none) the list is empty
 abbrev pub listed : Option ℕ → List ℕ
 listed None = []
 listed (Some byte) = byte ∷ []
 
--- the sign that is to be found in the line of a number, from 1
+-- the sign that is to be found in the line of a number, from 1, alone in a list; the list is empty if there is none
 abbrev pub signs_at : Bytes → ℕ → List ℕ
 signs_at bytes zero = []
 signs_at bytes (suc k) = listed (sign_of (is_dotted bytes) (file_line bytes k))
 
--- the sign of which a problem speaks
+-- the sign of which a problem speaks; 13 is a carriage return, and 239 the first byte of a byte order mark
 abbrev pub told_sign : Problem → Option ℕ
 told_sign (NotAscii byte) = Some byte
 told_sign (PrintedByte byte) = Some byte
@@ -67,10 +70,10 @@ told_sign problem = None
 abbrev pub is_at : ℕ → Finding → Bool
 is_at number one = one.line == number
 
--- the signs of which the problems of a line speak
+-- the signs of which the findings of the line of a number speak
 abbrev pub signs_told : ℕ → List Finding → List ℕ
 signs_told number found = flat_map (λ one. listed (told_sign one.problem)) (filter (is_at number) found)
 
--- of signs the same is said
+-- of each line the new findings speak of the same signs as the old ones
 abbrev pub SaysTheSame : List Finding → List Finding → Type 0
 SaysTheSame old new = (number : ℕ) → signs_told number new ≡ signs_told number old

@@ -8,7 +8,8 @@ use Rattle.ados_resident.specs.declared.commands.EnvCommand.TheVariants as env
 use Rattle.ados_resident.specs.declared.commands.FilesCommand.TheVariants as files
 use Rattle.ados_check.specs.declared.release_two.Command.{Command}
 
--- a command: its options that take nothing, a word, or a number; those of them that have no effect which matters here; and those that are not implemented
+-- a command with its options: those that take nothing (`switches`), a word (`values`) or a number (`numbers`); those of them that have no
+-- effect which matters here (`idle`); and those that are not implemented
 pub record Row : Type 0 where
   pub name : Bytes
   pub builtin : Builtin
@@ -18,6 +19,7 @@ pub record Row : Type 0 where
   pub idle : List Bytes
   pub unimplemented : List Bytes
 
+-- the commands of the Shell that have more options in Release 2, in order
 abbrev pub release_two : List Row
 release_two =
     record {
@@ -156,9 +158,11 @@ release_two =
       unimplemented = [];
     } ∷ []
 
+-- the bytes of names
 abbrev pub texts : List (Bor Bytes) → List Bytes
 texts names = map (λ (name : Bor Bytes). name.now) names
 
+-- a command with its options, as the code has it
 abbrev pub row_of : Command → Row
 row_of command =
     record {
@@ -171,6 +175,6 @@ row_of command =
       unimplemented = texts command.unimplemented.now;
     }
 
--- these are the commands, in order
+-- some commands of the code are those of the Shell that have more options in Release 2, in order
 abbrev pub AreReleaseTwo : List Command → Type 0
 AreReleaseTwo commands = map row_of commands ≡ release_two

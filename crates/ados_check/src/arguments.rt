@@ -1,8 +1,8 @@
-//! The words of a line as a command's arguments are read: redirections are skipped.
+//! The parts of a line: the words that a command reads as its arguments, and the names of redirections.
 
 ghost use Rattle.std.specs.Prelude.{◌≡◌, ◌==◌, ◌≤◌, length, false, true, IfOk, IfSome};
 ghost use Rattle.ados_items.specs.Items.{bytes_between, item_at};
-ghost use Rattle.ados_check.specs.Arguments.{argument_words, has_redirection, name_after, name_end, next_end_of_run, redirected_words, run_end, sign_width, word_at};
+ghost use Rattle.ados_check.specs.Arguments.{argument_of, argument_words, has_redirection, name_after, next_end_of_run, part_at, part_end, parts_of, redirected_of, redirected_words, run_end, sign_width, word_at};
 
 use ados_items::{Item, between, next_item, next_word};
 use std::alloc::{AllocError, Global};
@@ -27,52 +27,68 @@ impl Word {
     }
 }
 
-/// The words of a line that are not redirections, up to its end, to a comment or to a quote that is open.
+// A part of a line: a word, or what a redirection names.
+#[derive(Clone, Copy)]
+enum Part {
+    // A word that its command reads as an argument.
+    Argument(Word),
+    // The name of a redirection, after its sign.
+    Redirection(Word),
+}
+
+impl Part {
+    // Where it ends.
+    fn end(&self) -> usize
+        ensures { result ≡ part_end self.now }
+    {
+        match self {
+            Part::Argument(word) => word.to,
+            Part::Redirection(name) => name.to,
+        }
+    }
+
+    // The word, if it is an argument.
+    fn argument(&self) -> Option<Word>
+        ensures { result ≡ argument_of self.now }
+    {
+        match self {
+            Part::Argument(word) => Some(*word),
+            Part::Redirection(_) => None,
+        }
+    }
+
+    // The name, if it is that of a redirection.
+    fn redirected(&self) -> Option<Word>
+        ensures { result ≡ redirected_of self.now }
+    {
+        match self {
+            Part::Argument(_) => None,
+            Part::Redirection(name) => Some(*name),
+        }
+    }
+}
+
+/// The words of a line that its command reads as arguments: those that are no redirections, up to its end, to a comment, to a quote that is
+/// open or to a redirection without a name.
 pub fn argument_words(alloc: Global, line: &[u8]) -> Result<Vec<Word>, AllocError>
     ensures { IfOk result (λ words. words.items ≡ argument_words line.now) }
 {
-    let mut words = Vec::new(alloc);
-    let mut place = 0;
-    for step in 0..line.len() {
-        let Some(word) = word_at(line, place) else {
-            return Ok(words);
-        };
-        match sign_width(line, word) {
-            0 => {
-                words.push(word)?;
-                place = word.to;
-            }
-            width => match name_end(line, word.from + width) {
-                Some(to) => place = to,
-                None => return Ok(words),
-            },
-        }
-    }
-    Ok(words)
+    let parts = parts_of(alloc, line)?;
+    parts
+        .iter()
+        .filter_map(|part| part.argument())
+        .collect(alloc)
 }
 
 /// The names after the redirections of a line, as far as `argument_words` reads the line.
 pub fn redirected_words(alloc: Global, line: &[u8]) -> Result<Vec<Word>, AllocError>
     ensures { IfOk result (λ words. words.items ≡ redirected_words line.now) }
 {
-    let mut words = Vec::new(alloc);
-    let mut place = 0;
-    for step in 0..line.len() {
-        let Some(word) = word_at(line, place) else {
-            return Ok(words);
-        };
-        match sign_width(line, word) {
-            0 => place = word.to,
-            width => match name_after(line, word.from + width) {
-                Some(name) => {
-                    words.push(name)?;
-                    place = name.to;
-                }
-                None => return Ok(words),
-            },
-        }
-    }
-    Ok(words)
+    let parts = parts_of(alloc, line)?;
+    parts
+        .iter()
+        .filter_map(|part| part.redirected())
+        .collect(alloc)
 }
 
 /// A redirection is in the line.
@@ -92,6 +108,33 @@ pub fn has_redirection(line: &[u8]) -> bool
         }
     }
     false
+}
+
+// The parts of a line, up to its end, to a comment, to a quote that is open or to a redirection without a name.
+fn parts_of(alloc: Global, line: &[u8]) -> Result<Vec<Part>, AllocError>
+    ensures { IfOk result (λ parts. parts.items ≡ parts_of line.now) }
+{
+    let mut parts = Vec::new(alloc);
+    let mut place = 0;
+    for step in 0..line.len() {
+        let Some(part) = part_at(line, place) else {
+            return Ok(parts);
+        };
+        parts.push(part)?;
+        place = part.end();
+    }
+    Ok(parts)
+}
+
+// The first part of a line from a place on.
+fn part_at(line: &[u8], place: usize) -> Option<Part>
+    ensures { result ≡ part_at line.now place }
+{
+    let word = word_at(line, place)?;
+    match sign_width(line, word) {
+        0 => Some(Part::Argument(word)),
+        width => name_after(line, word.from + width).map(Part::Redirection),
+    }
 }
 
 // The word at a place.
@@ -173,17 +216,6 @@ fn name_after(line: &[u8], place: usize) -> Option<Word>
             name_to: from.saturating_sub(1),
             to: to + 1,
         }),
-        Item::Equal(_) | Item::End(_) | Item::Unmatched(_) => None,
-    }
-}
-
-// Where the name of a redirection ends.
-fn name_end(line: &[u8], place: usize) -> Option<usize>
-    ensures { result ≡ name_end (item_at false line.now place) }
-{
-    match next_word(line, place) {
-        Item::Word { to, .. } => Some(to),
-        Item::Quoted { to, .. } => Some(to + 1),
         Item::Equal(_) | Item::End(_) | Item::Unmatched(_) => None,
     }
 }
