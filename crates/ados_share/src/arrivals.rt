@@ -9,6 +9,7 @@ ghost use Rattle.ados_share.specs.Arrivals.{size_of_coming};
 ghost use Rattle.ados_share.specs.Records.{OthersStay, has_key};
 
 use crate::arrival_plan::ArrivalPlan;
+use crate::contents::digest;
 use crate::mirror::Mirror;
 use ados_ram::{Body, Entry, FileBytes, Ram};
 use ados_text::{NoMemory, Text};
@@ -194,7 +195,7 @@ impl Mirror {
                 .report_absent(arrival.key.as_str(), arrival.path.as_str());
         };
         if let Coming::File(bytes) = &arrival.coming {
-            self.contents.add_foreign(bytes)?;
+            self.contents.add_foreign(digest(bytes))?;
         }
         let record = Record {
             path: arrival.path,

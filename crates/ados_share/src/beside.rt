@@ -1,6 +1,6 @@
 //! What the script made beside the directories that are kept alike with folders, where no script of this run means anything to stay: this
 //! machine does not get it, so it may hold the only bytes of what the script deletes.
-ghost use Rattle.std.specs.Prelude.{◌≡◌, true, false, IfOk, OnOk, is_none, string_bytes};
+ghost use Rattle.std.specs.Prelude.{◌≡◌, true, false, [], IfOk, OnOk, string_bytes};
 ghost use Rattle.std.specs.Option.{is_some, option_map};
 
 use crate::account::Account;
@@ -40,21 +40,23 @@ impl Top {
         self.before.as_ref().and_then(|before| before.look(place))
     }
 
-    // The first file below a new name, unless a script names `RAM:`.
-    fn first_beside(&self, alloc: Global, files: &Ram) -> Result<Option<Place>, NoMemory>
-        ensures named { IfOk result (λ place. self.now.is_named ≡ true → is_none place ≡ true) }
+    // What stands at new names at the top, and below them, unless a script names `RAM:`.
+    fn beside(&self, alloc: Global, files: &Ram) -> Result<Vec<Place>, NoMemory>
+        ensures named { IfOk result (λ places. self.now.is_named ≡ true → places.items ≡ []) }
     {
+        let mut beside = Vec::new(alloc);
         if self.is_named {
-            return Ok(None);
+            return Ok(beside);
         }
-        for place in &files.children(&Place::root(alloc))? {
-            if self.entry(place).is_none()
-                && let Some(found) = first_file(files, place)?
-            {
-                return Ok(Some(found));
+        for place in files.children(&Place::root(alloc))? {
+            if self.entry(&place).is_none() {
+                for below in files.contents(&place)? {
+                    beside.push(below)?;
+                }
+                beside.push(place)?;
             }
         }
-        Ok(None)
+        Ok(beside)
     }
 }
 
@@ -71,12 +73,15 @@ impl Mirror {
         Ok(())
     }
 
-    /// A script names `RAM:`: it makes there what it will.
+    /// A script names `RAM:`: it makes there what it will, unless something stands beside already.
     pub fn allow_top(&mut self)
-        ensures named { self.new.top.is_named ≡ true }
+        ensures named { self.old.is_beside ≡ false → self.new.top.is_named ≡ true }
+        ensures held { self.old.is_beside ≡ true → self.new ≡ self.old }
         ensures rest { self.new ≡ record self.old { top = self.new.top } }
     {
-        self.top.is_named = true;
+        if !self.is_beside {
+            self.top.is_named = true;
+        }
     }
 
     // A file that stands beside all directories counts as not written: what it was made from is not deleted.
@@ -100,17 +105,29 @@ impl Mirror {
         Ok(())
     }
 
-    // The first file that stands beside all directories: above the top of a disk, or at the top of `RAM:`.
+    // The first file that stands beside all directories, above the top of a disk or at the top of `RAM:`, and has bytes that no file of the
+    // folders had.
     fn first_beside(&self, files: &Ram) -> Result<Option<Place>, TransferFault> {
+        let mut beside = self.top.beside(self.alloc, files)?;
         for volume in self.volumes.all() {
-            if let Some(place) = above(self.alloc, files, volume)?
-                .into_iter()
-                .find(|place| is_file(files, place))
-            {
+            for place in above(self.alloc, files, volume)? {
+                beside.push(place)?;
+            }
+        }
+        for place in beside {
+            if self.is_nowhere_else(files, &place) {
                 return Ok(Some(place));
             }
         }
-        Ok(self.top.first_beside(self.alloc, files)?)
+        Ok(None)
+    }
+
+    // A file with bytes is at a place, and none of the folders had them at the last comparison.
+    fn is_nowhere_else(&self, files: &Ram, place: &Place) -> bool {
+        match files.look(place).and_then(Entry::bytes) {
+            Some(bytes) => bytes.len() > 0 && self.original_of(files, bytes).is_none(),
+            None => false,
+        }
     }
 
     /// Reports of each device the first object that stands beside its directory: its path led above the top of a disk, where nothing can be on
@@ -137,22 +154,4 @@ fn above(alloc: Global, files: &Ram, volume: &Volume) -> Result<Vec<Place>, NoMe
     let mut places = files.contents(&above)?;
     places.retain(|place| !volume.has(place));
     Ok(places)
-}
-
-// The first file at a place, or below it.
-fn first_file(files: &Ram, place: &Place) -> Result<Option<Place>, NoMemory> {
-    if is_file(files, place) {
-        return Ok(Some(place.copy()?));
-    }
-    Ok(
-        files
-            .contents(place)?
-            .into_iter()
-            .find(|place| is_file(files, place)),
-    )
-}
-
-// A file is at a place.
-fn is_file(files: &Ram, place: &Place) -> bool {
-    files.look(place).is_some_and(|entry| !entry.is_directory())
 }

@@ -47,9 +47,9 @@ impl Contents {
         }
     }
 
-    /// Notes that bytes came in from a folder.
-    pub fn add_foreign(&mut self, bytes: &FileBytes) -> Result<(), NoMemory> {
-        self.foreign.insert(digest(bytes))?;
+    /// Notes that bytes of this digest came in from a folder.
+    pub fn add_foreign(&mut self, digest: u64) -> Result<(), NoMemory> {
+        self.foreign.insert(digest)?;
         Ok(())
     }
 

@@ -183,7 +183,8 @@ impl Mirror {
         Ok(())
     }
 
-    // Where the Shell has the file of a backup: one of the same bytes, or where it was moved if that is not written.
+    // Where the Shell has the file of a backup: one of the same bytes, or where it was moved if that is not written, or one with its bytes
+    // among others.
     pub(crate) fn elsewhere(
         &self,
         files: &Ram,
@@ -195,7 +196,10 @@ impl Mirror {
         if let Some(holder) = holders.first_with(&backup.bytes) {
             return Ok(Some(Elsewhere::Copy(self.copy_path(files, holder.place())?)));
         }
-        self.unwritten_elsewhere(files, backup.moved.as_ref())
+        match self.unwritten_elsewhere(files, backup.moved.as_ref())? {
+            Some(moved) => Ok(Some(moved)),
+            None => self.part_elsewhere(files, holders, &backup.bytes),
+        }
     }
 
     // A file of the folder has the bytes of a backup.

@@ -36,6 +36,7 @@ mod removals;
 mod renaming;
 mod reports;
 mod second_look;
+mod sought;
 mod spoils;
 mod start_place;
 mod syncs;
