@@ -111,9 +111,6 @@ impl<R: AllocGlobal + Files + Eprint + Processes + Clone + Drop + Clock, I: Read
         let Some(share) = share else {
             return Ok(());
         };
-        if self.checks.name_ram() {
-            share.allow_top();
-        }
         let is_ready = self.reader.has_brought();
         share.attend(self.rt, world, &mut self.launcher, session, is_ready)
     }

@@ -7,14 +7,13 @@ use crate::faults::Fault;
 use crate::origins::Origins;
 use crate::refusals::{refusal_of, report_all, strike_mends};
 use crate::script_turn::ScriptTurn;
-use crate::top_paths::{names_ram, push_top};
+use crate::top_paths::push_top;
 use ados_check::{Finding, check, merge_returns};
 use ados_launch::Next;
 use ados_ram::Place;
 use ados_text::{NoMemory, Text};
 use ados_trace::ScriptNames;
 use ados_world::World;
-use execute_options::Options;
 use std::alloc::Global;
 use std::io::Eprint;
 
@@ -36,26 +35,24 @@ pub struct Checks<'a> {
     has_calls: bool,
     // A script goes on after it could not call another one, which has a bad directive.
     has_lost_call: bool,
-    // The script of the command line, one that began or a line of `--type` names `RAM:`, or `--take` takes what is there.
-    names_ram: bool,
 }
 
 impl<'a> Checks<'a> {
-    /// The checks of scripts with these names, as the options want them; the script of the command line is at this place.
+    /// The checks of scripts with these names; the script of the command line is at this place.
     pub fn new(
-        options: &Options<'_>,
+        is_lenient: bool,
         origins: &'a Origins<'a>,
         script: &Place,
     ) -> Result<Checks<'a>, NoMemory> {
         let alloc = origins.alloc;
         let mut reported = Vec::new(alloc);
         let script = script.path(alloc)?;
-        if options.lenient {
+        if is_lenient {
             // What is found in it was reported before anything ran.
             reported.push(script.copy()?)?;
         }
         Ok(Checks {
-            is_lenient: options.lenient,
+            is_lenient,
             script,
             origins,
             reported,
@@ -63,14 +60,7 @@ impl<'a> Checks<'a> {
             runs: 0,
             has_calls: false,
             has_lost_call: false,
-            names_ram: !options.take.is_empty()
-                || options.typed.iter().any(|line| names_ram(line.as_bytes())),
         })
-    }
-
-    /// The options or a script that began name `RAM:`.
-    pub fn name_ram(&self) -> bool {
-        self.names_ram
     }
 
     /// A frame began in this shell.
@@ -143,9 +133,8 @@ impl<'a> Checks<'a> {
         if *turn.name == self.script {
             self.runs = self.runs.saturating_add(1);
         }
-        let lines = turn.frame.further();
-        self.has_calls = self.has_calls || !self.is_lenient && lines.iter().any(calls_by_name);
-        self.names_ram = self.names_ram || lines.iter().any(|line| names_ram(line.as_bytes()));
+        self.has_calls = self.has_calls
+            || !self.is_lenient && turn.frame.further().iter().any(calls_by_name);
     }
 
     // Checks the lines of a script that begins in a shell.

@@ -184,7 +184,7 @@ fn run_script<
         at_end: options.at_end,
         deadline: Deadline::after(rt, options.seconds),
         errors,
-        checks: Checks::new(options, &origins, &place)?,
+        checks: Checks::new(options.lenient, &origins, &place)?,
         teller: Teller::new(&origins, options.quiet),
         origins: &origins,
     };

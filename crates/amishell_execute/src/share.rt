@@ -86,11 +86,6 @@ impl Share {
         Ok(line)
     }
 
-    /// What is made at the top of `RAM:` is meant to be there: it holds no deletion back.
-    pub fn allow_top(&mut self) {
-        self.mirror.allow_top();
-    }
-
     /// Before an event: at a program's start, what changed is written to the folders; before its end is reported to the world,
     /// what changed in the folders is brought in. Now and then, and before this process may have to wait, what changed is written too.
     /// `is_ready`: the lines that bring files in were given.
@@ -120,6 +115,8 @@ impl Share {
             if is_ready && world.wants_line() {
                 self.bring_in(rt, world, launcher, session)?;
                 self.mirror.begin_beside(world.files())?;
+                // What the script makes at the top of `RAM:` holds nothing back: it may be a log, or a temporary file.
+                self.mirror.allow_top();
                 self.is_filled = true;
             }
             return Ok(());

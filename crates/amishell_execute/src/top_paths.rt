@@ -1,9 +1,9 @@
 //! Paths that begin with a colon. On an Amiga they begin at the top of the current disk, here at that of `RAM:`, so what a script makes there
-//! is not in a shared folder, and is gone at the end. Who names `RAM:` knows that.
+//! is not in a shared folder, and is gone at the end.
 
 use ados_check::{Finding, Problem, names_top};
 use ados_resident::Dialect;
-use ados_text::{NoMemory, Text, same_name};
+use ados_text::{NoMemory, Text};
 use std::alloc::Global;
 
 /// Adds the first of a script's lines that has such a path, if one has.
@@ -22,25 +22,6 @@ pub fn push_top(
         }
     }
     Ok(())
-}
-
-/// A line names `RAM:`, in whatever place.
-pub fn names_ram(line: &[u8]) -> bool {
-    let mut is_within = false;
-    for (place, byte) in line.iter().enumerate() {
-        let rest = line.get(place..).unwrap_or(&[]);
-        if !is_within && (begins_with(rest, b"RAM:") || begins_with(rest, b"Ram Disk:")) {
-            return true;
-        }
-        is_within = matches!(*byte, b'A'..=b'Z' | b'a'..=b'z' | b'0'..=b'9');
-    }
-    false
-}
-
-// A text begins with this name, in upper or lower case.
-fn begins_with(text: &[u8], name: &[u8]) -> bool {
-    text.get(..name.len())
-        .is_some_and(|begin| same_name(begin, name))
 }
 
 /// The problem is such a path.
