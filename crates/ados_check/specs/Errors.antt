@@ -63,8 +63,8 @@ EndsScript dialect command args sample number = (shared : SharedState) (view : V
 abbrev pub IsHere : List Text → List Text → ℕ → (Text → Type 0) → Type 0
 IsHere lines sample number P = (line : Text) × (line_of lines number ≡ Some line) × (line_of sample number ≡ Some line) × P line
 
--- with some arguments, for which the script's lines are the sample, the line of a number stays as it is written, and P holds of the sample
--- and of that line
+-- With some arguments, for which the script's lines are the sample, the line of a number stays as it is written, and P holds of the sample
+-- and of that line. It need not be so with all arguments: an error is found for one call of the script.
 abbrev pub IsLine : List Text → ℕ → (List Text → Text → Type 0) → Type 0
 IsLine lines number P = (sample : List Text) × IsSample lines sample × IsHere lines sample number (P sample)
 

@@ -47,7 +47,8 @@ next_in_phase w k shell Ready = expansion_of_line w shell (line_to_take shell.fr
 next_in_phase w k shell (GoingOn parted) = Some (resume_line parted.before parted.output parted.after)
 next_in_phase w k shell (Waiting wait) = None
 
--- the frames in which this shell's next line is done, if it is in this phase: in the phase Ready the newest has taken the line
+-- The frames in which this shell's next line is done, if it is in this phase. In the phase Ready the newest has taken the line; the rest of
+-- a line was taken before; a shell that waits does nothing, so that its frames stay.
 abbrev pub frames_in_phase : ShellState → Phase → List FrameState
 frames_in_phase shell Ready = frames_taken shell.frames
 frames_in_phase shell (GoingOn parted) = shell.frames

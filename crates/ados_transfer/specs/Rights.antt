@@ -10,7 +10,7 @@ use Rattle.ados_transfer.specs.declared.manner.Manner.TheVariants.{Plain, Execut
 abbrev pub has_right : ℕ → ℕ → Bool
 has_right mode right = not (bit_and mode right == 0)
 
--- group and others may enter a folder; its group may
+-- group and others may enter a folder
 abbrev pub may_all_enter : Rights → Bool
 may_all_enter folder = has_right folder.mode 0o010 && has_right folder.mode 0o001
 
@@ -18,7 +18,8 @@ may_all_enter folder = has_right folder.mode 0o010 && has_right folder.mode 0o00
 abbrev pub group_enters : Owner → Rights → Bool
 group_enters owner folder = has_right folder.mode 0o010 && folder.owner.group == owner.group
 
--- the rights that a file of this owner gives to those alone who can enter a folder
+-- The rights that are left of the mode of a file of this owner in a folder: group and others have none if they can't enter it. The user,
+-- whose file it is, keeps all.
 abbrev pub left_within : Owner → Rights → ℕ
 left_within owner folder = if may_all_enter folder then 0o777 else if group_enters owner folder then 0o770 else 0o700
 
