@@ -75,6 +75,15 @@ impl Backups {
         self.by_path.values().find(|backup| backup.bytes == *bytes)
     }
 
+    /// What the files held of which they are, or that were deleted or written over.
+    pub fn contents(&self) -> Result<Vec<FileBytes>, NoMemory> {
+        let mut contents = Vec::new(self.alloc);
+        for backup in self.by_path.values().chain(self.deleted.iter()) {
+            contents.push(backup.bytes.clone()?)?;
+        }
+        Ok(contents)
+    }
+
     /// What is at or below a place of the Shell's files gives way to what comes in: if it is the other copy of one of them, that is no
     /// deletion by the script.
     pub fn note_replaced(&mut self, files: &Ram, place: &Place) -> Result<(), NoMemory> {
@@ -192,14 +201,16 @@ impl Mirror {
         files: &Ram,
         account: &mut Account,
     ) -> Result<(), TransferFault> {
-        if !account.is_meanwhile() {
-            self.renew_backups(rt, files)?;
-            self.restore_deleted(rt, files)?;
-        }
-        if self.backups.by_path.is_empty() {
+        if self.backups.by_path.is_empty() && self.backups.deleted.is_empty() {
             return Ok(());
         }
-        let holders = self.holders(files)?;
+        let mut holders = self.holders(files)?;
+        let contents = self.backups.contents()?;
+        self.look_for(&mut holders, contents)?;
+        if !account.is_meanwhile() {
+            self.renew_backups(rt, files, &holders)?;
+            self.restore_deleted(rt, files, &holders)?;
+        }
         let mut over = Vec::new(self.alloc);
         let mut remainders = Vec::new(self.alloc);
         for (path, backup) in &self.backups.by_path {

@@ -142,14 +142,14 @@ impl Mirror {
         &mut self,
         rt: &R,
         files: &Ram,
+        holders: &Holders<'_>,
     ) -> Result<(), TransferFault> {
         for (path, backup) in self.backups.take_lost(rt)? {
-            let holders = self.holders(files)?;
-            let elsewhere = self.elsewhere(files, &holders, &backup)?;
+            let elsewhere = self.elsewhere(files, holders, &backup)?;
             if elsewhere.is_some() && !self.is_in_folder(rt, &backup)? {
                 self.restore(rt, backup)?;
             } else {
-                self.note_former(files, &holders, backup)?;
+                self.note_former(files, holders, backup)?;
             }
             if fs::symlink_metadata(rt, path.as_str()).is_ok() {
                 self.report_temporary(path)?;
@@ -164,17 +164,14 @@ impl Mirror {
         &mut self,
         rt: &R,
         files: &Ram,
+        holders: &Holders<'_>,
     ) -> Result<(), TransferFault> {
-        if self.backups.deleted.is_empty() {
-            return Ok(());
-        }
-        let holders = self.holders(files)?;
         let deleted = mem::replace(&mut self.backups.deleted, Vec::new(self.alloc));
         for backup in deleted {
-            if !self.is_in_memory(files, &holders, &backup)? {
+            if !self.is_in_memory(files, holders, &backup)? {
                 continue;
             }
-            if self.is_in_folder(rt, &backup)? || self.has_needed(files, &holders, &backup.bytes)? {
+            if self.is_in_folder(rt, &backup)? || self.has_needed(files, holders, &backup.bytes)? {
                 self.backups.deleted.push(backup)?;
             } else {
                 self.restore(rt, backup)?;

@@ -86,6 +86,11 @@ impl<'a> Departure<'a> {
         }
     }
 
+    /// What was there goes, and it is not known yet if the Shell has it elsewhere.
+    pub fn may_be_elsewhere(&self) -> bool {
+        !self.is_new && self.elsewhere.is_none()
+    }
+
     /// What was there is gone, or of another kind.
     pub fn is_gone(&self) -> bool {
         !self.is_new && (self.entry.is_none() || self.changes_kind)

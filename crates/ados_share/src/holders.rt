@@ -6,6 +6,7 @@ ghost use Rattle.ados_share.specs.Contents.{has_bytes};
 use crate::contents::digest;
 use crate::departure::Departure;
 use crate::mirror::Mirror;
+use crate::sought::Sought;
 use ados_ram::{FileBytes, Place, Ram};
 use ados_text::NoMemory;
 use ados_transfer::TransferFault;
@@ -36,6 +37,8 @@ impl Holder<'_> {
 pub struct Holders<'a> {
     inside: Index<'a>,
     outside: Index<'a>,
+    // What was looked for in them.
+    parts: Sought,
 }
 
 // An index of files, each among those whose bytes have the same digest, in the order in which they were added.
@@ -115,6 +118,16 @@ impl<'a> Holders<'a> {
         self.outside.first_with(bytes).is_some()
     }
 
+    /// The file outside of the directory in which bytes stand among others, of those that were looked for.
+    pub fn place_of_part(&self, bytes: &FileBytes) -> Option<&Place> {
+        self.parts.place_of(bytes)
+    }
+
+    /// What was looked for, with where it was found.
+    pub fn set_parts(&mut self, parts: Sought) {
+        self.parts = parts;
+    }
+
     /// All files outside of the directory.
     pub fn outside(&self) -> Result<Vec<&Holder<'a>>, NoMemory> {
         self.outside.all()
@@ -151,6 +164,7 @@ impl Mirror {
         let mut holders = Holders {
             inside: Index::new(self.alloc),
             outside: Index::new(self.alloc),
+            parts: Sought::empty(self.alloc),
         };
         for place in files.contents(&Place::root(self.alloc))? {
             let Some(bytes) = files.look(&place).and_then(|entry| entry.bytes()) else {

@@ -94,7 +94,7 @@ impl Mirror {
         {
             return Ok(());
         }
-        let holders = self.holders(files)?;
+        let mut holders = self.holders(files)?;
         for (key, departure) in &mut departures.by_key {
             let is_moved = departure.is_within_kind_change || is_dry;
             if let Some(bytes) = bytes_of(&self.records, key.as_str()) {
@@ -104,7 +104,7 @@ impl Mirror {
                 };
             }
         }
-        self.find_parts(files, &holders, departures)
+        self.find_parts(files, &mut holders, departures)
     }
 
     // The path of a file of the Shell, for lines.

@@ -97,7 +97,8 @@ impl Mirror {
         Ok(())
     }
 
-    // The Shell has the bytes of a backup outside of the directory, or its file where it was moved, if that is not written.
+    // The Shell has the bytes of a backup outside of the directory, as a whole or among others, or its file where it was moved, if that is
+    // not written.
     pub(crate) fn is_in_memory(
         &self,
         files: &Ram,
@@ -107,7 +108,11 @@ impl Mirror {
         ensures gave_way { backup.now.moved ≡ Some Destination.Replaced → IfOk result (λ is. is ≡ true) }
     {
         let moved = self.unwritten_elsewhere(files, backup.moved.as_ref())?;
-        Ok(moved.is_some() || holders.has_outside(&backup.bytes))
+        Ok(
+            moved.is_some()
+                || holders.has_outside(&backup.bytes)
+                || holders.place_of_part(&backup.bytes).is_some(),
+        )
     }
 
     // Where the Shell has the file of a backup, or one that was moved, which had the same bytes and has no backup of its own.

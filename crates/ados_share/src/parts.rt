@@ -17,110 +17,70 @@ use ados_transfer::TransferFault;
 const LEAST: usize = 16;
 
 impl Mirror {
-    // Of each file that is to be deleted or written over it is noted if its bytes stand in a file outside of the directory. What the script
-    // made in the directory of such bytes counts as come in, as they did.
+    // Of each file that is to be deleted or written over, and that the Shell has nowhere as it is, it is noted if its bytes stand in a file
+    // outside of the directory.
     pub(crate) fn find_parts(
         &mut self,
         files: &Ram,
-        holders: &Holders<'_>,
+        holders: &mut Holders<'_>,
         departures: &mut Departures<'_>,
     ) -> Result<(), TransferFault> {
-        for heir in self.note_parts(files, holders, departures)? {
-            self.contents.add_foreign(heir)?;
+        let mut contents = Vec::new(self.alloc);
+        for (key, departure) in &departures.by_key {
+            if departure.may_be_elsewhere()
+                && let Some(bytes) = bytes_of(&self.records, key.as_str())
+            {
+                contents.push(bytes.clone()?)?;
+            }
+        }
+        self.look_for(holders, contents)?;
+        for (key, departure) in &mut departures.by_key {
+            if departure.may_be_elsewhere()
+                && let Some(bytes) = bytes_of(&self.records, key.as_str())
+            {
+                departure.elsewhere = self.part_elsewhere(files, holders, bytes)?;
+            }
         }
         Ok(())
     }
 
-    // The same; gives the digests of the files in the directory in which such bytes stand.
-    fn note_parts(
-        &self,
-        files: &Ram,
-        holders: &Holders<'_>,
-        departures: &mut Departures<'_>,
-    ) -> Result<Vec<u64>, TransferFault> {
-        let mut heirs = Vec::new(self.alloc);
-        let mut sought = self.sought(departures)?;
-        if sought.parts.is_empty() {
-            return Ok(heirs);
-        }
-        self.find_outside(files, holders, &mut sought)?;
-        for holder in new_ones(&self.top, holders.inside()?) {
-            let places = sought.within(holder.bytes())?;
-            if !places.is_empty() {
-                heirs.push(digest(holder.bytes()))?;
-            }
-            for place in &places {
-                sought.note(*place, None);
-            }
-        }
-        for part in &mut sought.parts {
-            if let Some(departure) = departures.by_key.get_mut(part.key.as_str())
-                && let Some(path) = part.found.take()
-            {
-                departure.elsewhere = Some(Elsewhere::Part(path));
-            }
-        }
-        Ok(heirs)
-    }
-
-    // Where the Shell has these bytes, if they came in from the folder, and stand in a file outside of the directory and in none that is in it.
+    // Where the Shell has these bytes among others, of those that were looked for.
     pub(crate) fn part_elsewhere(
         &self,
         files: &Ram,
         holders: &Holders<'_>,
         bytes: &FileBytes,
     ) -> Result<Option<Elsewhere>, TransferFault> {
-        if !self.may_be_part(bytes) {
-            return Ok(None);
+        match holders.place_of_part(bytes) {
+            Some(place) => Ok(Some(Elsewhere::Part(self.copy_path(files, place)?))),
+            None => Ok(None),
         }
-        let mut sought = Sought::new(self.alloc);
-        sought.add("", bytes)?;
-        self.find_outside(files, holders, &mut sought)?;
-        let Some(path) = sought.parts.first_mut().and_then(|part| part.found.take()) else {
-            return Ok(None);
-        };
+    }
+
+    // Looks for contents in the files of the Shell that are not as they were at the beginning: those that came in from the folder, and stand
+    // in a file outside of the directory and in none that is in it. What the script made in the directory of such contents counts as come
+    // in, as they did.
+    pub(crate) fn look_for(
+        &mut self,
+        holders: &mut Holders<'_>,
+        contents: Vec<FileBytes>,
+    ) -> Result<(), NoMemory> {
+        let mut contents = contents;
+        contents.retain(|bytes| bytes.len() >= LEAST && self.contents.are_foreign(bytes));
+        let outside = new_ones(&self.top, holders.outside()?);
+        if contents.is_empty() || outside.is_empty() {
+            return Ok(());
+        }
+        let mut sought = Sought::new(self.alloc, contents)?;
+        for holder in outside {
+            sought.note_in(holder.place(), holder.bytes())?;
+        }
         for holder in new_ones(&self.top, holders.inside()?) {
-            if !sought.within(holder.bytes())?.is_empty() {
-                return Ok(None);
+            if sought.leave_out(holder.bytes())? {
+                self.contents.add_foreign(digest(holder.bytes()))?;
             }
         }
-        Ok(Some(Elsewhere::Part(path)))
-    }
-
-    // What is to be looked for: the bytes of the files that are to be deleted or written over, and that the Shell has nowhere as they are.
-    fn sought(&self, departures: &Departures<'_>) -> Result<Sought<'_>, NoMemory> {
-        let mut sought = Sought::new(self.alloc);
-        for (key, departure) in &departures.by_key {
-            if departure.is_new || departure.elsewhere.is_some() {
-                continue;
-            }
-            if let Some(bytes) = bytes_of(&self.records, key.as_str())
-                && self.may_be_part(bytes)
-            {
-                sought.add(key.as_str(), bytes)?;
-            }
-        }
-        Ok(sought)
-    }
-
-    // Bytes came in from the folder, and there are enough of them.
-    fn may_be_part(&self, bytes: &FileBytes) -> bool {
-        bytes.len() >= LEAST && self.contents.are_foreign(bytes)
-    }
-
-    // Notes which parts stand in files outside of the directory that are not as they were at the beginning.
-    fn find_outside(
-        &self,
-        files: &Ram,
-        holders: &Holders<'_>,
-        sought: &mut Sought<'_>,
-    ) -> Result<(), TransferFault> {
-        for holder in new_ones(&self.top, holders.outside()?) {
-            for place in &sought.within(holder.bytes())? {
-                let path = self.copy_path(files, holder.place())?;
-                sought.note(*place, Some(path));
-            }
-        }
+        holders.set_parts(sought);
         Ok(())
     }
 }
