@@ -31,7 +31,9 @@ abbrev pub has_stand_in : Option Entry → Bytes → Bool
 has_stand_in None comment = false
 has_stand_in (Some entry) comment = is_stand_in_of entry comment
 
--- what is there has the stamp of the last comparison; of a file a later change might have left the same one
+-- What is there has the stamp of the last comparison. Of a file that was fresh then a later change might have left the same stamp, so that
+-- its bytes are compared again. Of a large one there are no bytes to compare: its stand-in has nothing but the stamp, and if that is gone in
+-- the Shell the file is looked at again.
 abbrev pub has_last_stamp : Files → Record → Seen → Last → Kind → Bool
 has_last_stamp files object seen Directory Folder = true
 has_last_stamp files object seen (File bytes) (AnyFile is_executable) = not object.is_fresh && is_same_stamp object.stamp seen.stamp

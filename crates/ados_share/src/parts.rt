@@ -67,16 +67,17 @@ impl Mirror {
     ) -> Result<(), NoMemory> {
         let mut contents = contents;
         contents.retain(|bytes| bytes.len() >= LEAST && self.contents.are_foreign(bytes));
-        let outside = new_ones(&self.top, holders.outside()?);
-        if contents.is_empty() || outside.is_empty() {
+        if contents.is_empty() {
             return Ok(());
         }
         let mut sought = Sought::new(self.alloc, contents)?;
-        for holder in outside {
+        for holder in new_ones(&self.top, holders.outside()?) {
             sought.note_in(holder.place(), holder.bytes())?;
         }
+        let has_found = sought.has_found();
         for holder in new_ones(&self.top, holders.inside()?) {
-            if sought.leave_out(holder.bytes())? {
+            let is_foreign = self.contents.are_foreign(holder.bytes());
+            if (has_found || !is_foreign) && sought.leave_out(holder.bytes())? {
                 self.contents.add_foreign(digest(holder.bytes()))?;
             }
         }

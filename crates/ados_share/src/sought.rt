@@ -110,9 +110,9 @@ impl Sought {
         Ok(())
     }
 
-    /// Nothing is looked for.
-    pub fn is_empty(&self) -> bool {
-        self.parts.is_empty()
+    /// Some of it was found.
+    pub fn has_found(&self) -> bool {
+        self.parts.iter().any(|part| part.found.is_some())
     }
 
     /// The file in which contents stand among others.
