@@ -1,7 +1,7 @@
 //! Files of the folder whose bytes stand among others in a file that the script made outside of the directories, as Join makes them: one is
 //! not deleted, and nothing takes its place, while no other file has its bytes.
 
-use crate::beside::Top;
+use crate::beginning::Beginning;
 use crate::contents::digest;
 use crate::departure::Departures;
 use crate::elsewhere::Elsewhere;
@@ -44,7 +44,7 @@ impl Mirror {
             return Ok(heirs);
         }
         self.find_outside(files, holders, &mut sought)?;
-        for holder in new_ones(&self.top, holders.inside()?) {
+        for holder in new_ones(&self.beginning, holders.inside()?) {
             let places = sought.within(holder.bytes())?;
             if !places.is_empty() {
                 heirs.push(digest(holder.bytes()))?;
@@ -79,7 +79,7 @@ impl Mirror {
         let Some(path) = sought.parts.first_mut().and_then(|part| part.found.take()) else {
             return Ok(None);
         };
-        for holder in new_ones(&self.top, holders.inside()?) {
+        for holder in new_ones(&self.beginning, holders.inside()?) {
             if !sought.within(holder.bytes())?.is_empty() {
                 return Ok(None);
             }
@@ -115,7 +115,7 @@ impl Mirror {
         holders: &Holders<'_>,
         sought: &mut Sought<'_>,
     ) -> Result<(), TransferFault> {
-        for holder in new_ones(&self.top, holders.outside()?) {
+        for holder in new_ones(&self.beginning, holders.outside()?) {
             for place in &sought.within(holder.bytes())? {
                 let path = self.copy_path(files, holder.place())?;
                 sought.note(*place, Some(path));
@@ -126,8 +126,8 @@ impl Mirror {
 }
 
 // Those of some files that are not as they were at the beginning.
-fn new_ones<'h, 'a>(top: &Top, holders: Vec<&'h Holder<'a>>) -> Vec<&'h Holder<'a>> {
+fn new_ones<'h, 'a>(beginning: &Beginning, holders: Vec<&'h Holder<'a>>) -> Vec<&'h Holder<'a>> {
     let mut holders = holders;
-    holders.retain(|holder| !top.had(holder.place(), holder.bytes()));
+    holders.retain(|holder| !beginning.had(holder.place(), holder.bytes()));
     holders
 }
