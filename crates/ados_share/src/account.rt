@@ -134,13 +134,6 @@ impl Account {
         self.unwritten.is_some()
     }
 
-    /// Something that the folders are to have is not written; if the first of what is not written stands beside their directories, it counts only
-    /// where something is not deleted because of it.
-    pub fn lacks(&self, is_beside: bool) -> bool {
-        let is_unwritten = self.has_unwritten() && !is_beside;
-        is_unwritten || !self.unwritten_files.is_empty() || !self.left_out.is_empty()
-    }
-
     /// Something is not deleted because of that.
     pub fn is_holding(&self) -> bool
         ensures { result ≡ is_some self.now.held }

@@ -1,114 +1,43 @@
-//! What the script made beside the directories that are kept alike with folders, where no script of this run means anything to stay: this
-//! machine does not get it, so it may hold the only bytes of what the script deletes.
-ghost use Rattle.std.specs.Prelude.{◌≡◌, true, false, [], IfOk, OnOk, string_bytes};
+//! What the script made above the top of a disk, beside the directory that is kept alike with a folder: this machine does not get it, so it
+//! may hold the only bytes of what the script deletes.
+ghost use Rattle.std.specs.Prelude.{◌≡◌, true, OnOk, string_bytes};
 ghost use Rattle.std.specs.Option.{is_some, option_map};
 
 use crate::account::Account;
 use crate::mirror::Mirror;
-use ados_ram::{Entry, FileBytes, Place, Ram};
+use ados_ram::{Entry, Place, Ram};
 use ados_text::NoMemory;
 use ados_transfer::{TransferFault, Volume, shell_path, spelled};
 use std::alloc::Global;
 
-/// The Shell's files as the script finds them, and whether it may make others at the top of `RAM:`.
-#[derive(Drop)]
-pub struct Top {
-    // The files at the beginning; before it none are known. What stands below a new name at the top is beside all directories that have a use.
-    before: Option<Ram>,
-    // A script names `RAM:`: what it makes there is as short-lived as it means it to be.
-    is_named: bool,
-}
-
-impl Top {
-    /// Nothing was there, and nothing is beside.
-    pub fn empty() -> Top {
-        Top {
-            before: None,
-            is_named: true,
-        }
-    }
-
-    /// A file at this place had these bytes at the beginning.
-    pub fn had(&self, place: &Place, bytes: &FileBytes) -> bool {
-        self.entry(place)
-            .and_then(Entry::bytes)
-            .is_some_and(|old| old == bytes)
-    }
-
-    // What was at a place at the beginning.
-    fn entry(&self, place: &Place) -> Option<&Entry> {
-        self.before.as_ref().and_then(|before| before.look(place))
-    }
-
-    // What stands at new names at the top, and below them, unless a script names `RAM:`.
-    fn beside(&self, alloc: Global, files: &Ram) -> Result<Vec<Place>, NoMemory>
-        ensures named { IfOk result (λ places. self.now.is_named ≡ true → places.items ≡ []) }
-    {
-        let mut beside = Vec::new(alloc);
-        if self.is_named {
-            return Ok(beside);
-        }
-        for place in files.children(&Place::root(alloc))? {
-            if self.entry(&place).is_none() {
-                for below in files.contents(&place)? {
-                    beside.push(below)?;
-                }
-                beside.push(place)?;
-            }
-        }
-        Ok(beside)
-    }
-}
-
 impl Mirror {
-    /// What is at the top of `RAM:` now has its use there. From now on a file that is made beside it keeps all that the script deletes,
-    /// until a script names `RAM:`.
-    pub fn begin_beside(&mut self, files: &Ram) -> Result<(), NoMemory>
-        ensures begun { OnOk result (self.new.top.is_named ≡ false) }
+    // A file that stands above the top of a disk, and nowhere else, counts as not written: what it was made from is not deleted.
+    pub(crate) fn owe_beside(&self, files: &Ram, account: &mut Account) -> Result<(), TransferFault>
+        ensures kept { is_some account.old.unwritten ≡ true → account.new ≡ account.old }
+        ensures rest { account.new ≡ record account.old { unwritten = account.new.unwritten } }
     {
-        self.top = Top {
-            before: Some(files.copy()?),
-            is_named: false,
-        };
-        Ok(())
-    }
-
-    /// A script names `RAM:`: it makes there what it will, unless something stands beside already.
-    pub fn allow_top(&mut self)
-        ensures named { self.old.is_beside ≡ false → self.new.top.is_named ≡ true }
-        ensures held { self.old.is_beside ≡ true → self.new ≡ self.old }
-        ensures rest { self.new ≡ record self.old { top = self.new.top } }
-    {
-        if !self.is_beside {
-            self.top.is_named = true;
-        }
-    }
-
-    // A file that stands beside all directories counts as not written: what it was made from is not deleted.
-    #[tactic(auto, using(crate::proofs::AccountLemmas::first_is_some))]
-    pub(crate) fn owe_beside(
-        &mut self,
-        files: &Ram,
-        account: &mut Account,
-    ) -> Result<(), TransferFault>
-        ensures owed { OnOk result (self.new.is_beside ≡ true → is_some (option_map string_bytes account.new.unwritten) ≡ true) }
-    {
-        self.is_beside = false;
         if account.has_unwritten() {
             return Ok(());
         }
-        if let Some(place) = self.first_beside(files)? {
-            let path = shell_path(self.alloc, &files.written(&place)?)?;
-            account.add_unwritten(path.as_str())?;
-            self.is_beside = true;
+        match self.first_beside(files)? {
+            Some(place) => self.owe_at(files, &place, account),
+            None => Ok(()),
         }
-        Ok(())
     }
 
-    // The first file that stands beside all directories, above the top of a disk or at the top of `RAM:`, and has bytes that no file of the
-    // folders had.
+    // What stands at a place counts as not written.
+    #[tactic(auto, using(crate::proofs::AccountLemmas::first_is_some))]
+    fn owe_at(&self, files: &Ram, place: &Place, account: &mut Account) -> Result<(), TransferFault>
+        ensures owed { OnOk result (is_some (option_map string_bytes account.new.unwritten) ≡ true) }
+        ensures rest { account.new ≡ record account.old { unwritten = account.new.unwritten } }
+    {
+        let path = shell_path(self.alloc, &files.written(place)?)?;
+        account.add_unwritten(path.as_str())
+    }
+
+    // The first file that stands above the top of a disk and has bytes that no file of the folders had.
     fn first_beside(&self, files: &Ram) -> Result<Option<Place>, TransferFault> {
-        let mut beside = self.top.beside(self.alloc, files)?;
+        let mut beside = Vec::new(self.alloc);
         for volume in self.volumes.all() {
             for place in above(self.alloc, files, volume)? {
                 beside.push(place)?;

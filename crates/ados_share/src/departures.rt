@@ -283,7 +283,7 @@ impl Mirror {
             return Ok(());
         }
         self.is_holding = account.is_holding();
-        self.is_lacking = account.lacks(self.is_beside);
+        self.is_lacking = account.has_unwritten() || !account.left_out.is_empty();
         if account.moment == Moment::End {
             for one in &account.left_out {
                 let text = format!(in self.alloc; "not written, since {}", one.reason)?;

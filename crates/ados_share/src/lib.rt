@@ -7,6 +7,7 @@ mod arrival_plan;
 mod arrivals;
 mod asides;
 mod backups;
+mod beginning;
 mod beside;
 mod changes;
 mod contents;

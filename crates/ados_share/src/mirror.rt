@@ -5,7 +5,7 @@ ghost use Rattle.std.specs.String.{string_cmp};
 ghost use Rattle.ados_share.specs.Records.{Sets};
 
 use crate::backups::Backups;
-use crate::beside::Top;
+use crate::beginning::Beginning;
 use crate::contents::Contents;
 use crate::last_copies::Waiting;
 use crate::moves::Moves;
@@ -48,10 +48,8 @@ pub struct Mirror {
     pub(crate) is_holding: bool,
     // At the last comparison the Shell had something that was not written.
     pub(crate) is_lacking: bool,
-    // The top of `RAM:`, and what stands beside what it had.
-    pub(crate) top: Top,
-    // At the last comparison nothing counted as not written before the update but a file that stands beside all directories.
-    pub(crate) is_beside: bool,
+    // The Shell's files as the script finds them.
+    pub(crate) beginning: Beginning,
     // The first object because of which no program starts after the last update.
     pub(crate) refused: Option<String>,
     // The first object of the Shell that gave way to this machine's at this look.
@@ -82,8 +80,7 @@ impl Mirror {
             has_begun: false,
             is_holding: false,
             is_lacking: false,
-            top: Top::empty(),
-            is_beside: false,
+            beginning: Beginning::new(),
             refused: None,
             overruled: None,
         })

@@ -1,7 +1,7 @@
 //! Files of the folder whose bytes stand among others in a file that the script made outside of the directories, as Join makes them: one is
 //! not deleted, and nothing takes its place, while no other file has its bytes.
 
-use crate::beside::Top;
+use crate::beginning::Beginning;
 use crate::contents::digest;
 use crate::departure::Departures;
 use crate::elsewhere::Elsewhere;
@@ -71,11 +71,11 @@ impl Mirror {
             return Ok(());
         }
         let mut sought = Sought::new(self.alloc, contents)?;
-        for holder in new_ones(&self.top, holders.outside()?) {
+        for holder in new_ones(&self.beginning, holders.outside()?) {
             sought.note_in(holder.place(), holder.bytes())?;
         }
         let has_found = sought.has_found();
-        for holder in new_ones(&self.top, holders.inside()?) {
+        for holder in new_ones(&self.beginning, holders.inside()?) {
             let is_foreign = self.contents.are_foreign(holder.bytes());
             if (has_found || !is_foreign) && sought.leave_out(holder.bytes())? {
                 self.contents.add_foreign(digest(holder.bytes()))?;
@@ -87,8 +87,8 @@ impl Mirror {
 }
 
 // Those of some files that are not as they were at the beginning.
-fn new_ones<'h, 'a>(top: &Top, holders: Vec<&'h Holder<'a>>) -> Vec<&'h Holder<'a>> {
+fn new_ones<'h, 'a>(beginning: &Beginning, holders: Vec<&'h Holder<'a>>) -> Vec<&'h Holder<'a>> {
     let mut holders = holders;
-    holders.retain(|holder| !top.had(holder.place(), holder.bytes()));
+    holders.retain(|holder| !beginning.had(holder.place(), holder.bytes()));
     holders
 }

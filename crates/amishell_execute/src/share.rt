@@ -114,9 +114,7 @@ impl Share {
         if !self.is_filled {
             if is_ready && world.wants_line() {
                 self.bring_in(rt, world, launcher, session)?;
-                self.mirror.begin_beside(world.files())?;
-                // What the script makes at the top of `RAM:` holds nothing back: it may be a log, or a temporary file.
-                self.mirror.allow_top();
+                self.mirror.note_beginning(world.files())?;
                 self.is_filled = true;
             }
             return Ok(());
