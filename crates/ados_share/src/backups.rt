@@ -75,15 +75,6 @@ impl Backups {
         self.by_path.values().find(|backup| backup.bytes == *bytes)
     }
 
-    /// What the files held of which they are, or that were deleted or written over.
-    pub fn contents(&self) -> Result<Vec<FileBytes>, NoMemory> {
-        let mut contents = Vec::new(self.alloc);
-        for backup in self.by_path.values().chain(self.deleted.iter()) {
-            contents.push(backup.bytes.clone()?)?;
-        }
-        Ok(contents)
-    }
-
     /// What is at or below a place of the Shell's files gives way to what comes in: if it is the other copy of one of them, that is no
     /// deletion by the script.
     pub fn note_replaced(&mut self, files: &Ram, place: &Place) -> Result<(), NoMemory> {
@@ -205,7 +196,7 @@ impl Mirror {
             return Ok(());
         }
         let mut holders = self.holders(files)?;
-        let contents = self.backups.contents()?;
+        let contents = self.contents_of_backups()?;
         self.look_for(&mut holders, contents)?;
         if !account.is_meanwhile() {
             self.renew_backups(rt, files, &holders)?;
@@ -215,7 +206,7 @@ impl Mirror {
         let mut remainders = Vec::new(self.alloc);
         for (path, backup) in &self.backups.by_path {
             let elsewhere = self.needed_for(files, &holders, backup)?;
-            let in_folder = self.is_in_folder(rt, backup)?;
+            let in_folder = self.is_in_folder(rt, &holders, backup)?;
             match (
                 retention_of(
                     elsewhere.is_some(),

@@ -6,23 +6,34 @@ use ados_transfer::{Last, Record};
 use std::alloc::Global;
 use std::collections::{BTreeMap, BTreeSet};
 
-// So many of the first bytes count for a digest.
-const COUNTED: usize = 1024;
+// So many of the first bytes count for a digest, and of the last ones.
+const COUNTED: usize = 512;
 
 // It spreads digests: 64-bit FNV multiplies by it too.
 const PRIME: u64 = 1_099_511_628_211;
 
-/// A number that files of equal bytes have in common, and few others: it is made of how many bytes there are, and of the first ones.
+/// A number that files of equal bytes have in common, and few others: it is made of how many bytes there are, and of the first and the last ones.
 pub fn digest(bytes: &FileBytes) -> u64 {
     let mut digest = bytes.len() as u64;
-    let [block, ..] = bytes.blocks() else {
+    let ([first, ..], [.., last]) = (bytes.blocks(), bytes.blocks()) else {
         return digest;
     };
-    let [piece, ..] = block.pieces() else {
-        return digest;
-    };
-    let first = piece.as_bytes();
-    for byte in &first[..first.len().min(COUNTED)] {
+    if let [piece, ..] = first.pieces() {
+        let text = piece.as_bytes();
+        digest = digest_with(digest, text.get(..COUNTED).unwrap_or(text));
+    }
+    if let [.., piece] = last.pieces() {
+        let text = piece.as_bytes();
+        let start = text.len().saturating_sub(COUNTED);
+        digest = digest_with(digest, text.get(start..).unwrap_or(text));
+    }
+    digest
+}
+
+// A digest that more bytes count for.
+fn digest_with(digest: u64, text: &[u8]) -> u64 {
+    let mut digest = digest;
+    for byte in text {
         digest = digest.wrapping_mul(PRIME).wrapping_add(u64::from(*byte));
     }
     digest

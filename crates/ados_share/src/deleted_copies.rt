@@ -3,7 +3,7 @@
 ghost use Rattle.std.specs.Prelude.{◌≡◌, true, IfOk, Some};
 ghost use Rattle.std.specs.Option.{is_some};
 
-use crate::backups::{Backup, Backups};
+use crate::backups::{Backup, Backups, needs_backup};
 use crate::changes::is_made_anew;
 use crate::departure::Departure;
 use crate::elsewhere::Elsewhere;
@@ -11,7 +11,7 @@ use crate::holders::Holders;
 use crate::mirror::Mirror;
 use crate::moves::Destination;
 use ados_ram::{Entry, Ram};
-use ados_transfer::{Draft, Here, Last, Manner, TransferFault, holds, is_beginning_of, lower};
+use ados_transfer::{Draft, Here, Last, Manner, TransferFault, holds, lower};
 use std::rt::Files;
 use std::{fs, mem};
 
@@ -56,27 +56,17 @@ impl Mirror {
         }
     }
 
-    // Notes that a file of which there is no backup is to be written over, unless what is written begins with its bytes: then they count as
-    // kept.
+    // Notes that a file of which there is no backup is to be written over.
     pub(crate) fn note_written_over(
         &mut self,
         key: &str,
         departure: &Departure<'_>,
         draft: &Draft<'_>,
     ) -> Result<(), TransferFault> {
-        match draft.here {
-            Here::File { bytes, .. } if departure.elsewhere.is_some() => {
-                if is_beginning_of(self.alloc, bytes, draft.entry)? {
-                    self.backups.leave_out(departure.path.as_str(), bytes);
-                    return Ok(());
-                }
-                if draft.is_last_copy {
-                    return Ok(());
-                }
-                self.note_gone(key, departure, draft.here)
-            }
-            _ => Ok(()),
+        if needs_backup(self.alloc, draft)? {
+            return Ok(());
         }
+        self.note_gone(key, departure, draft.here)
     }
 
     // What this machine has in the place of an object of the Shell. What another program deleted or changed there is noted.
@@ -146,7 +136,7 @@ impl Mirror {
     ) -> Result<(), TransferFault> {
         for (path, backup) in self.backups.take_lost(rt)? {
             let elsewhere = self.elsewhere(files, holders, &backup)?;
-            if elsewhere.is_some() && !self.is_in_folder(rt, &backup)? {
+            if elsewhere.is_some() && !self.is_in_folder(rt, holders, &backup)? {
                 self.restore(rt, backup)?;
             } else {
                 self.note_former(files, holders, backup)?;
@@ -166,12 +156,15 @@ impl Mirror {
         files: &Ram,
         holders: &Holders<'_>,
     ) -> Result<(), TransferFault> {
+        self.backups.forget_beginnings(holders)?;
         let deleted = mem::replace(&mut self.backups.deleted, Vec::new(self.alloc));
         for backup in deleted {
             if !self.is_in_memory(files, holders, &backup)? {
                 continue;
             }
-            if self.is_in_folder(rt, &backup)? || self.has_needed(files, holders, &backup.bytes)? {
+            if self.is_in_folder(rt, holders, &backup)?
+                || self.has_needed(files, holders, &backup.bytes)?
+            {
                 self.backups.deleted.push(backup)?;
             } else {
                 self.restore(rt, backup)?;
@@ -199,13 +192,14 @@ impl Mirror {
         }
     }
 
-    // A file of the folder has the bytes of a backup.
+    // A file of the folder has the bytes of a backup, as a whole or, if the script made or changed it, among others.
     pub(crate) fn is_in_folder<R: AllocGlobal + Files>(
         &self,
         rt: &R,
+        holders: &Holders<'_>,
         backup: &Backup,
     ) -> Result<bool, TransferFault> {
-        if holds(rt, backup.original.as_str(), &backup.bytes) {
+        if holders.is_inside(&backup.bytes) || holds(rt, backup.original.as_str(), &backup.bytes) {
             return Ok(true);
         }
         self.is_in_another(rt, "", &backup.bytes)

@@ -35,6 +35,8 @@ pub struct Departure<'a> {
     /// If it is a file that is to be deleted, where the Shell has one with its bytes outside of the directory; if it is one that is to be
     /// written over, where it has one anywhere; or where the script moved it, if that is outside of the directory.
     pub elsewhere: Option<Elsewhere>,
+    /// If it is so, its bytes stand among others in a file of the directory too, which the script made or changed.
+    pub is_inside: bool,
 }
 
 /// When a departure is written.
@@ -60,6 +62,7 @@ impl<'a> Departure<'a> {
             changes_kind,
             is_within_kind_change: changes_kind,
             elsewhere: None,
+            is_inside: false,
         })
     }
 
@@ -72,6 +75,7 @@ impl<'a> Departure<'a> {
             changes_kind: false,
             is_within_kind_change: false,
             elsewhere: None,
+            is_inside: false,
         }
     }
 
@@ -84,11 +88,6 @@ impl<'a> Departure<'a> {
         } else {
             Stage::Changed
         }
-    }
-
-    /// What was there goes, and it is not known yet if the Shell has it elsewhere.
-    pub fn may_be_elsewhere(&self) -> bool {
-        !self.is_new && self.elsewhere.is_none()
     }
 
     /// What was there is gone, or of another kind.

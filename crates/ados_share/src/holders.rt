@@ -123,6 +123,11 @@ impl<'a> Holders<'a> {
         self.parts.place_of(bytes)
     }
 
+    /// Bytes stand in a file of the directory, of those that were looked for.
+    pub fn is_inside(&self, bytes: &FileBytes) -> bool {
+        self.parts.is_inside(bytes)
+    }
+
     /// What was looked for, with where it was found.
     pub fn set_parts(&mut self, parts: Sought) {
         self.parts = parts;

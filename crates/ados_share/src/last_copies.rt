@@ -112,8 +112,8 @@ impl Mirror {
         shell_path(self.alloc, &files.written(place)?)
     }
 
-    // The bytes of an object that is to be deleted or written over are in a file of the Shell, and in no other file of the folder; or it is
-    // a folder in which such a file, or a large one, stays.
+    // The bytes of an object that is to be deleted or written over are in a file of the Shell, and in no other file of the folder, nor among
+    // others in one that was made or changed; or it is a folder in which such a file, or a large one, stays.
     pub(crate) fn is_last_copy<R: AllocGlobal + Files>(
         &self,
         rt: &R,
@@ -125,7 +125,7 @@ impl Mirror {
         };
         match &record.last {
             Last::Directory => Ok(self.waiting.is_in(key) || self.has_moved_in(key)?),
-            Last::File(bytes) if departure.elsewhere.is_some() => {
+            Last::File(bytes) if departure.elsewhere.is_some() && !departure.is_inside => {
                 Ok(!self.is_in_another(rt, key, bytes)?)
             }
             Last::File(_) | Last::StandIn(_) => Ok(false),

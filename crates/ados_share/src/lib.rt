@@ -36,6 +36,7 @@ mod remainders;
 mod removals;
 mod renaming;
 mod reports;
+mod samples;
 mod second_look;
 mod sought;
 mod spoils;

@@ -32,11 +32,6 @@ impl Backups {
         }
         Ok(all)
     }
-
-    /// What is written in place of a file of this path begins with its bytes: those that it had count as kept.
-    pub fn leave_out(&mut self, path: &str, bytes: &FileBytes) {
-        self.deleted.retain(|backup| !backup.is_of(path, bytes));
-    }
 }
 
 impl Backup {

@@ -14,6 +14,7 @@ use crate::moves::Destination;
 use ados_ram::{FileBytes, Ram};
 use ados_text::NoMemory;
 use ados_transfer::TransferFault;
+use std::mem;
 
 impl Backups {
     /// Notes a file that was deleted or written over, unless what is noted counts for it.
@@ -25,6 +26,38 @@ impl Backups {
             self.deleted.push(backup)?;
         }
         Ok(())
+    }
+}
+
+impl Backups {
+    // What is noted of a file that was added to goes, unless the Shell has those bytes as a whole or has moved them: more was noted of that
+    // file, which begins with them.
+    pub(crate) fn forget_beginnings(&mut self, holders: &Holders<'_>) -> Result<(), NoMemory> {
+        let mut beginnings = Vec::new(self.alloc);
+        for backup in &self.deleted {
+            let is_whole = backup.moved.is_some() || holders.has_outside(&backup.bytes);
+            beginnings.push(!is_whole && self.has_longer(backup)?)?;
+        }
+        let deleted = mem::replace(&mut self.deleted, Vec::new(self.alloc));
+        for (backup, is_beginning) in deleted.into_iter().zip(beginnings) {
+            if !is_beginning {
+                self.deleted.push(backup)?;
+            }
+        }
+        Ok(())
+    }
+
+    // More is noted of the same file, which begins with these bytes.
+    fn has_longer(&self, backup: &Backup) -> Result<bool, NoMemory> {
+        for other in &self.deleted {
+            if other.original.as_str() == backup.original.as_str()
+                && other.bytes.len() > backup.bytes.len()
+                && other.bytes.starts_with(&backup.bytes.to_vec(self.alloc)?)
+            {
+                return Ok(true);
+            }
+        }
+        Ok(false)
     }
 }
 

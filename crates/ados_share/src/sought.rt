@@ -1,24 +1,14 @@
 //! Contents of files that are looked for in other files, each of which is read once for all of them.
 
 use crate::contents::digest;
+use crate::samples::{Counts, Filter, Sample, next_window, samples_of, window_at_end};
 use ados_ram::{FileBytes, Place};
 use ados_text::NoMemory;
 use std::alloc::Global;
 use std::collections::BTreeMap;
 
-// Contents are looked for by so many of their bytes.
-const WIDTH: usize = 8;
-
-// They are chosen at so many places of the contents: many files begin alike.
-const SAMPLES: usize = 16;
-
 // After so many comparisons in vain contents count as found. So a file of zeros is not compared at each place of a larger one.
 const COMPARISONS: usize = 64;
-
-// How many places a filter has, and how numbers are spread to them: Knuth multiplies by it too.
-const PLACES: usize = 65_536;
-
-const SPREAD: u64 = 11_400_714_819_323_198_485;
 
 /// What is looked for, and where it was found.
 #[derive(Drop)]
@@ -27,34 +17,35 @@ pub struct Sought {
     parts: Vec<Part>,
     // The numbers of the parts, by the digests of their bytes.
     by_digest: BTreeMap<u64, Vec<usize>>,
-    // The same by the bytes by which they are looked for.
+    // The same by the samples by which they are looked for.
     by_window: BTreeMap<u64, Vec<usize>>,
     filter: Filter,
 }
 
-// The contents of a file that are looked for.
+/// The contents of a file that are to be looked for.
+#[derive(Drop)]
+pub struct Content {
+    /// The bytes. If they are very few they are found nowhere.
+    pub bytes: FileBytes,
+    /// They count also where they stand among others outside of the directory.
+    pub is_foreign: bool,
+    /// The Shell has them elsewhere as a whole, or has moved their file.
+    pub is_elsewhere: bool,
+    /// They stand in a file of the directory, as is known already.
+    pub is_inside: bool,
+}
+
+// Contents, and where they were found.
 #[derive(Drop)]
 struct Part {
-    bytes: FileBytes,
-    // By which of them they are looked for.
-    sample: Sample,
-    // The last ones.
+    content: Content,
+    // How many of their bytes are looked for: an end of line at the end is not.
+    length: usize,
+    sample: Option<Sample>,
+    // The last of those bytes.
     ending: u64,
-    // The file in which they stand, if they were found.
-    found: Option<Place>,
-}
-
-// Bytes at a place in others: each of them is a digit of the number.
-#[derive(Clone, Copy)]
-struct Sample {
-    start: usize,
-    window: u64,
-}
-
-// Tells of most bytes by which nothing is looked for that it is so.
-#[derive(Drop)]
-struct Filter {
-    places: Vec<bool>,
+    // A file outside of the directory in which they stand.
+    outside: Option<Place>,
 }
 
 impl Sought {
@@ -65,87 +56,113 @@ impl Sought {
             parts: Vec::new(alloc),
             by_digest: BTreeMap::new(alloc),
             by_window: BTreeMap::new(alloc),
-            filter: Filter {
-                places: Vec::new(alloc),
-            },
+            filter: Filter::empty(alloc),
         }
     }
 
-    /// These contents are looked for; none with less than eight bytes is found. Each is looked for by those of its bytes that are the
-    /// rarest in all of them.
-    pub fn new(alloc: Global, contents: Vec<FileBytes>) -> Result<Sought, NoMemory> {
-        let mut counts = BTreeMap::new(alloc);
+    /// These contents are looked for, each by a sample of it that is as rare in all of them as can be.
+    pub fn new(alloc: Global, contents: Vec<Content>) -> Result<Sought, NoMemory> {
+        let mut counts = Counts::new(alloc);
         let mut samples = Vec::new(alloc);
-        for bytes in &contents {
-            let own = samples_of(alloc, &bytes.to_vec(alloc)?)?;
-            for sample in &own {
-                let count = counts.get(&sample.window).copied().unwrap_or(0usize);
-                counts.insert(sample.window, count.saturating_add(1))?;
-            }
+        for content in &contents {
+            let own = samples_of(alloc, text_of(&content.bytes.to_vec(alloc)?))?;
+            counts.add(&own)?;
             samples.push(own)?;
         }
         let mut sought = Sought::empty(alloc);
-        sought.filter.places = vec![in alloc; false; PLACES]?;
-        for (bytes, own) in contents.into_iter().zip(samples) {
-            if let Some(sample) = rarest(&own, &counts) {
-                sought.add(bytes, sample)?;
-            }
+        sought.filter = Filter::new(alloc)?;
+        for (content, own) in contents.into_iter().zip(samples) {
+            sought.add(content, counts.rarest(&own))?;
         }
         Ok(sought)
     }
 
-    // Looks for contents by a sample of them.
-    fn add(&mut self, bytes: FileBytes, sample: Sample) -> Result<(), NoMemory> {
+    // Looks for contents by a sample of them. What is known of the same bytes already counts for them too.
+    fn add(&mut self, content: Content, sample: Option<Sample>) -> Result<(), NoMemory> {
+        if let Some(number) = self.number_of(&content.bytes)
+            && let Some(part) = self.parts.get_mut(number)
+        {
+            part.content.is_elsewhere |= content.is_elsewhere;
+            part.content.is_inside |= content.is_inside;
+            return Ok(());
+        }
         let number = self.parts.len();
-        push_number(self.alloc, &mut self.by_digest, digest(&bytes), number)?;
-        push_number(self.alloc, &mut self.by_window, sample.window, number)?;
-        self.filter.add(sample.window);
-        let ending = window_at_end(&bytes.to_vec(self.alloc)?);
+        let key = digest(&content.bytes);
+        push_number(self.alloc, &mut self.by_digest, key, number)?;
+        if let Some(sample) = sample {
+            push_number(self.alloc, &mut self.by_window, sample.window, number)?;
+            self.filter.add(sample.window);
+        }
+        let bytes = content.bytes.to_vec(self.alloc)?;
+        let text = text_of(&bytes);
         self.parts.push(Part {
-            bytes,
+            content,
+            length: text.len(),
             sample,
-            ending,
-            found: None,
+            ending: window_at_end(text),
+            outside: None,
         })?;
         Ok(())
     }
 
-    /// Some of it was found.
-    pub fn has_found(&self) -> bool {
-        self.parts.iter().any(|part| part.found.is_some())
-    }
-
-    /// The file in which contents stand among others.
-    pub fn place_of(&self, bytes: &FileBytes) -> Option<&Place> {
+    // The number of the part that has these bytes.
+    fn number_of(&self, bytes: &FileBytes) -> Option<usize> {
         for number in self.by_digest.get(&digest(bytes))? {
             if let Some(part) = self.parts.get(*number)
-                && part.bytes == *bytes
+                && part.content.bytes == *bytes
             {
-                return part.found.as_ref();
+                return Some(*number);
             }
         }
         None
     }
 
-    /// Notes which contents stand in the file at a place, which has these bytes.
-    pub fn note_in(&mut self, place: &Place, bytes: &FileBytes) -> Result<(), NoMemory> {
+    // The part that has these bytes.
+    fn part_of(&self, bytes: &FileBytes) -> Option<&Part> {
+        self.parts.get(self.number_of(bytes)?)
+    }
+
+    /// The file outside of the directory in which contents stand among others.
+    pub fn place_of(&self, bytes: &FileBytes) -> Option<&Place> {
+        self.part_of(bytes)?.outside.as_ref()
+    }
+
+    /// Contents stand in a file of the directory.
+    pub fn is_inside(&self, bytes: &FileBytes) -> bool {
+        self.part_of(bytes)
+            .is_some_and(|part| part.content.is_inside)
+    }
+
+    /// The Shell has some contents elsewhere, and none in a file of the directory that was looked at.
+    pub fn lacks_inside(&self) -> bool {
+        self.parts.iter().any(|part| {
+            let is_elsewhere = part.content.is_elsewhere || part.outside.is_some();
+            is_elsewhere && !part.content.is_inside
+        })
+    }
+
+    /// Notes which contents stand in a file outside of the directory.
+    pub fn note_outside(&mut self, place: &Place, bytes: &FileBytes) -> Result<(), NoMemory> {
         for number in self.within(bytes)? {
-            if let Some(part) = self.parts.get_mut(number) {
-                part.found = Some(place.copy()?);
+            if let Some(part) = self.parts.get_mut(number)
+                && part.content.is_foreign
+            {
+                part.outside = Some(place.copy()?);
             }
         }
         Ok(())
     }
 
-    /// Contents that stand in these bytes do not count as found. Gives if there are any.
-    pub fn leave_out(&mut self, bytes: &FileBytes) -> Result<bool, NoMemory> {
-        let numbers = self.within(bytes)?;
-        for number in &numbers {
-            if let Some(part) = self.parts.get_mut(*number) {
-                part.found = None;
+    /// Notes which contents stand in a file of the directory. Gives if foreign ones do.
+    pub fn note_inside(&mut self, bytes: &FileBytes) -> Result<bool, NoMemory> {
+        let mut has_foreign = false;
+        for number in self.within(bytes)? {
+            if let Some(part) = self.parts.get_mut(number) {
+                part.content.is_inside = true;
+                has_foreign |= part.content.is_foreign;
             }
         }
-        Ok(!numbers.is_empty())
+        Ok(has_foreign)
     }
 
     // The numbers of the parts that stand in these bytes.
@@ -186,7 +203,8 @@ impl Sought {
                 && *left > 0
                 && let Some(found) = part.place_in(text, end)
             {
-                let is_same = *found == *part.bytes.to_vec(self.alloc)?;
+                let bytes = part.content.bytes.to_vec(self.alloc)?;
+                let is_same = *found == *text_of(&bytes);
                 *left = if is_same { 0 } else { left.saturating_sub(1) };
             }
         }
@@ -197,8 +215,8 @@ impl Sought {
 impl Part {
     // What of a text it would be if its sample ends there at a place: nothing if that is too short, or has another ending.
     fn place_in<'t>(&self, text: &'t [u8], end: usize) -> Option<&'t [u8]> {
-        let start = end.checked_sub(self.sample.start.saturating_add(WIDTH))?;
-        let found = text.get(start..start.saturating_add(self.bytes.len()))?;
+        let start = self.sample?.start_in(end)?;
+        let found = text.get(start..start.saturating_add(self.length))?;
         if window_at_end(found) == self.ending {
             Some(found)
         } else {
@@ -207,23 +225,12 @@ impl Part {
     }
 }
 
-impl Filter {
-    // Something is looked for by these bytes.
-    fn add(&mut self, window: u64) {
-        if let Some(place) = self.places.get_mut(spread(window)) {
-            *place = true;
-        }
+// What is looked for of these bytes: an end of line at the end is not. Back-ticks leave it out.
+fn text_of(bytes: &[u8]) -> &[u8] {
+    match bytes {
+        [text @ .., b'\n'] => text,
+        _ => bytes,
     }
-
-    // Something may be looked for by these bytes.
-    fn may_have(&self, window: u64) -> bool {
-        self.places.get(spread(window)).is_some_and(|place| *place)
-    }
-}
-
-// The place of bytes in a filter.
-fn spread(window: u64) -> usize {
-    (window.wrapping_mul(SPREAD) >> 48) as usize
 }
 
 // A number follows those that a table has under a key.
@@ -239,45 +246,4 @@ fn push_number(
     }
     table.insert(key, vec![in alloc; number]?)?;
     Ok(())
-}
-
-// The bytes at places that are spread over a text, with the first and the last ones.
-fn samples_of(alloc: Global, text: &[u8]) -> Result<Vec<Sample>, NoMemory> {
-    let mut samples = Vec::new(alloc);
-    let last = text.len().saturating_sub(WIDTH);
-    for number in 0..SAMPLES {
-        let start = last.saturating_mul(number) / (SAMPLES - 1);
-        if let Some(bytes) = text.get(start..start.saturating_add(WIDTH)) {
-            let window = window_at_end(bytes);
-            samples.push(Sample { start, window })?;
-        }
-    }
-    Ok(samples)
-}
-
-// The first of those samples that are counted least.
-fn rarest(samples: &[Sample], counts: &BTreeMap<u64, usize>) -> Option<Sample> {
-    let mut least = None;
-    for sample in samples {
-        let count = counts.get(&sample.window).copied().unwrap_or(0);
-        if least.is_none_or(|(_, other)| count < other) {
-            least = Some((*sample, count));
-        }
-    }
-    least.map(|(sample, _)| sample)
-}
-
-// The bytes that end with this one, after those that end before it.
-fn next_window(window: u64, byte: u8) -> u64 {
-    window.wrapping_mul(256).wrapping_add(u64::from(byte))
-}
-
-// The last bytes of a text.
-fn window_at_end(text: &[u8]) -> u64 {
-    let start = text.len().saturating_sub(WIDTH);
-    let mut window = 0;
-    for byte in text.get(start..).unwrap_or(&[]) {
-        window = next_window(window, *byte);
-    }
-    window
 }
