@@ -11,4 +11,3 @@ mod ReadingLemmas
 mod ReturnLemmas
 mod SignLemmas
 mod StrikeLemmas
-mod TemplateLemmas

@@ -5,12 +5,12 @@ ghost use Rattle.ados_find.specs.Shared.{SharedState};
 ghost use Rattle.ados_find.specs.Views.{View};
 ghost use Rattle.ados_flow.specs.Execute.{fault_answer};
 ghost use Rattle.ados_flow.specs.Frames.{ScriptLine};
-ghost use Rattle.ados_machine.specs.Commands.{action_of, template_of};
+ghost use Rattle.ados_machine.specs.Commands.{action_of};
 ghost use Rattle.ados_readargs.specs.Faults.{result2_of};
 ghost use Rattle.ados_check.specs.Commands.{after, meaning_of, name_in_c};
 
-use ados_machine::{Builtin, template};
-use ados_readargs::{ArgFault, Template};
+use ados_machine::{Builtin, parsed_template, template};
+use ados_readargs::ArgFault;
 use ados_resident::{Dialect, DiskCommand, InternalCommand};
 use ados_text::{NoMemory, Text, same_name};
 use std::alloc::Global;
@@ -80,14 +80,6 @@ fn after<'a>(word: &'a [u8], start: &[u8]) -> Option<&'a [u8]>
     }
 }
 
-/// The template of a command in a dialect.
-#[tactic(auto, using(crate::proofs::TemplateLemmas::ascii, crate::proofs::TemplateLemmas::are_templates))]
-pub fn template_in(alloc: Global, dialect: Dialect, command: Builtin) -> Result<Template, NoMemory>
-    ensures { IfOk result (λ template. template ≡ template_of dialect command) }
-{
-    Template::known(alloc, template(dialect, command))
-}
-
 /// The text of a command's template in a dialect.
 pub fn template_text(alloc: Global, dialect: Dialect, command: Builtin) -> Result<Text, NoMemory> {
     Text::from_bytes(alloc, template(dialect, command).as_bytes())
@@ -105,7 +97,7 @@ pub fn argument_fault(
     ensures { IfOk result (λ found. IfSome found (λ fault. (shared : SharedState) (script_line : Option ScriptLine) (view : View)
         → shared.dialect ≡ dialect → action_of command shared script_line view args.now ≡ fault_answer shared (result2_of fault))) }
 {
-    match template_in(alloc, dialect, command)?.fill(alloc, args.as_bytes()) {
+    match parsed_template(alloc, dialect, command)?.fill(alloc, args.as_bytes()) {
         Ok(_) => Ok(None),
         Err(ArgFault::NoMemory) => Err(NoMemory),
         Err(fault) => Ok(Some(fault)),

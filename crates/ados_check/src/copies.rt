@@ -4,10 +4,9 @@ ghost use Rattle.std.specs.List.{list_any};
 ghost use Rattle.ados_check.specs.Copies.{copies_flat, is_flat_copy, is_wild};
 ghost use Rattle.ados_check.specs.declared.findings.Problem.TheVariants.{FlatCopy};
 
-use crate::commands::template_in;
 use crate::findings::Problem;
 use ados_find::Refusal;
-use ados_machine::Builtin;
+use ados_machine::{Builtin, parsed_template};
 use ados_objects::{pattern_of, piece_of};
 use ados_readargs::Args;
 use ados_resident::{Dialect, FilesCommand};
@@ -32,7 +31,7 @@ pub fn flat_copy(
     let Builtin::Files(FilesCommand::Copy) = command else {
         return Ok(None);
     };
-    let template = template_in(alloc, dialect, command)?;
+    let template = parsed_template(alloc, dialect, command)?;
     let Ok(args) = template.fill(alloc, text.as_bytes()) else {
         return Err(NoMemory);
     };

@@ -13,12 +13,11 @@ ghost use Rattle.ados_resident.specs.declared.commands.FlowCommand.TheVariants.{
 ghost use Rattle.ados_check.specs.Jumps.{label_filled, label_named, leads_nowhere, lost_jump};
 ghost use Rattle.ados_check.specs.Signs.{told_sign};
 
-use crate::commands::template_in;
 use crate::findings::Problem;
 use crate::readings::cut_bytes;
 use ados_flow::{label_sought, skip_from};
 use ados_line::{Expanded, LineFault, without_comment};
-use ados_machine::Builtin;
+use ados_machine::{Builtin, parsed_template};
 use ados_readargs::{ArgFault, Args};
 use ados_resident::{Dialect, FlowCommand};
 use ados_script::{Jump, Script};
@@ -75,7 +74,7 @@ fn label_of(alloc: Global, dialect: Dialect, args: &Text) -> Result<Text, NoMemo
     ensures { IfOk result (λ label. label ≡ label_filled dialect (fill_of (template_of dialect (Flow Skip)) args.now)) }
 {
     let skip = Builtin::Flow(FlowCommand::Skip);
-    match template_in(alloc, dialect, skip)?.fill(alloc, args.as_bytes()) {
+    match parsed_template(alloc, dialect, skip)?.fill(alloc, args.as_bytes()) {
         Ok(args) => Ok(label_sought(alloc, dialect, &args)?.unwrap_or(Text::new(alloc))),
         Err(ArgFault::NoMemory) => Err(NoMemory),
         Err(_) => Ok(Text::new(alloc)),

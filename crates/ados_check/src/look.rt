@@ -10,7 +10,7 @@ ghost use Rattle.ados_check.specs.Signs.{SaysTheSame};
 
 use crate::arguments::argument_words;
 use crate::command_words::name_in;
-use crate::commands::{Meaning, argument_fault, template_in, template_text};
+use crate::commands::{Meaning, argument_fault, template_text};
 use crate::copies::flat_copy;
 use crate::findings::{Finding, Problem};
 use crate::jumps::jump_problem;
@@ -22,7 +22,7 @@ use crate::targets::are_targets_open;
 use ados_flow::gather;
 use ados_items::{between, first_word, trimmed};
 use ados_line::{Expanded, Line, LineFault, without_comment};
-use ados_machine::Builtin;
+use ados_machine::{Builtin, parsed_template};
 use ados_resident::{Dialect, FlowCommand};
 use ados_script::{Jump, Script};
 use ados_text::{LINE_BYTES, NoMemory, Text, Texts, same_name};
@@ -275,7 +275,7 @@ impl<'a> Look<'a> {
         let Builtin::Flow(flow) = command else {
             return flat_copy(self.alloc, self.dialect, command, text);
         };
-        let template = template_in(self.alloc, self.dialect, command)?;
+        let template = parsed_template(self.alloc, self.dialect, command)?;
         let Ok(args) = template.fill(self.alloc, text.as_bytes()) else {
             return Err(NoMemory);
         };

@@ -9,8 +9,7 @@ ghost use Rattle.ados_readargs.specs.Template.{options_of};
 ghost use Rattle.ados_machine.specs.Commands.{template_of};
 ghost use Rattle.ados_check.specs.ReleaseTwo.{first_named, IfLeftOut, is_unimplemented, named, named_command, naming_of, omission_of};
 
-use crate::commands::template_in;
-use ados_machine::Builtin;
+use ados_machine::{Builtin, parsed_template};
 use ados_readargs::Template;
 use ados_resident::Dialect;
 use ados_text::NoMemory;
@@ -95,7 +94,7 @@ impl Command {
             return Ok(None);
         };
         let name = option.name.as_bytes();
-        let template = template_in(alloc, dialect, self.builtin)?;
+        let template = parsed_template(alloc, dialect, self.builtin)?;
         if !has_option(&template, name) || self.is_unimplemented(name) {
             return Ok(Some(Naming::LeftOut(option)));
         }

@@ -19,7 +19,7 @@ pub use ados_find::{Codes, Target};
 pub use ados_flow::{Called, Record};
 pub use ados_resident::Builtin;
 pub use answers::Answer;
-pub use builtins::{reads_in_use, reads_shells, template};
+pub use builtins::{parsed_template, reads_in_use, reads_shells, template};
 pub use children::ChildState;
 pub use events::{BreakAt, BreakKind, Event};
 pub use laws::{

@@ -1,5 +1,4 @@
 mod EndLemmas
-pub mod CommandLemmas
 pub mod StackLemmas
 pub mod TurnLemmas
 pub mod CompletionLemmas

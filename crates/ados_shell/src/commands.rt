@@ -12,7 +12,7 @@ ghost use Rattle.ados_flow.specs.Frames.{script_line_of};
 
 use ados_find::{Codes, Shared, ShellView};
 use ados_flow::{Action, Frame};
-use ados_machine::{Builtin, template};
+use ados_machine::{Builtin, parsed_template, template};
 use ados_readargs::{ArgFault, Args, Template};
 use ados_resident::Dialect;
 use ados_text::{Name, NoMemory, Text};
@@ -52,14 +52,14 @@ impl Model for KnownTemplate {
 
 impl KnownTemplate {
     // That of a command in a dialect.
-    #[tactic(auto, using(crate::proofs::CommandLemmas::ascii))]
+    #[tactic(auto, using(ados_machine::proofs::TemplateLemmas::ascii))]
     fn parse(
         alloc: Global,
         dialect: Dialect,
         builtin: Builtin,
     ) -> Result<Box<KnownTemplate>, NoMemory> {
         let text = Text::from_bytes(alloc, template(dialect, builtin).as_bytes())?;
-        let template = template_of(alloc, dialect, builtin)?;
+        let template = parsed_template(alloc, dialect, builtin)?;
         Ok(Box::new(alloc, KnownTemplate { text, template })?)
     }
 }
@@ -122,7 +122,7 @@ impl Commands {
                 return known.template.fill_into(text, args);
             }
         }
-        template_of(alloc, dialect, builtin)?.fill_into(text, args)
+        parsed_template(alloc, dialect, builtin)?.fill_into(text, args)
     }
 
     /// What a command of the newest frame does with the text of its arguments, which are filled into the arguments that are
@@ -159,12 +159,6 @@ fn none_kept(alloc: Global, count: usize) -> Result<Vec<Kept>, NoMemory> {
         kept.push(OnceCell::new())?;
     }
     Ok(kept)
-}
-
-fn template_of(alloc: Global, dialect: Dialect, builtin: Builtin) -> Result<Template, NoMemory>
-    ensures { IfOk result (λ template. template ≡ template_of dialect builtin) }
-{
-    Template::known(alloc, template(dialect, builtin))
 }
 
 fn row(

@@ -25,15 +25,14 @@ abbrev pub AreTurns : Option Text → ℕ → Type 0
 AreTurns None turns = turns ≡ 1_000_000
 AreTurns (Some text) turns = IsNumber text × (value_of text ≡ pos turns)
 
--- the dialect that the value of `--full` chooses
-abbrev pub dialect_by : Option Text → Dialect
-dialect_by (Some value) = if bytes_eq value (codes "true") then Full else Core
-dialect_by None = Core
-
 -- the value of a flag says that it is given
 abbrev pub is_given : Option Text → Bool
 is_given (Some value) = bytes_eq value (codes "true")
 is_given None = false
+
+-- the dialect that the value of `--full` chooses
+abbrev pub dialect_by : Option Text → Dialect
+dialect_by value = if is_given value then Full else Core
 
 -- The matches of the words ask for this: the command is theirs, with its dialect, its file, its turns and its trace. Without a
 -- command it is `run`, in Core, without hosts and a trace, and with a million turns.

@@ -1,52 +1,32 @@
 -- The program's command line, as `clap` reads it.
 use Rattle.std.specs.Prelude.{Some, true, codes}
-use Rattle.clap.specs.Walk.{Rule}
+use Rattle.clap.specs.Walk.{Rule, Text}
 use Rattle.clap.specs.Simple.{App, new_app, new_rule, on_top, with_rule, with_subcommand}
 use Rattle.clap.specs.declared.builder.ArgAction.TheVariants.{Set, SetTrue}
 
--- `--hosts FILE`
-abbrev pub hosts_rule : Rule
-hosts_rule = record (new_rule (codes "hosts")) { long = Some (codes "hosts"); value_names = 1; action = Some Set }
+-- the option `--NAME VALUE`
+abbrev pub option_rule : Text → Rule
+option_rule name = record (new_rule name) { long = Some name; value_names = 1; action = Some Set }
 
--- `--turns N`
-abbrev pub turns_rule : Rule
-turns_rule = record (new_rule (codes "turns")) { long = Some (codes "turns"); value_names = 1; action = Some Set }
-
--- `--full`
-abbrev pub full_rule : Rule
-full_rule = record (new_rule (codes "full")) { long = Some (codes "full"); action = Some SetTrue }
-
--- `--trace`
-abbrev pub trace_rule : Rule
-trace_rule = record (new_rule (codes "trace")) { long = Some (codes "trace"); action = Some SetTrue }
+-- the flag `--NAME`
+abbrev pub flag_rule : Text → Rule
+flag_rule name = record (new_rule name) { long = Some name; action = Some SetTrue }
 
 -- `FILE`
 abbrev pub file_rule : Rule
 file_rule = record (new_rule (codes "file")) { value_names = 1; action = Some Set; required = true }
 
--- `run [--hosts FILE]`
-abbrev pub hosts_app : App
-hosts_app = with_rule (new_app (codes "run")) hosts_rule
-
 -- `run [--hosts FILE] [--turns N]`
 abbrev pub turns_app : App
-turns_app = with_rule hosts_app turns_rule
-
--- `run [--hosts FILE] [--turns N] [--full]`
-abbrev pub full_app : App
-full_app = with_rule turns_app full_rule
+turns_app = with_rule (with_rule (new_app (codes "run")) (option_rule (codes "hosts"))) (option_rule (codes "turns"))
 
 -- `run [--hosts FILE] [--turns N] [--full] [--trace]`
 abbrev pub run_app : App
-run_app = with_rule full_app trace_rule
-
--- `replay FILE`
-abbrev pub file_app : App
-file_app = with_rule (new_app (codes "replay")) file_rule
+run_app = with_rule (with_rule turns_app (flag_rule (codes "full"))) (flag_rule (codes "trace"))
 
 -- `replay FILE [--trace]`
 abbrev pub replay_app : App
-replay_app = with_rule file_app trace_rule
+replay_app = with_rule (with_rule (new_app (codes "replay")) file_rule) (flag_rule (codes "trace"))
 
 -- `amishell` alone, with a version to print
 abbrev pub bare_app : App

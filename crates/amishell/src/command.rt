@@ -1,10 +1,11 @@
 //! The program's command line, in `clap`'s words.
 ghost use Rattle.std.specs.Prelude.{◌≡◌, map, false, IfOk};
+ghost use Rattle.clap.specs.Walk.{rule_of};
 ghost use Rattle.clap.specs.Simple.{app_of, subcommand_of, subcommand_rows_of};
 ghost use Rattle.clap.specs.Kinds.{FailsBy};
 ghost use Rattle.clap.specs.Faults.{fault_of};
 ghost use Rattle.clap.specs.declared.builder.command.Command.TheViews.{out-Command as fields_of};
-ghost use Rattle.amishell.specs.Command.{hosts_app, turns_app, full_app, run_app, file_app, replay_app, bare_app, amishell};
+ghost use Rattle.amishell.specs.Command.{run_app, replay_app, bare_app, amishell, option_rule, flag_rule};
 
 use ados_session::VERSION;
 use clap::{Arg, ArgAction, ArgMatches, Command, Error};
@@ -79,68 +80,17 @@ fn run_command<'a>(alloc: Global) -> Result<Command<'a>, AllocError>
     ensures app { IfOk result (λ c. app_of c ≡ run_app) }
     ensures local { IfOk result (λ c. (fields_of c).has_globals ≡ false) }
 {
-    let trace = Arg::new(alloc, "trace")
-        .long("trace")
-        .help(TRACE)
-        .action(ArgAction::SetTrue);
-    full_command(alloc)?.arg(trace)
-}
-
-// `run [--hosts FILE] [--turns N] [--full]`.
-fn full_command<'a>(alloc: Global) -> Result<Command<'a>, AllocError>
-    ensures app { IfOk result (λ c. app_of c ≡ full_app) }
-    ensures local { IfOk result (λ c. (fields_of c).has_globals ≡ false) }
-{
-    let full = Arg::new(alloc, "full")
-        .long("full")
-        .help(FULL)
-        .action(ArgAction::SetTrue);
-    turns_command(alloc)?.arg(full)
-}
-
-// `run [--hosts FILE] [--turns N]`.
-fn turns_command<'a>(alloc: Global) -> Result<Command<'a>, AllocError>
-    ensures app { IfOk result (λ c. app_of c ≡ turns_app) }
-    ensures local { IfOk result (λ c. (fields_of c).has_globals ≡ false) }
-{
-    let turns = Arg::new(alloc, "turns")
-        .long("turns")
-        .value_name("N")
-        .help(TURNS)
-        .action(ArgAction::Set);
-    hosts_command(alloc)?.arg(turns)
-}
-
-// `run [--hosts FILE]`.
-fn hosts_command<'a>(alloc: Global) -> Result<Command<'a>, AllocError>
-    ensures app { IfOk result (λ c. app_of c ≡ hosts_app) }
-    ensures local { IfOk result (λ c. (fields_of c).has_globals ≡ false) }
-{
-    let hosts = Arg::new(alloc, "hosts")
-        .long("hosts")
-        .value_name("FILE")
-        .help(HOSTS)
-        .action(ArgAction::Set);
     Command::new(alloc, "run")
         .about("Runs the lines of standard input, as amishell alone does")
-        .arg(hosts)
+        .arg(option(alloc, "hosts", "FILE", HOSTS))?
+        .arg(option(alloc, "turns", "N", TURNS))?
+        .arg(flag(alloc, "full", FULL))?
+        .arg(flag(alloc, "trace", TRACE))
 }
 
 // `replay FILE [--trace]`.
 fn replay_command<'a>(alloc: Global) -> Result<Command<'a>, AllocError>
     ensures app { IfOk result (λ c. app_of c ≡ replay_app) }
-    ensures local { IfOk result (λ c. (fields_of c).has_globals ≡ false) }
-{
-    let trace = Arg::new(alloc, "trace")
-        .long("trace")
-        .help(TRACE)
-        .action(ArgAction::SetTrue);
-    file_command(alloc)?.arg(trace)
-}
-
-// `replay FILE`.
-fn file_command<'a>(alloc: Global) -> Result<Command<'a>, AllocError>
-    ensures app { IfOk result (λ c. app_of c ≡ file_app) }
     ensures local { IfOk result (λ c. (fields_of c).has_globals ≡ false) }
 {
     let file = Arg::new(alloc, "file")
@@ -150,5 +100,29 @@ fn file_command<'a>(alloc: Global) -> Result<Command<'a>, AllocError>
         .required(true);
     Command::new(alloc, "replay")
         .about("Runs a recorded session, in which no program of the host is started")
-        .arg(file)
+        .arg(file)?
+        .arg(flag(alloc, "trace", TRACE))
+}
+
+// The option `--NAME VALUE`.
+fn option<'a>(alloc: Global, name: &'static str, value: &'static str, help: &'static str) -> Arg<'a>
+    ensures rule { rule_of result ≡ option_rule name.now }
+    ensures local { result.global ≡ false }
+{
+    Arg::new(alloc, name)
+        .long(name)
+        .value_name(value)
+        .help(help)
+        .action(ArgAction::Set)
+}
+
+// The flag `--NAME`.
+fn flag<'a>(alloc: Global, name: &'static str, help: &'static str) -> Arg<'a>
+    ensures rule { rule_of result ≡ flag_rule name.now }
+    ensures local { result.global ≡ false }
+{
+    Arg::new(alloc, name)
+        .long(name)
+        .help(help)
+        .action(ArgAction::SetTrue)
 }

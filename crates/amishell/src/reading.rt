@@ -119,9 +119,10 @@ fn written<'a>(inner: &ArgMatches<'a>, name: &str) -> Option<&'a str>
 fn dialect_by(value: Option<&str>) -> Dialect
     ensures { result ≡ dialect_by (option_map (λ s. s.now) value.entry) }
 {
-    match value {
-        Some(value) if value == "true" => Dialect::Full,
-        _ => Dialect::Core,
+    if is_given(value) {
+        Dialect::Full
+    } else {
+        Dialect::Core
     }
 }
 

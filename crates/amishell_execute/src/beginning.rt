@@ -63,8 +63,8 @@ impl Beginning {
     }
 }
 
-// What was done, if it is possible.
-fn if_possible<T: Drop>(done: Result<T, TransferFault>) -> Result<Option<T>, Fault> {
+/// What was done, if it is possible.
+pub fn if_possible<T: Drop>(done: Result<T, TransferFault>) -> Result<Option<T>, Fault> {
     match done {
         Ok(value) => Ok(Some(value)),
         Err(TransferFault::NoMemory) => Err(Fault::Memory),

@@ -1,6 +1,6 @@
 //! Where the scripts that a run would call are on this machine.
 
-use crate::beginning::Beginning;
+use crate::beginning::{Beginning, if_possible};
 use crate::faults::Fault;
 use crate::origins_of;
 use crate::script_places::script_places;
@@ -56,14 +56,10 @@ impl<'a> Called<'a> {
     fn add_script<R: AllocGlobal + Files>(&mut self, rt: &R, path: &'a str) -> Result<(), Fault> {
         let files = Ram::new(rt.alloc())?;
         let mut plan = Plan::new(rt.alloc(), self.options.mirror.limits, &files)?;
-        match bring_script(rt, &files, path, &[], &mut plan) {
-            Ok(place) => {
-                self.scripts.push((path, place))?;
-                Ok(())
-            }
-            Err(TransferFault::NoMemory) => Err(Fault::Memory),
-            Err(_) => Ok(()),
+        if let Some(place) = if_possible(bring_script(rt, &files, path, &[], &mut plan))? {
+            self.scripts.push((path, place))?;
         }
+        Ok(())
     }
 
     /// What Execute finds under a name. `caller` is the path of the script in which it stands, if that is one of the command line.
@@ -207,9 +203,8 @@ pub fn called_bytes<R: AllocGlobal + Files>(
 
 // The bytes of a file of a shared folder are those of a script.
 fn is_script<R: AllocGlobal + Files>(rt: &R, limits: Limits, path: &str) -> Result<bool, Fault> {
-    match called_bytes(rt, limits, path) {
-        Ok(bytes) => Ok(is_shell_script(&bytes)),
-        Err(TransferFault::NoMemory) => Err(Fault::Memory),
-        Err(_) => Ok(false),
+    match if_possible(called_bytes(rt, limits, path))? {
+        Some(bytes) => Ok(is_shell_script(&bytes)),
+        None => Ok(false),
     }
 }

@@ -2,7 +2,7 @@
 ghost use Rattle.std.specs.Prelude.{◌≡◌, option_map};
 ghost use Rattle.amishell_execute.specs.ErrorCodes.{last_code, least_code, raised};
 
-use crate::faults::Fault;
+use crate::faults::{Fault, bad_words};
 use ados_machine::Answer;
 use ados_text::{Text, same_name};
 use ados_world::HostEntry;
@@ -31,13 +31,13 @@ pub fn error_codes(
 // The code that words give to a program of one of these commands.
 fn error_code(alloc: Global, words: &str, hosts: &[HostEntry]) -> Result<ErrorCode, Fault> {
     let Some((name, code)) = words.rsplit_once('=') else {
-        return Err(bad_words(alloc, words, "NAME=CODE"));
+        return Err(bad_words(alloc, "--error", words, "NAME=CODE"));
     };
     let least = match code {
         "5" => 5,
         "10" => 10,
         "20" => 20,
-        _ => return Err(bad_words(alloc, words, "CODE is 5, 10 or 20")),
+        _ => return Err(bad_words(alloc, "--error", words, "CODE is 5, 10 or 20")),
     };
     let host = hosts
         .iter()
@@ -47,14 +47,7 @@ fn error_code(alloc: Global, words: &str, hosts: &[HostEntry]) -> Result<ErrorCo
             program: host.program.copy()?,
             least,
         }),
-        None => Err(bad_words(alloc, words, "no --host has this name")),
-    }
-}
-
-fn bad_words(alloc: Global, words: &str, reason: &str) -> Fault {
-    match format!(in alloc; "--error {words}: {reason}") {
-        Ok(line) => Fault::HostWords(line),
-        Err(_) => Fault::Memory,
+        None => Err(bad_words(alloc, "--error", words, "no --host has this name")),
     }
 }
 

@@ -10,7 +10,7 @@ use ados_text::NoMemory;
 use ados_trace::escaped;
 use ados_transfer::TransferFault;
 use execute_options::{OptionsFault, Unread};
-use std::alloc::AllocFailed;
+use std::alloc::{AllocFailed, Global};
 use std::fmt::Display;
 use std::io::Eprint;
 use std::rt::Files;
@@ -174,6 +174,14 @@ impl<T: Drop> From<AllocFailed<T>> for Fault {
 
     fn from(_e: AllocFailed<T>) -> Fault {
         Fault::Memory
+    }
+}
+
+/// The fault of words of an option, `--host` or `--error`, that do not have their form.
+pub fn bad_words(alloc: Global, option: &str, words: &str, reason: &str) -> Fault {
+    match format!(in alloc; "{option} {words}: {reason}") {
+        Ok(line) => Fault::HostWords(line),
+        Err(_) => Fault::Memory,
     }
 }
 

@@ -3,6 +3,7 @@
 use crate::faults::{Fault, unread_script};
 use crate::refusals::report_all;
 use ados_check::{Finding, bad_directive, check, mark, mark_printed, strike};
+use ados_ram::Limits;
 use ados_text::{NoMemory, lines_of};
 use ados_transfer::read_script;
 use ados_vars::Aliases;
@@ -19,10 +20,7 @@ pub fn read_checked<R: AllocGlobal + Files + Eprint>(
     options: &Options<'_>,
 ) -> Result<Vec<u8>, Fault> {
     let alloc = rt.alloc();
-    let mut script = match read_script(rt, options.mirror.limits, options.script) {
-        Ok(script) => script,
-        Err(fault) => return Err(unread_script(rt, fault)),
-    };
+    let mut script = given_bytes(rt, options.mirror.limits, options.script)?;
     let printed = mend(alloc, options, &mut script)?;
     let _ = report_all(rt, options.script, &printed, true)?;
     if let Some(bad) = bad_directive(alloc, &script)? {
@@ -36,6 +34,18 @@ pub fn read_checked<R: AllocGlobal + Files + Eprint>(
         mark(&mut script);
     }
     Ok(script)
+}
+
+/// The bytes of a script of the command line, as the Shell reads it.
+pub fn given_bytes<R: AllocGlobal + Files>(
+    rt: &R,
+    limits: Limits,
+    path: &str,
+) -> Result<Vec<u8>, Fault> {
+    match read_script(rt, limits, path) {
+        Ok(script) => Ok(script),
+        Err(fault) => Err(unread_script(rt, fault)),
+    }
 }
 
 /// Does to the bytes of a script of the command line what is done to them before it runs; gives what is found of those that it prints.

@@ -21,14 +21,6 @@ pub fn refusal(
     }
 }
 
-/// The fault of words of `--host` that do not have their form.
-pub fn bad_words(alloc: Global, words: &str, reason: &str) -> Fault {
-    match format!(in alloc; "--host {words}: {reason}") {
-        Ok(line) => Fault::HostWords(line),
-        Err(_) => Fault::Memory,
-    }
-}
-
 /// The fault of a line of a file of hosts, by the line's number from 1.
 pub fn bad_line(alloc: Global, dialect: Dialect, file: &str, line: usize, bytes: &[u8]) -> Fault {
     match line_fault(alloc, dialect, file, line, bytes) {

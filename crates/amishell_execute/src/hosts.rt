@@ -2,8 +2,8 @@
 ghost use Rattle.std.specs.Prelude.{◌≡◌, IfOk};
 ghost use Rattle.ados_machine.specs.World.{fresh_world};
 
-use crate::faults::Fault;
-use crate::host_faults::{bad_line, bad_words, refusal};
+use crate::faults::{Fault, bad_words};
+use crate::host_faults::{bad_line, refusal};
 use ados_session::{FileFault, HOSTS_BYTES, read_hosts};
 use ados_text::Text;
 use ados_transfer::{BRING, ascii, last_piece, step_into};
@@ -130,10 +130,10 @@ fn add_words<R: AllocGlobal + Files + Env>(
 ) -> Result<(), Fault> {
     let (name, program) = words.split_once('=').unwrap_or((words, words));
     if name.is_empty() {
-        return Err(bad_words(rt.alloc(), words, "no name"));
+        return Err(bad_words(rt.alloc(), "--host", words, "no name"));
     }
     if program.is_empty() {
-        return Err(bad_words(rt.alloc(), words, "no program"));
+        return Err(bad_words(rt.alloc(), "--host", words, "no program"));
     }
     let host = HostEntry {
         name: ascii(rt.alloc(), name)?,

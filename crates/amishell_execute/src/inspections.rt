@@ -1,8 +1,8 @@
 //! `--check`: scripts are looked at, and those that they call, and nothing runs.
 
 use crate::called::{Called, Found, called_bytes};
-use crate::faults::{Fault, unread_script};
-use crate::given_script::mend;
+use crate::faults::Fault;
+use crate::given_script::{given_bytes, mend};
 use crate::inspection_lines::{Lines, ScriptReport, typed_lines};
 use crate::missing_devices::Devices;
 use crate::refusals::is_struck;
@@ -11,7 +11,7 @@ use crate::top_paths::push_top;
 use ados_check::{Finding, Problem, inspect, merge_returns, new_devices};
 use ados_text::{NoMemory, Text, lines_of};
 use ados_trace::escaped;
-use ados_transfer::{TransferFault, read_script};
+use ados_transfer::TransferFault;
 use execute_options::Options;
 use std::alloc::Global;
 use std::fs;
@@ -52,10 +52,8 @@ pub fn inspect_all<R: Env + AllocGlobal + Files + Print + Clone + Drop + Clock>(
     rt: &R,
     options: &Options<'_>,
 ) -> Result<Status, Fault> {
-    match Inspector::of(rt, options) {
-        Ok(mut inspector) => inspector.inspect(rt),
-        Err(fault) => Err(fault),
-    }
+    let mut inspector = Inspector::of(rt, options)?;
+    inspector.inspect(rt)
 }
 
 impl<'a> Inspector<'a> {
@@ -246,10 +244,7 @@ impl<'a> Inspector<'a> {
     ) -> Result<Option<Vec<u8>>, Fault> {
         let limits = self.options.mirror.limits;
         if is_given {
-            return match read_script(rt, limits, path) {
-                Ok(script) => Ok(Some(script)),
-                Err(fault) => Err(unread_script(rt, fault)),
-            };
+            return Ok(Some(given_bytes(rt, limits, path)?));
         }
         match called_bytes(rt, limits, path) {
             Ok(script) => Ok(Some(script)),

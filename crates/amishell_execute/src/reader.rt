@@ -108,9 +108,7 @@ impl<'a, I: Read> Prompter<'a, I> {
         // The first line after those that bring in is given only if each file and directory is there as planned.
         ensures begins { self.old.is_ready ≡ false → self.new.is_ready ≡ true → IsBrought world.now self.old.planned }
         ensures waits { self.new.is_ready ≡ false → self.new.given ≤ self.new.bringing }
-        ensures planned { self.new.planned ≡ self.old.planned }
-        ensures bringing { self.new.bringing ≡ self.old.bringing }
-        ensures faults { self.new.faults ≡ self.old.faults }
+        ensures rest { self.new ≡ record self.old { given = self.new.given; is_ready = self.new.is_ready } }
     {
         if asks_for_line(world) {
             self.next = Next::Input;
@@ -124,10 +122,7 @@ impl<'a, I: Read> Prompter<'a, I> {
     fn look(&mut self, world: &World)
         ensures begins { self.old.is_ready ≡ false → self.new.is_ready ≡ true → IsBrought world.now self.old.planned }
         ensures stays { self.old.is_ready ≡ true → self.new.is_ready ≡ true }
-        ensures planned { self.new.planned ≡ self.old.planned }
-        ensures bringing { self.new.bringing ≡ self.old.bringing }
-        ensures given { self.new.given ≡ self.old.given }
-        ensures faults { self.new.faults ≡ self.old.faults }
+        ensures rest { self.new ≡ record self.old { is_ready = self.new.is_ready } }
     {
         if self.is_ready || self.given < self.bringing {
             return;
@@ -138,10 +133,7 @@ impl<'a, I: Read> Prompter<'a, I> {
     // The next prepared line, or the end. A line after those that bring in needs the files.
     fn take_line(&mut self)
         ensures waits { self.new.is_ready ≡ false → self.new.given ≤ self.new.bringing }
-        ensures planned { self.new.planned ≡ self.old.planned }
-        ensures bringing { self.new.bringing ≡ self.old.bringing }
-        ensures ready { self.new.is_ready ≡ self.old.is_ready }
-        ensures faults { self.new.faults ≡ self.old.faults }
+        ensures rest { self.new ≡ record self.old { given = self.new.given } }
     {
         if !self.is_ready && self.given >= self.bringing {
             self.next = Next::Refused;
@@ -159,11 +151,7 @@ impl<'a, I: Read> Prompter<'a, I> {
     // Reads what was chosen.
     fn give(&mut self, buffer: &mut [u8]) -> io::Result<usize>
         ensures bound { ReadsAtMost result buffer.new }
-        ensures planned { self.new.planned ≡ self.old.planned }
-        ensures bringing { self.new.bringing ≡ self.old.bringing }
-        ensures given { self.new.given ≡ self.old.given }
-        ensures ready { self.new.is_ready ≡ self.old.is_ready }
-        ensures faults { self.new.faults ≡ self.old.faults }
+        ensures stays { self.new ≡ self.old }
     {
         match self.next {
             Next::Line(bytes) => {
@@ -185,11 +173,7 @@ impl<'a, I: Read> Prompter<'a, I> {
     // prepared lines are left, since the end of the Shell's input would come before them.
     fn give_input(&mut self, buffer: &mut [u8]) -> io::Result<usize>
         ensures bound { ReadsAtMost result buffer.new }
-        ensures planned { self.new.planned ≡ self.old.planned }
-        ensures bringing { self.new.bringing ≡ self.old.bringing }
-        ensures given { self.new.given ≡ self.old.given }
-        ensures ready { self.new.is_ready ≡ self.old.is_ready }
-        ensures faults { self.new.faults ≡ self.old.faults }
+        ensures stays { self.new ≡ self.old }
     {
         let count = read_line(&mut self.input, buffer)?;
         if count > 0 {

@@ -40,12 +40,11 @@ fn place_of(
     directory: &Place,
     path: &Text,
 ) -> Result<Option<Place>, NoMemory> {
-    let path = match Path::parse(alloc, path) {
-        Ok(path) => path,
-        Err(Stop::NoMemory) => return Err(NoMemory),
-        Err(Stop::Refused(_)) => return Ok(None),
+    let found = match Path::parse(alloc, path) {
+        Ok(path) => assigns.resolve(&path, directory, files),
+        Err(stop) => Err(stop),
     };
-    match assigns.resolve(&path, directory, files) {
+    match found {
         Ok(place) => Ok(Some(place)),
         Err(Stop::NoMemory) => Err(NoMemory),
         Err(Stop::Refused(_)) => Ok(None),

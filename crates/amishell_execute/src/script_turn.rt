@@ -1,10 +1,11 @@
 //! What the next turn of a shell takes, if that is a line of a script.
 
-use ados_flow::{Frame, FrameKind};
+use ados_flow::Frame;
 use ados_items::trimmed;
 use ados_ram::Place;
 use ados_shell::Shell;
 use ados_text::{Name, NoMemory, Text};
+use ados_trace::script_name;
 use ados_world::World;
 use std::alloc::Global;
 
@@ -26,9 +27,7 @@ impl<'a> ScriptTurn<'a> {
     pub fn of(world: &'a World, number: u8) -> Option<ScriptTurn<'a>> {
         let shell = world.shell(number)?;
         let frame = shell.frames().last()?;
-        let FrameKind::Script { name, .. } = frame.kind() else {
-            return None;
-        };
+        let name = script_name(frame)?;
         let (_, line) = frame.script_line()?;
         Some(ScriptTurn {
             shell,

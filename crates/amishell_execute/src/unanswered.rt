@@ -1,9 +1,9 @@
 //! Where shell 1 asked, if standard input has no answer.
 
 use crate::origins::Origins;
-use ados_flow::{Frame, FrameKind};
+use ados_flow::Frame;
 use ados_text::{NoMemory, Text};
-use ados_trace::{ScriptNames, shown};
+use ados_trace::{ScriptNames, script_name, shown};
 use ados_world::World;
 
 /// The command that asked and where it stands, as `Ask: build: line 3`. `typed` is the line that was typed last, for a question that
@@ -29,9 +29,7 @@ pub fn question_asked(
 
 // Where a script's frame is: its name, the line's number, and the line.
 fn script_line(frame: &Frame) -> Option<(&Text, usize, &Text)> {
-    let FrameKind::Script { name, .. } = frame.kind() else {
-        return None;
-    };
+    let name = script_name(frame)?;
     let (script, line) = frame.script_line()?;
     Some((name, line, script.line(line)?))
 }

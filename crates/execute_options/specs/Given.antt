@@ -1,9 +1,10 @@
 -- What the command line and a file of options give together.
 use Rattle.std.specs.Prelude.{◌≡◌, ◌⊎◌, ◌++◌, ◌==◌, List, [], Bool, Some, None, codes, filter, length, not, option_map, unwrap_or, if◌then◌else◌}
-use Rattle.std.specs.List.{before_first, list_any}
+use Rattle.std.specs.List.{list_any}
 use Rattle.clap.specs.Matches.{matched_of, one_text, raw_values}
 use Rattle.clap.specs.declared.parser.matches.Found.{Found}
 use Rattle.ados_text.specs.Text.{Bytes, is_same}
+use Rattle.execute_options.specs.Names.{name_of}
 
 -- the values of an option that may be given again
 abbrev pub values_of : Found → Bytes → List Bytes
@@ -18,7 +19,7 @@ IsLeftOutOf found name = (one_text found name ≡ None) ⊎ (one_text found name
 
 -- the command's name in words of `--host`
 abbrev pub host_name : Bytes → Bytes
-host_name words = before_first (λ byte. byte == 61) words
+host_name words = name_of words
 
 -- other words of `--host` are of the same command
 abbrev pub is_host_among : List Bytes → Bytes → Bool

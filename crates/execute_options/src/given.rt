@@ -4,6 +4,7 @@ ghost use Rattle.std.specs.Option.{option_map, option_or};
 ghost use Rattle.clap.specs.Matches.{first_value, found_of};
 ghost use Rattle.execute_options.specs.Given.{IsFlagOf, IsLeftOutOf, host_name, hosts_of, is_host_among, shares_of, values_of};
 
+use crate::table::name_of;
 use ados_text::same_name;
 use clap::ArgMatches;
 use std::alloc::{AllocError, Global};
@@ -114,8 +115,5 @@ pub fn is_host_among(others: &[&str], words: &str) -> bool
 pub fn host_name(words: &str) -> &str
     ensures { result.now ≡ host_name words.now }
 {
-    match words.split_once('=') {
-        Some((name, _)) => name,
-        None => words,
-    }
+    name_of(words)
 }

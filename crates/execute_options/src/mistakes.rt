@@ -64,12 +64,11 @@ fn unknown(alloc: Global, word: &str, text: &str) -> Result<String, AllocError> 
 // The line for an option whose value is none that it takes, as `clap` writes it: `'yes' for '--answer <no>'`; or that has no value.
 fn invalid_value(alloc: Global, word: &str, text: &str) -> Result<String, AllocError> {
     let option = match text.split_once(" for ") {
-        Some((_, after)) => quoted(after).and_then(|option| option.split_once(" <")),
+        Some((_, after)) => quoted(after).and_then(name_and_value),
         None => None,
     };
     match option {
         Some((name, value)) if !word.starts_with("--") => {
-            let value = value.strip_suffix(">").unwrap_or(value);
             format!(in alloc; "{name} takes {value}, not {word}")
         }
         _ => without_value(alloc, word),
@@ -78,13 +77,16 @@ fn invalid_value(alloc: Global, word: &str, text: &str) -> Result<String, AllocE
 
 // The line for an option that has no value, as `clap` writes it: `--host <NAME>`.
 fn without_value(alloc: Global, option: &str) -> Result<String, AllocError> {
-    match option.split_once(" <") {
-        Some((name, value)) => {
-            let value = value.strip_suffix(">").unwrap_or(value);
-            format!(in alloc; "{name} needs {value}")
-        }
+    match name_and_value(option) {
+        Some((name, value)) => format!(in alloc; "{name} needs {value}"),
         None => format!(in alloc; "{option} needs a value"),
     }
+}
+
+// An option's name, and what the help calls its value, as `clap` writes them: `--host <NAME>`.
+fn name_and_value(option: &str) -> Option<(&str, &str)> {
+    let (name, value) = option.split_once(" <")?;
+    Some((name, value.strip_suffix(">").unwrap_or(value)))
 }
 
 // The name of an option, without its value.

@@ -210,7 +210,7 @@ pub fn is_option(word: &str) -> bool
         || matches!(name, "--help" | "--version")
 }
 
-/// The name of an option, as it is typed: what stands before `=`.
+/// What stands before `=`: the name of an option, as it is typed.
 pub fn name_of(word: &str) -> &str
     ensures { result.now ≡ name_of word.now }
 {
