@@ -199,7 +199,12 @@ impl Mirror {
         holders: &Holders<'_>,
         backup: &Backup,
     ) -> Result<bool, TransferFault> {
-        if holders.is_inside(&backup.bytes) || holds(rt, backup.original.as_str(), &backup.bytes) {
+        if holds(rt, backup.original.as_str(), &backup.bytes) {
+            return Ok(true);
+        }
+        if let Some(around) = holders.around(&backup.bytes)
+            && self.is_written(rt, around)?
+        {
             return Ok(true);
         }
         self.is_in_another(rt, "", &backup.bytes)

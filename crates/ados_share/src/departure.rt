@@ -8,6 +8,7 @@ ghost use Rattle.ados_share.specs.Records.{has_key};
 
 use crate::elsewhere::Elsewhere;
 use crate::modes::set_folder_mode;
+use crate::sought::Around;
 use ados_ram::Entry;
 use ados_transfer::{
     Below, Draft, Here, Last, Owner, Record, Rights, Stamp, TransferFault, enter, is_descendant,
@@ -35,8 +36,8 @@ pub struct Departure<'a> {
     /// If it is a file that is to be deleted, where the Shell has one with its bytes outside of the directory; if it is one that is to be
     /// written over, where it has one anywhere; or where the script moved it, if that is outside of the directory.
     pub elsewhere: Option<Elsewhere>,
-    /// If it is so, its bytes stand among others in a file of the directory too, which the script made or changed.
-    pub is_inside: bool,
+    /// If it is so, a file of the directory in which its bytes stand too, among others, and which the script made or changed.
+    pub inside: Option<Around>,
 }
 
 /// When a departure is written.
@@ -62,7 +63,7 @@ impl<'a> Departure<'a> {
             changes_kind,
             is_within_kind_change: changes_kind,
             elsewhere: None,
-            is_inside: false,
+            inside: None,
         })
     }
 
@@ -75,7 +76,7 @@ impl<'a> Departure<'a> {
             changes_kind: false,
             is_within_kind_change: false,
             elsewhere: None,
-            is_inside: false,
+            inside: None,
         }
     }
 

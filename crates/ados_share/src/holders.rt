@@ -6,7 +6,7 @@ ghost use Rattle.ados_share.specs.Contents.{has_bytes};
 use crate::contents::digest;
 use crate::departure::Departure;
 use crate::mirror::Mirror;
-use crate::sought::Sought;
+use crate::sought::{Around, Sought};
 use ados_ram::{FileBytes, Place, Ram};
 use ados_text::NoMemory;
 use ados_transfer::TransferFault;
@@ -123,9 +123,9 @@ impl<'a> Holders<'a> {
         self.parts.place_of(bytes)
     }
 
-    /// Bytes stand in a file of the directory, of those that were looked for.
-    pub fn is_inside(&self, bytes: &FileBytes) -> bool {
-        self.parts.is_inside(bytes)
+    /// The file of the directory in which bytes stand among others, of those that were looked for.
+    pub fn around(&self, bytes: &FileBytes) -> Option<&Around> {
+        self.parts.around(bytes)
     }
 
     /// What was looked for, with where it was found.

@@ -125,10 +125,24 @@ impl Mirror {
         };
         match &record.last {
             Last::Directory => Ok(self.waiting.is_in(key) || self.has_moved_in(key)?),
-            Last::File(bytes) if departure.elsewhere.is_some() && !departure.is_inside => {
-                Ok(!self.is_in_another(rt, key, bytes)?)
+            Last::File(bytes) if departure.elsewhere.is_some() => {
+                Ok(!self.is_inside(rt, record, departure)? && !self.is_in_another(rt, key, bytes)?)
             }
             Last::File(_) | Last::StandIn(_) => Ok(false),
+        }
+    }
+
+    // The bytes of a file that is to be deleted or written over stand in what takes its place, or in a file that is written.
+    fn is_inside<R: AllocGlobal + Files>(
+        &self,
+        rt: &R,
+        record: &Record,
+        departure: &Departure<'_>,
+    ) -> Result<bool, TransferFault> {
+        match &departure.inside {
+            Some(around) if !departure.is_gone() && around.place == record.place => Ok(true),
+            Some(around) => self.is_written(rt, around),
+            None => Ok(false),
         }
     }
 

@@ -1,7 +1,6 @@
 //! Files of the folder whose bytes stand among others in a file that the script made outside of the directories, as Join makes them: one is
 //! not deleted, and nothing takes its place, while no other file has its bytes.
 
-use crate::backups::Backup;
 use crate::beginning::Beginning;
 use crate::contents::digest;
 use crate::departure::Departures;
@@ -9,12 +8,12 @@ use crate::elsewhere::Elsewhere;
 use crate::holders::{Holder, Holders};
 use crate::last_copies::bytes_of;
 use crate::mirror::Mirror;
-use crate::sought::{Content, Sought};
-use ados_ram::{FileBytes, Ram};
-use ados_transfer::{TransferFault, is_beginning_of, lower};
-
-// A shorter file may stand in another one by chance.
-const LEAST: usize = 16;
+use crate::sought::{Around, Content, Sought};
+use ados_ram::{Entry, FileBytes, Place, Ram};
+use ados_text::NoMemory;
+use ados_transfer::{Last, TransferFault, holds, lower};
+use std::alloc::Global;
+use std::rt::Files;
 
 impl Mirror {
     // Of each file that is to be deleted or written over it is noted if its bytes stand among others in a file outside of the directory, if
@@ -31,7 +30,9 @@ impl Mirror {
             if !departure.is_new
                 && let Some(bytes) = bytes_of(&self.records, key.as_str())
             {
-                departure.is_inside = holders.is_inside(bytes);
+                if let Some(around) = holders.around(bytes) {
+                    departure.inside = Some(around.copy()?);
+                }
                 if departure.elsewhere.is_none() {
                     departure.elsewhere = self.part_elsewhere(files, holders, bytes)?;
                 }
@@ -40,27 +41,29 @@ impl Mirror {
         Ok(())
     }
 
-    // What is to be looked for of them: what is foreign, or elsewhere.
+    // What is to be looked for of them: what is foreign, or elsewhere. What begins with the old bytes and takes their place has them.
     fn contents_of(&self, departures: &Departures<'_>) -> Result<Vec<Content>, TransferFault> {
         let mut contents = Vec::new(self.alloc);
         for (key, departure) in &departures.by_key {
-            let Some(bytes) = bytes_of(&self.records, key.as_str()) else {
+            let Some(record) = self.records.get(key.as_str()) else {
                 continue;
             };
-            let is_foreign = self.may_be_part(bytes);
+            let Last::File(bytes) = &record.last else {
+                continue;
+            };
+            let is_foreign = self.contents.are_foreign(bytes);
             let is_elsewhere = departure.elsewhere.is_some();
-            if !departure.is_new && (is_foreign || is_elsewhere) {
-                let is_inside = match departure.entry {
-                    Some(entry) => is_beginning_of(self.alloc, bytes, entry)?,
-                    None => false,
-                };
-                contents.push(Content {
-                    bytes: bytes.clone()?,
-                    is_foreign,
-                    is_elsewhere,
-                    is_inside,
-                })?;
+            if departure.is_new || !(is_foreign || is_elsewhere) {
+                continue;
             }
+            let later = departure.entry.and_then(Entry::bytes);
+            contents.push(Content {
+                bytes: bytes.copy()?,
+                is_foreign,
+                is_elsewhere,
+                place: record.place.copy()?,
+                inside: around_if_begun(self.alloc, bytes, (&record.place, later))?,
+            })?;
         }
         Ok(contents)
     }
@@ -68,34 +71,35 @@ impl Mirror {
     // The same of the backups, and of what was deleted or written over: they are elsewhere.
     pub(crate) fn contents_of_backups(&self) -> Result<Vec<Content>, TransferFault> {
         let mut contents = Vec::new(self.alloc);
-        for backup in self
-            .backups
-            .by_path
-            .values()
-            .chain(self.backups.deleted.iter())
-        {
+        let backups = self.backups.by_path.values();
+        for backup in backups.chain(self.backups.deleted.iter()) {
+            let key = lower(self.alloc, backup.original.as_str())?;
+            let place = self.place_of(key.as_str())?;
+            let later = bytes_of(&self.records, key.as_str());
             contents.push(Content {
-                bytes: backup.bytes.clone()?,
-                is_foreign: self.may_be_part(&backup.bytes),
+                bytes: backup.bytes.copy()?,
+                is_foreign: self.contents.are_foreign(&backup.bytes),
                 is_elsewhere: true,
-                is_inside: self.begins_in_folder(backup)?,
+                inside: around_if_begun(self.alloc, &backup.bytes, (&place, later))?,
+                place,
             })?;
         }
         Ok(contents)
     }
 
-    // What was in the folder in place of the file of a backup at the last comparison begins with its bytes.
-    fn begins_in_folder(&self, backup: &Backup) -> Result<bool, TransferFault> {
-        let key = lower(self.alloc, backup.original.as_str())?;
-        match bytes_of(&self.records, key.as_str()) {
-            Some(bytes) => Ok(bytes.starts_with(&backup.bytes.to_vec(self.alloc)?)),
+    // A file of the directory is on this machine as it was when contents were found in it.
+    pub(crate) fn is_written<R: AllocGlobal + Files>(
+        &self,
+        rt: &R,
+        around: &Around,
+    ) -> Result<bool, TransferFault> {
+        let key = self.key_of(&around.place)?;
+        match self.records.get(key.as_str()) {
+            Some(record) => Ok(
+                record.is_file_of(&around.bytes) && holds(rt, record.path.as_str(), &around.bytes),
+            ),
             None => Ok(false),
         }
-    }
-
-    // Bytes came in from the folder, and there are enough of them.
-    fn may_be_part(&self, bytes: &FileBytes) -> bool {
-        bytes.len() >= LEAST && self.contents.are_foreign(bytes)
     }
 
     // Where the Shell has these bytes among others, of those that were looked for.
@@ -128,12 +132,28 @@ impl Mirror {
         let lacks_inside = sought.lacks_inside();
         for holder in new_ones(&self.beginning, holders.inside()?) {
             let bytes = holder.bytes();
-            if (lacks_inside || !self.contents.are_foreign(bytes)) && sought.note_inside(bytes)? {
+            if (lacks_inside || !self.contents.are_foreign(bytes))
+                && sought.note_inside(holder.place(), bytes)?
+            {
                 self.contents.add_foreign(digest(bytes))?;
             }
         }
         holders.set_parts(sought);
         Ok(())
+    }
+}
+
+// A file at a place, if what it holds begins with these bytes.
+fn around_if_begun(
+    alloc: Global,
+    bytes: &FileBytes,
+    later: (&Place, Option<&FileBytes>),
+) -> Result<Option<Around>, NoMemory> {
+    match later {
+        (place, Some(all)) if all.starts_with(&bytes.to_vec(alloc)?) => {
+            Ok(Some(Around::of(place, all)?))
+        }
+        _ => Ok(None),
     }
 }
 

@@ -7,6 +7,9 @@ use ados_text::NoMemory;
 use std::alloc::Global;
 use std::collections::BTreeMap;
 
+// Shorter contents stand in others by chance, and are found nowhere.
+const LEAST: usize = 16;
+
 // After so many comparisons in vain contents count as found. So a file of zeros is not compared at each place of a larger one.
 const COMPARISONS: usize = 64;
 
@@ -25,14 +28,24 @@ pub struct Sought {
 /// The contents of a file that are to be looked for.
 #[derive(Drop)]
 pub struct Content {
-    /// The bytes. If they are very few they are found nowhere.
     pub bytes: FileBytes,
     /// They count also where they stand among others outside of the directory.
     pub is_foreign: bool,
     /// The Shell has them elsewhere as a whole, or has moved their file.
     pub is_elsewhere: bool,
-    /// They stand in a file of the directory, as is known already.
-    pub is_inside: bool,
+    /// Where the file is of which they are.
+    pub place: Place,
+    /// A file of the directory in which they stand, if one is known already.
+    pub inside: Option<Around>,
+}
+
+/// A file of the directory in which contents stand among others.
+#[derive(Drop)]
+pub struct Around {
+    /// Where it is.
+    pub place: Place,
+    /// What it holds.
+    pub bytes: FileBytes,
 }
 
 // Contents, and where they were found.
@@ -65,7 +78,10 @@ impl Sought {
         let mut counts = Counts::new(alloc);
         let mut samples = Vec::new(alloc);
         for content in &contents {
-            let own = samples_of(alloc, text_of(&content.bytes.to_vec(alloc)?))?;
+            let own = match content.bytes.len() < LEAST {
+                true => Vec::new(alloc),
+                false => samples_of(alloc, text_of(&content.bytes.to_vec(alloc)?))?,
+            };
             counts.add(&own)?;
             samples.push(own)?;
         }
@@ -83,7 +99,9 @@ impl Sought {
             && let Some(part) = self.parts.get_mut(number)
         {
             part.content.is_elsewhere |= content.is_elsewhere;
-            part.content.is_inside |= content.is_inside;
+            if part.content.inside.is_none() {
+                part.content.inside = content.inside;
+            }
             return Ok(());
         }
         let number = self.parts.len();
@@ -127,17 +145,16 @@ impl Sought {
         self.part_of(bytes)?.outside.as_ref()
     }
 
-    /// Contents stand in a file of the directory.
-    pub fn is_inside(&self, bytes: &FileBytes) -> bool {
-        self.part_of(bytes)
-            .is_some_and(|part| part.content.is_inside)
+    /// The file of the directory in which contents stand among others.
+    pub fn around(&self, bytes: &FileBytes) -> Option<&Around> {
+        self.part_of(bytes)?.content.inside.as_ref()
     }
 
     /// The Shell has some contents elsewhere, and none in a file of the directory that was looked at.
     pub fn lacks_inside(&self) -> bool {
         self.parts.iter().any(|part| {
             let is_elsewhere = part.content.is_elsewhere || part.outside.is_some();
-            is_elsewhere && !part.content.is_inside
+            is_elsewhere && part.content.inside.is_none()
         })
     }
 
@@ -153,13 +170,15 @@ impl Sought {
         Ok(())
     }
 
-    /// Notes which contents stand in a file of the directory. Gives if foreign ones do.
-    pub fn note_inside(&mut self, bytes: &FileBytes) -> Result<bool, NoMemory> {
+    /// Notes which contents stand in a file of the directory; rather in the one that takes the place of theirs. Gives if foreign ones do.
+    pub fn note_inside(&mut self, place: &Place, bytes: &FileBytes) -> Result<bool, NoMemory> {
         let mut has_foreign = false;
         for number in self.within(bytes)? {
             if let Some(part) = self.parts.get_mut(number) {
-                part.content.is_inside = true;
                 has_foreign |= part.content.is_foreign;
+                if part.content.inside.is_none() || part.content.place == *place {
+                    part.content.inside = Some(Around::of(place, bytes)?);
+                }
             }
         }
         Ok(has_foreign)
@@ -209,6 +228,21 @@ impl Sought {
             }
         }
         Ok(())
+    }
+}
+
+impl Around {
+    /// A file at a place that holds these bytes.
+    pub fn of(place: &Place, bytes: &FileBytes) -> Result<Around, NoMemory> {
+        Ok(Around {
+            place: place.copy()?,
+            bytes: bytes.copy()?,
+        })
+    }
+
+    /// An equal value.
+    pub fn copy(&self) -> Result<Around, NoMemory> {
+        Around::of(&self.place, &self.bytes)
     }
 }
 
