@@ -93,7 +93,9 @@ impl Mirror {
         rt: &R,
         around: &Around,
     ) -> Result<bool, TransferFault> {
-        let key = self.key_of(&around.place)?;
+        let Some(key) = self.key_of(&around.place)? else {
+            return Ok(false);
+        };
         match self.records.get(key.as_str()) {
             Some(record) => Ok(
                 record.is_file_of(&around.bytes) && holds(rt, record.path.as_str(), &around.bytes),
