@@ -78,9 +78,10 @@ impl Sought {
         let mut counts = Counts::new(alloc);
         let mut samples = Vec::new(alloc);
         for content in &contents {
-            let own = match content.bytes.len() < LEAST {
-                true => Vec::new(alloc),
-                false => samples_of(alloc, text_of(&content.bytes.to_vec(alloc)?))?,
+            let own = if content.bytes.len() < LEAST {
+                Vec::new(alloc)
+            } else {
+                samples_of(alloc, text_of(&content.bytes.to_vec(alloc)?))?
             };
             counts.add(&own)?;
             samples.push(own)?;
