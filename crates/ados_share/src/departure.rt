@@ -6,9 +6,9 @@ ghost use Rattle.ados_text.specs.Text.{Bytes};
 ghost use Rattle.ados_transfer.specs.Paths.{IsBelow, path_in};
 ghost use Rattle.ados_share.specs.Records.{has_key};
 
+use crate::around::Around;
 use crate::elsewhere::Elsewhere;
 use crate::modes::set_folder_mode;
-use crate::sought::Around;
 use ados_ram::Entry;
 use ados_transfer::{
     Below, Draft, Here, Last, Owner, Record, Rights, Stamp, TransferFault, enter, is_descendant,

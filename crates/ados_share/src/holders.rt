@@ -3,10 +3,11 @@ ghost use Rattle.std.specs.Prelude.{◌≡◌, true, IfSome, find};
 ghost use Rattle.std.specs.Option.{option_copied};
 ghost use Rattle.ados_share.specs.Contents.{has_bytes};
 
+use crate::around::Around;
 use crate::contents::digest;
 use crate::departure::Departure;
 use crate::mirror::Mirror;
-use crate::sought::{Around, Sought};
+use crate::sought::Sought;
 use ados_ram::{FileBytes, Place, Ram};
 use ados_text::NoMemory;
 use ados_transfer::TransferFault;

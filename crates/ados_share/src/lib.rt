@@ -3,6 +3,7 @@
 //! about it on the other one.
 
 mod account;
+mod around;
 mod arrival_plan;
 mod arrivals;
 mod asides;

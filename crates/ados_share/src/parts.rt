@@ -1,6 +1,7 @@
 //! Files of the folder whose bytes stand among others in a file that the script made outside of the directories, as Join makes them: one is
 //! not deleted, and nothing takes its place, while no other file has its bytes.
 
+use crate::around::Around;
 use crate::beginning::Beginning;
 use crate::contents::digest;
 use crate::departure::Departures;
@@ -8,12 +9,9 @@ use crate::elsewhere::Elsewhere;
 use crate::holders::{Holder, Holders};
 use crate::last_copies::bytes_of;
 use crate::mirror::Mirror;
-use crate::sought::{Around, Content, Sought};
-use ados_ram::{Entry, FileBytes, Place, Ram};
-use ados_text::NoMemory;
-use ados_transfer::{Last, TransferFault, holds, lower};
-use std::alloc::Global;
-use std::rt::Files;
+use crate::sought::{Content, Sought};
+use ados_ram::{Entry, FileBytes, Ram};
+use ados_transfer::{Last, TransferFault, lower};
 
 impl Mirror {
     // Of each file that is to be deleted or written over it is noted if its bytes stand among others in a file outside of the directory, if
@@ -62,7 +60,7 @@ impl Mirror {
                 is_foreign,
                 is_elsewhere,
                 place: record.place.copy()?,
-                inside: around_if_begun(self.alloc, bytes, (&record.place, later))?,
+                inside: Around::if_begun(self.alloc, &record.place, later, bytes)?,
             })?;
         }
         Ok(contents)
@@ -80,28 +78,11 @@ impl Mirror {
                 bytes: backup.bytes.copy()?,
                 is_foreign: self.contents.are_foreign(&backup.bytes),
                 is_elsewhere: true,
-                inside: around_if_begun(self.alloc, &backup.bytes, (&place, later))?,
+                inside: Around::if_begun(self.alloc, &place, later, &backup.bytes)?,
                 place,
             })?;
         }
         Ok(contents)
-    }
-
-    // A file of the directory is on this machine as it was when contents were found in it.
-    pub(crate) fn is_written<R: AllocGlobal + Files>(
-        &self,
-        rt: &R,
-        around: &Around,
-    ) -> Result<bool, TransferFault> {
-        let Some(key) = self.key_of(&around.place)? else {
-            return Ok(false);
-        };
-        match self.records.get(key.as_str()) {
-            Some(record) => Ok(
-                record.is_file_of(&around.bytes) && holds(rt, record.path.as_str(), &around.bytes),
-            ),
-            None => Ok(false),
-        }
     }
 
     // Where the Shell has these bytes among others, of those that were looked for.
@@ -142,20 +123,6 @@ impl Mirror {
         }
         holders.set_parts(sought);
         Ok(())
-    }
-}
-
-// A file at a place, if what it holds begins with these bytes.
-fn around_if_begun(
-    alloc: Global,
-    bytes: &FileBytes,
-    later: (&Place, Option<&FileBytes>),
-) -> Result<Option<Around>, NoMemory> {
-    match later {
-        (place, Some(all)) if all.starts_with(&bytes.to_vec(alloc)?) => {
-            Ok(Some(Around::of(place, all)?))
-        }
-        _ => Ok(None),
     }
 }
 

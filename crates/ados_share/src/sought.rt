@@ -1,5 +1,6 @@
 //! Contents of files that are looked for in other files, each of which is read once for all of them.
 
+use crate::around::Around;
 use crate::contents::digest;
 use crate::samples::{Counts, Filter, Sample, next_window, samples_of, window_at_end};
 use ados_ram::{FileBytes, Place};
@@ -10,7 +11,7 @@ use std::collections::BTreeMap;
 // Shorter contents stand in others by chance, and are found nowhere.
 const LEAST: usize = 16;
 
-// After so many comparisons in vain contents count as found. So a file of zeros is not compared at each place of a larger one.
+// After so many comparisons in vain contents are compared no longer: a file of zeros would be at each place of a larger one.
 const COMPARISONS: usize = 64;
 
 /// What is looked for, and where it was found.
@@ -39,20 +40,30 @@ pub struct Content {
     pub inside: Option<Around>,
 }
 
-/// A file of the directory in which contents stand among others.
+// A file in which contents are looked for.
 #[derive(Drop)]
-pub struct Around {
-    /// Where it is.
-    pub place: Place,
-    /// What it holds.
-    pub bytes: FileBytes,
+struct Reading {
+    text: Vec<u8>,
+    // Contents are found only as a whole; else they are without an end of line at their end, or if there were too many comparisons.
+    is_strict: bool,
+    // What came of the comparisons, for each part.
+    trials: Vec<Trial>,
+}
+
+// What came of the comparisons of a part.
+#[derive(Clone, Copy, PartialEq, Eq)]
+enum Trial {
+    // There may be so many more.
+    Open(usize),
+    Found,
+    GivenUp,
 }
 
 // Contents, and where they were found.
 #[derive(Drop)]
 struct Part {
     content: Content,
-    // How many of their bytes are looked for: an end of line at the end is not.
+    // How many bytes they have without an end of line at their end.
     length: usize,
     sample: Option<Sample>,
     // The last of those bytes.
@@ -161,7 +172,7 @@ impl Sought {
 
     /// Notes which contents stand in a file outside of the directory.
     pub fn note_outside(&mut self, place: &Place, bytes: &FileBytes) -> Result<(), NoMemory> {
-        for number in self.within(bytes)? {
+        for number in self.within(bytes, false)? {
             if let Some(part) = self.parts.get_mut(number)
                 && part.content.is_foreign
             {
@@ -174,7 +185,7 @@ impl Sought {
     /// Notes which contents stand in a file of the directory; rather in the one that takes the place of theirs. Gives if foreign ones do.
     pub fn note_inside(&mut self, place: &Place, bytes: &FileBytes) -> Result<bool, NoMemory> {
         let mut has_foreign = false;
-        for number in self.within(bytes)? {
+        for number in self.within(bytes, true)? {
             if let Some(part) = self.parts.get_mut(number) {
                 has_foreign |= part.content.is_foreign;
                 if part.content.inside.is_none() || part.content.place == *place {
@@ -186,73 +197,63 @@ impl Sought {
     }
 
     // The numbers of the parts that stand in these bytes.
-    fn within(&self, bytes: &FileBytes) -> Result<Vec<usize>, NoMemory> {
+    fn within(&self, bytes: &FileBytes, is_strict: bool) -> Result<Vec<usize>, NoMemory> {
         let text = bytes.to_vec(self.alloc)?;
-        let mut left = vec![in self.alloc; COMPARISONS; self.parts.len()]?;
+        let mut reading = Reading {
+            text: bytes.to_vec(self.alloc)?,
+            is_strict,
+            trials: vec![in self.alloc; Trial::Open(COMPARISONS); self.parts.len()]?,
+        };
         let mut window = 0;
         for (at, byte) in text.iter().enumerate() {
             window = next_window(window, *byte);
             if self.filter.may_have(window) {
-                self.compare_at(&text, at.saturating_add(1), window, &mut left)?;
+                self.compare_at(at.saturating_add(1), window, &mut reading)?;
             }
         }
         let mut numbers = Vec::new(self.alloc);
-        for (number, left) in left.iter().enumerate() {
-            if *left == 0 {
+        for (number, trial) in reading.trials.iter().enumerate() {
+            if *trial == Trial::Found || !is_strict && *trial == Trial::GivenUp {
                 numbers.push(number)?;
             }
         }
         Ok(numbers)
     }
 
-    // Compares the parts that are looked for by the bytes that end at a place of a text. `left` has how many more comparisons there are of
-    // each part: none if it was found.
-    fn compare_at(
-        &self,
-        text: &[u8],
-        end: usize,
-        window: u64,
-        left: &mut [usize],
-    ) -> Result<(), NoMemory> {
+    // Compares the parts that are looked for by the bytes that end at a place of a text.
+    fn compare_at(&self, end: usize, window: u64, reading: &mut Reading) -> Result<(), NoMemory> {
         let Some(alike) = self.by_window.get(&window) else {
             return Ok(());
         };
         for number in alike {
             if let Some(part) = self.parts.get(*number)
-                && let Some(left) = left.get_mut(*number)
-                && *left > 0
-                && let Some(found) = part.place_in(text, end)
+                && let Some(trial) = reading.trials.get_mut(*number)
+                && let Trial::Open(left) = *trial
+                && let Some(found) = part.place_in(&reading.text, end, reading.is_strict)
             {
                 let bytes = part.content.bytes.to_vec(self.alloc)?;
-                let is_same = *found == *text_of(&bytes);
-                *left = if is_same { 0 } else { left.saturating_sub(1) };
+                *trial = match left {
+                    _ if bytes.starts_with(found) => Trial::Found,
+                    0 => Trial::GivenUp,
+                    left => Trial::Open(left.saturating_sub(1)),
+                };
             }
         }
         Ok(())
     }
 }
 
-impl Around {
-    /// A file at a place that holds these bytes.
-    pub fn of(place: &Place, bytes: &FileBytes) -> Result<Around, NoMemory> {
-        Ok(Around {
-            place: place.copy()?,
-            bytes: bytes.copy()?,
-        })
-    }
-
-    /// An equal value.
-    pub fn copy(&self) -> Result<Around, NoMemory> {
-        Around::of(&self.place, &self.bytes)
-    }
-}
-
 impl Part {
     // What of a text it would be if its sample ends there at a place: nothing if that is too short, or has another ending.
-    fn place_in<'t>(&self, text: &'t [u8], end: usize) -> Option<&'t [u8]> {
+    fn place_in<'t>(&self, text: &'t [u8], end: usize, is_strict: bool) -> Option<&'t [u8]> {
         let start = self.sample?.start_in(end)?;
-        let found = text.get(start..start.saturating_add(self.length))?;
-        if window_at_end(found) == self.ending {
+        let length = if is_strict {
+            self.content.bytes.len()
+        } else {
+            self.length
+        };
+        let found = text.get(start..start.saturating_add(length))?;
+        if window_at_end(found.get(..self.length)?) == self.ending {
             Some(found)
         } else {
             None
