@@ -40,10 +40,9 @@ pub struct Content {
     pub inside: Option<Around>,
 }
 
-// A file in which contents are looked for.
+// How contents are looked for in a file.
 #[derive(Drop)]
 struct Reading {
-    text: Vec<u8>,
     // Contents are found only as a whole; else they are without an end of line at their end, or if there were too many comparisons.
     is_strict: bool,
     // What came of the comparisons, for each part.
@@ -200,7 +199,6 @@ impl Sought {
     fn within(&self, bytes: &FileBytes, is_strict: bool) -> Result<Vec<usize>, NoMemory> {
         let text = bytes.to_vec(self.alloc)?;
         let mut reading = Reading {
-            text: bytes.to_vec(self.alloc)?,
             is_strict,
             trials: vec![in self.alloc; Trial::Open(COMPARISONS); self.parts.len()]?,
         };
@@ -208,7 +206,7 @@ impl Sought {
         for (at, byte) in text.iter().enumerate() {
             window = next_window(window, *byte);
             if self.filter.may_have(window) {
-                self.compare_at(at.saturating_add(1), window, &mut reading)?;
+                self.compare_at(&text, at.saturating_add(1), window, &mut reading)?;
             }
         }
         let mut numbers = Vec::new(self.alloc);
@@ -221,7 +219,13 @@ impl Sought {
     }
 
     // Compares the parts that are looked for by the bytes that end at a place of a text.
-    fn compare_at(&self, end: usize, window: u64, reading: &mut Reading) -> Result<(), NoMemory> {
+    fn compare_at(
+        &self,
+        text: &[u8],
+        end: usize,
+        window: u64,
+        reading: &mut Reading,
+    ) -> Result<(), NoMemory> {
         let Some(alike) = self.by_window.get(&window) else {
             return Ok(());
         };
@@ -229,7 +233,7 @@ impl Sought {
             if let Some(part) = self.parts.get(*number)
                 && let Some(trial) = reading.trials.get_mut(*number)
                 && let Trial::Open(left) = *trial
-                && let Some(found) = part.place_in(&reading.text, end, reading.is_strict)
+                && let Some(found) = part.place_in(text, end, reading.is_strict)
             {
                 let bytes = part.content.bytes.to_vec(self.alloc)?;
                 *trial = match left {
