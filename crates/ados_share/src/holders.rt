@@ -124,9 +124,9 @@ impl<'a> Holders<'a> {
         self.parts.place_of(bytes)
     }
 
-    /// The file of the directory in which bytes stand among others, of those that were looked for.
-    pub fn around(&self, bytes: &FileBytes) -> Option<&Around> {
-        self.parts.around(bytes)
+    /// The file of the directory in which the bytes of the file at a place stand among others, of those that were looked for.
+    pub fn around(&self, place: &Place, bytes: &FileBytes) -> Option<&Around> {
+        self.parts.around(place, bytes)
     }
 
     /// What was looked for, with where it was found.

@@ -26,9 +26,10 @@ impl Mirror {
         self.look_for(holders, contents)?;
         for (key, departure) in &mut departures.by_key {
             if !departure.is_new
-                && let Some(bytes) = bytes_of(&self.records, key.as_str())
+                && let Some(record) = self.records.get(key.as_str())
+                && let Last::File(bytes) = &record.last
             {
-                if let Some(around) = holders.around(bytes) {
+                if let Some(around) = holders.around(&record.place, bytes) {
                     departure.inside = Some(around.copy()?);
                 }
                 if departure.elsewhere.is_none() {

@@ -104,17 +104,8 @@ impl Sought {
         Ok(sought)
     }
 
-    // Looks for contents by a sample of them. What is known of the same bytes already counts for them too.
+    // Looks for contents by a sample of them.
     fn add(&mut self, content: Content, sample: Option<Sample>) -> Result<(), NoMemory> {
-        if let Some(number) = self.number_of(&content.bytes)
-            && let Some(part) = self.parts.get_mut(number)
-        {
-            part.content.is_elsewhere |= content.is_elsewhere;
-            if part.content.inside.is_none() {
-                part.content.inside = content.inside;
-            }
-            return Ok(());
-        }
         let number = self.parts.len();
         let key = digest(&content.bytes);
         push_number(self.alloc, &mut self.by_digest, key, number)?;
@@ -134,31 +125,27 @@ impl Sought {
         Ok(())
     }
 
-    // The number of the part that has these bytes.
-    fn number_of(&self, bytes: &FileBytes) -> Option<usize> {
+    // The first part with these bytes, of a file at a place if one is told.
+    fn part_of(&self, bytes: &FileBytes, place: Option<&Place>) -> Option<&Part> {
         for number in self.by_digest.get(&digest(bytes))? {
             if let Some(part) = self.parts.get(*number)
+                && place.is_none_or(|place| part.content.place == *place)
                 && part.content.bytes == *bytes
             {
-                return Some(*number);
+                return Some(part);
             }
         }
         None
     }
 
-    // The part that has these bytes.
-    fn part_of(&self, bytes: &FileBytes) -> Option<&Part> {
-        self.parts.get(self.number_of(bytes)?)
-    }
-
     /// The file outside of the directory in which contents stand among others.
     pub fn place_of(&self, bytes: &FileBytes) -> Option<&Place> {
-        self.part_of(bytes)?.outside.as_ref()
+        self.part_of(bytes, None)?.outside.as_ref()
     }
 
-    /// The file of the directory in which contents stand among others.
-    pub fn around(&self, bytes: &FileBytes) -> Option<&Around> {
-        self.part_of(bytes)?.content.inside.as_ref()
+    /// The file of the directory in which the contents of the file at a place stand among others.
+    pub fn around(&self, place: &Place, bytes: &FileBytes) -> Option<&Around> {
+        self.part_of(bytes, Some(place))?.content.inside.as_ref()
     }
 
     /// The Shell has some contents elsewhere, and none in a file of the directory that was looked at.
