@@ -120,21 +120,30 @@ impl<R: Processes> Children<'_, R> {
     fn begin(&mut self, job: &Job) -> Answer
         ensures { answers_start result ≡ true }
     {
-        if job.program.as_bytes() == BRING {
-            if let Some(bytes) = self.offered.take() {
-                self.delivery = Some(Delivery::new(job.shell, bytes));
-                return Answer::Started;
-            }
-            if let Some((bytes, left)) = next_file(self.left) {
-                let Ok(bytes) = bytes.copy() else {
-                    return Answer::Memory;
-                };
-                self.left = left;
-                self.delivery = Some(Delivery::new(job.shell, bytes));
-                return Answer::Started;
-            }
+        if job.program.as_bytes() != BRING {
+            return self.start_program(job);
         }
-        self.start_program(job)
+        match self.take_file() {
+            Ok(Some(bytes)) => {
+                self.delivery = Some(Delivery::new(job.shell, bytes));
+                Answer::Started
+            }
+            Ok(None) => self.start_program(job),
+            Err(NoMemory) => Answer::Memory,
+        }
+    }
+
+    // The file that `amishell-bring` takes: the one that is offered, or the next of those that are to come in.
+    fn take_file(&mut self) -> Result<Option<FileBytes>, NoMemory> {
+        if let Some(bytes) = self.offered.take() {
+            return Ok(Some(bytes));
+        }
+        let Some((bytes, left)) = next_file(self.left) else {
+            return Ok(None);
+        };
+        let bytes = bytes.copy()?;
+        self.left = left;
+        Ok(Some(bytes))
     }
 
     // Starts the program of a job, unless none starts.
