@@ -67,23 +67,18 @@ impl Mirror {
         Ok(contents)
     }
 
-    // The same of the backups, and of what was deleted or written over.
-    pub(crate) fn contents_of_backups(
-        &self,
-        files: &Ram,
-        holders: &Holders<'_>,
-    ) -> Result<Vec<Content>, TransferFault> {
+    // The same of the backups, and of what was deleted or written over: they are elsewhere.
+    pub(crate) fn contents_of_backups(&self) -> Result<Vec<Content>, TransferFault> {
         let mut contents = Vec::new(self.alloc);
         let backups = self.backups.by_path.values();
         for backup in backups.chain(self.backups.deleted.iter()) {
             let key = lower(self.alloc, backup.original.as_str())?;
             let place = self.place_of(key.as_str())?;
             let later = bytes_of(&self.records, key.as_str());
-            let moved = self.unwritten_elsewhere(files, backup.moved.as_ref())?;
             contents.push(Content {
                 bytes: backup.bytes.copy()?,
                 is_foreign: self.contents.are_foreign(&backup.bytes),
-                is_elsewhere: moved.is_some() || holders.has_outside(&backup.bytes),
+                is_elsewhere: true,
                 inside: Around::if_begun(self.alloc, &place, later, &backup.bytes)?,
                 place,
             })?;

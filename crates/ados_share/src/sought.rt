@@ -32,7 +32,7 @@ pub struct Content {
     pub bytes: FileBytes,
     /// They count also where they stand among others outside of the directory.
     pub is_foreign: bool,
-    /// The Shell has them elsewhere as a whole, or has moved their file: then they are not looked for among others.
+    /// The Shell has them elsewhere as a whole, or has moved their file.
     pub is_elsewhere: bool,
     /// Where the file is of which they are.
     pub place: Place,
@@ -88,7 +88,7 @@ impl Sought {
         let mut counts = Counts::new(alloc);
         let mut samples = Vec::new(alloc);
         for content in &contents {
-            let own = if content.is_elsewhere || content.bytes.len() < LEAST {
+            let own = if content.bytes.len() < LEAST {
                 Vec::new(alloc)
             } else {
                 samples_of(alloc, text_of(&content.bytes.to_vec(alloc)?))?
@@ -148,9 +148,12 @@ impl Sought {
         self.part_of(bytes, Some(place))?.content.inside.as_ref()
     }
 
-    /// Some contents were found outside of the directory, and in no file of it.
+    /// The Shell has some contents elsewhere, and none in a file of the directory that was looked at.
     pub fn lacks_inside(&self) -> bool {
-        self.parts.iter().any(|part| part.outside.is_some() && part.content.inside.is_none())
+        self.parts.iter().any(|part| {
+            let is_elsewhere = part.content.is_elsewhere || part.outside.is_some();
+            is_elsewhere && part.content.inside.is_none()
+        })
     }
 
     /// Notes which contents stand in a file outside of the directory.
