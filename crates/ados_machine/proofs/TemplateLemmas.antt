@@ -12,30 +12,22 @@ use Rattle.ados_resident.specs.declared.commands.Builtin.TheVariants.{Env, Files
 use Rattle.ados_machine.specs.Commands.{template_of}
 
 -- the last clause of each crate in a dialect is checked at each other command
+checked : (dialect : Dialect) (builtin : Builtin) → (map to_ascii (template_of dialect builtin) ≡ template_of dialect builtin) × IsTemplate (template_of dialect builtin)
+checked Core (Env env.Alias) = (refl, refl)
+checked Core (Env command) = (refl, refl)
+checked Core (Files files.Copy) = (refl, refl)
+checked Core (Files command) = (refl, refl)
+checked Core (Flow flow.Ask) = (refl, refl)
+checked Core (Flow command) = (refl, refl)
+checked Full (Env env.Alias) = (refl, refl)
+checked Full (Env command) = (refl, refl)
+checked Full (Files files.Copy) = (refl, refl)
+checked Full (Files command) = (refl, refl)
+checked Full (Flow flow.Ask) = (refl, refl)
+checked Full (Flow command) = (refl, refl)
+
 pub ascii : (dialect : Dialect) (builtin : Builtin) → map to_ascii (template_of dialect builtin) ≡ template_of dialect builtin
-ascii Core (Env env.Alias) = refl
-ascii Core (Env command) = refl
-ascii Core (Files files.Copy) = refl
-ascii Core (Files command) = refl
-ascii Core (Flow flow.Ask) = refl
-ascii Core (Flow command) = refl
-ascii Full (Env env.Alias) = refl
-ascii Full (Env command) = refl
-ascii Full (Files files.Copy) = refl
-ascii Full (Files command) = refl
-ascii Full (Flow flow.Ask) = refl
-ascii Full (Flow command) = refl
+ascii dialect builtin = (checked dialect builtin).0
 
 pub are_templates : (dialect : Dialect) (builtin : Builtin) → IsTemplate (template_of dialect builtin)
-are_templates Core (Env env.Alias) = refl
-are_templates Core (Env command) = refl
-are_templates Core (Files files.Copy) = refl
-are_templates Core (Files command) = refl
-are_templates Core (Flow flow.Ask) = refl
-are_templates Core (Flow command) = refl
-are_templates Full (Env env.Alias) = refl
-are_templates Full (Env command) = refl
-are_templates Full (Files files.Copy) = refl
-are_templates Full (Files command) = refl
-are_templates Full (Flow flow.Ask) = refl
-are_templates Full (Flow command) = refl
+are_templates dialect builtin = (checked dialect builtin).1

@@ -16,7 +16,7 @@ use Rattle.ados_ram.specs.Place.{place_cmp, place_cmp_total, place_cmp_exact, is
 use Rattle.ados_ram.specs.Entry.{is_directory, is_directory_body, file_entry, file_entry_with_bits, new_directory}
 use Rattle.ados_ram.specs.Files.{Files, Rows, IsTree, is_some_directory, is_some_file, entry_bytes}
 use Rattle.ados_ram.specs.declared.limits.Limits.{Limits}
-use Rattle.ados_ram.specs.FileOperations.{parent_fault, way_fault, write_target_fault, write_fault, write_as_of, append_of, is_put, put_open_of, free_fault, make_dir_of, make_dir_fault, has_descendants, delete_target_fault, delete_fault}
+use Rattle.ados_ram.specs.FileOperations.{parent_fault, way_fault, write_target_fault, write_fault, write_as_of, append_of, is_put, put_open_of, make_dir_of, make_dir_fault, has_descendants, delete_target_fault, delete_fault}
 use Rattle.ados_ram.specs.InUse.{InUse, is_in_use}
 use Rattle.ados_ram.specs.declared.entries.Bits.{Bits}
 use Rattle.ados_ram.specs.declared.entries.Body.{Body}

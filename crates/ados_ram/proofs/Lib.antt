@@ -24,3 +24,4 @@ pub mod ConcatLemmas
 pub mod CutLemmas
 pub mod StartLemmas
 pub mod WithinLemmas
+pub mod AppendLemmas

@@ -86,6 +86,11 @@ append_of m key name bytes = write_of m key name (entry_bytes (map.get m key) ++
 abbrev pub append_fault : Limits → Bool → Files → Key → Name → Bytes → Option Result2
 append_fault limits is_open m key name bytes = write_fault limits is_open m key name (entry_bytes (map.get m key) ++ bytes)
 
+-- there is a file without bit a: to append nothing leaves the files as they are
+abbrev pub is_unarchived_file : Option Entry → Bool
+is_unarchived_file None = false
+is_unarchived_file (Some e) = not (is_directory e) && not e.bits.archive
+
 -- Append to an open output, whatever its bits say, if there is one byte or more and there is a file. Only the limits
 -- refuse it
 abbrev pub is_put : Option Entry → Bytes → Bool

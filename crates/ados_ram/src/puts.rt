@@ -15,7 +15,7 @@ use crate::in_use::Busy;
 use crate::limits::Limits;
 use crate::new_bytes::NewBytes;
 use crate::places::Place;
-use crate::refusals::{is_put, put_refusal, write_refusal};
+use crate::refusals::{is_put, is_unarchived_file, put_refusal, write_refusal};
 use crate::table::entry_bytes;
 use ados_text::{NoMemory, Stop};
 
@@ -76,7 +76,7 @@ impl Ram {
         self.put(limits, busy, place, &NewBytes::new(Some(bytes), &[]), bits)
     }
 
-    /// Appends bytes to a file; a file that does not exist is created.
+    /// Appends bytes to a file; a file that does not exist is created. No bytes change nothing of a file without bit a.
     ///
     /// 204 (directory not found), 212 (wrong type of object), 202 (object in use) and 223 (write protected), each when
     /// `write` gives it; 221 (disk full) when `write` gives it for the bytes that the file would then hold.
@@ -90,14 +90,13 @@ impl Ram {
         ensures ok { IfOk result (λ new. new ≡ append_of self.now (key_of place.now) (last_name place.now) bytes.now) }
         ensures fault { Answers result (append_fault limits (is_output busy.now (key_of place.now)) self.now (key_of place.now) (last_name place.now) bytes.now) }
     {
-        let kept = entry_bytes(self.table.find(place.names()));
-        self.put(
-            limits,
-            busy,
-            place,
-            &NewBytes::new(kept, bytes),
-            Bits::FRESH,
-        )
+        let old = self.table.find(place.names());
+        let new = NewBytes::new(entry_bytes(old), bytes);
+        if bytes.is_empty() && is_unarchived_file(old) {
+            self.keep(limits, busy, place, &new)
+        } else {
+            self.put(limits, busy, place, &new, Bits::FRESH)
+        }
     }
 
     /// Appends bytes to an output that is open, whatever its bits have become. Its bit a is cleared by one byte or more;
@@ -112,6 +111,24 @@ impl Ram {
         match put_refusal(limits, &self.table, place.names(), bytes) {
             Some(fault) => Err(Stop::Refused(fault)),
             None => Ok(self.with_put(place, bytes)?),
+        }
+    }
+
+    // The files as they are, unless a file with these bytes would be refused.
+    fn keep(
+        &self,
+        limits: Limits,
+        busy: &Busy,
+        place: &Place,
+        bytes: &NewBytes<'_>,
+    ) -> Result<Ram, Stop>
+        ensures ok { IfOk result (λ new. new ≡ self.now) }
+        ensures fault { Answers result (write_fault limits (is_output busy.now (key_of place.now)) self.now (key_of place.now) (last_name place.now) bytes.now) }
+    {
+        let open = busy.is_output(place.names());
+        match write_refusal(limits, open, &self.table, place.names(), bytes) {
+            Some(fault) => Err(Stop::Refused(fault)),
+            None => Ok(self.copy()?),
         }
     }
 

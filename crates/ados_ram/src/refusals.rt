@@ -7,7 +7,7 @@ ghost use Rattle.ados_ram.specs.declared.entries.Entry.{Entry};
 ghost use Rattle.ados_ram.specs.Place.{key_of};
 ghost use Rattle.ados_ram.specs.Entry.{size_of};
 ghost use Rattle.ados_ram.specs.Files.{entry_bytes};
-ghost use Rattle.ados_ram.specs.FileOperations.{read_fault, list_fault, write_target_fault, write_fault, full_fault, is_put, put_open_fault, free_fault, make_dir_fault, delete_fault, rename_target_fault, rename_fault, change_fault};
+ghost use Rattle.ados_ram.specs.FileOperations.{read_fault, list_fault, write_target_fault, write_fault, full_fault, is_put, is_unarchived_file, put_open_fault, free_fault, make_dir_fault, delete_fault, rename_target_fault, rename_fault, change_fault};
 
 use crate::entries::{Body, Entry};
 use crate::file_bytes::FileBytes;
@@ -74,6 +74,16 @@ pub fn is_put(entry: Option<&Entry>, bytes: &[u8]) -> bool
     match entry {
         None => false,
         Some(entry) => !entry.is_directory() && !bytes.is_empty(),
+    }
+}
+
+/// Whether there is a file without bit a: only new bytes change it.
+pub fn is_unarchived_file(entry: Option<&Entry>) -> bool
+    ensures { result ≡ is_unarchived_file (option_copied entry.entry) }
+{
+    match entry {
+        None => false,
+        Some(entry) => !entry.is_directory() && !entry.bits.archive,
     }
 }
 
