@@ -1,3 +1,4 @@
 mod AccountLemmas
+mod AroundLemmas
 mod PathLemmas
 mod KeyLemmas

@@ -1,4 +1,5 @@
 pub mod Account
+pub mod Around
 pub mod Arrivals
 pub mod Backups
 pub mod Records

@@ -1,9 +1,13 @@
 //! Files of the directory of a share in which the bytes of another one stand among others.
+ghost use Rattle.std.specs.Prelude.{◌≡◌, true, IfOk, IfSome};
+ghost use Rattle.ados_share.specs.Around.{StandsIn};
 
 use crate::mirror::Mirror;
+use crate::sought::LEAST;
 use ados_ram::{FileBytes, Place};
 use ados_text::NoMemory;
 use ados_transfer::{TransferFault, holds};
+use memchr::memmem;
 use std::alloc::Global;
 use std::rt::Files;
 
@@ -18,24 +22,27 @@ pub struct Around {
 
 impl Around {
     /// The file at a place that holds these bytes.
-    pub fn of(place: &Place, bytes: &FileBytes) -> Result<Around, NoMemory> {
+    pub fn of(place: &Place, bytes: &FileBytes) -> Result<Around, NoMemory>
+        ensures { IfOk result (λ around. around.bytes ≡ bytes.now) }
+    {
         Ok(Around {
             place: place.copy()?,
             bytes: bytes.copy()?,
         })
     }
 
-    /// The same, if `all` begins with the other bytes; nothing if there is no such file.
-    pub fn if_begun(
+    /// The file at a place that holds `all`, if other bytes stand in it: fewer than 16 at its beginning, more anywhere. Nothing if there is
+    /// no such file.
+    pub fn if_within(
         alloc: Global,
         place: &Place,
         all: Option<&FileBytes>,
         bytes: &FileBytes,
-    ) -> Result<Option<Around>, NoMemory> {
+    ) -> Result<Option<Around>, NoMemory>
+        ensures { IfOk result (λ found. IfSome found (λ around. StandsIn bytes.now around.bytes)) }
+    {
         match all {
-            Some(all) if all.starts_with(&bytes.to_vec(alloc)?) => Ok(Some(Around::of(
-                place, all,
-            )?)),
+            Some(all) if is_within(alloc, all, bytes)? => Ok(Some(Around::of(place, all)?)),
             _ => Ok(None),
         }
     }
@@ -63,4 +70,19 @@ impl Mirror {
             None => Ok(false),
         }
     }
+}
+
+// Bytes stand in others. Those that are few stand in others by chance, and have to begin them.
+pub(crate) fn is_within(alloc: Global, all: &FileBytes, bytes: &FileBytes) -> Result<bool, NoMemory>
+    ensures { IfOk result (λ found. found ≡ true → StandsIn bytes.now all.now) }
+{
+    let bytes = bytes.to_vec(alloc)?;
+    if all.starts_with(&bytes) {
+        return Ok(true);
+    }
+    if bytes.len() < LEAST {
+        return Ok(false);
+    }
+    let all = all.to_vec(alloc)?;
+    Ok(memmem::find(&all, &bytes).is_some())
 }

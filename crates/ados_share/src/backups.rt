@@ -196,7 +196,7 @@ impl Mirror {
             return Ok(());
         }
         let mut holders = self.holders(files)?;
-        let contents = self.contents_of_backups()?;
+        let contents = self.contents_of_backups(files, &holders)?;
         self.look_for(&mut holders, contents)?;
         if !account.is_meanwhile() {
             self.renew_backups(rt, files, &holders)?;

@@ -212,20 +212,23 @@ impl Mirror {
         self.is_in_another(rt, "", &backup.bytes)
     }
 
-    // Writes a backup. That it can't be written is reported, and it is tried again.
-    fn restore<R: AllocGlobal + Files>(
+    // Writes a backup. That it can't be written (`false`) is reported, and it is tried again.
+    pub(crate) fn restore<R: AllocGlobal + Files>(
         &mut self,
         rt: &R,
         backup: Backup,
-    ) -> Result<(), TransferFault> {
+    ) -> Result<bool, TransferFault> {
         let path = backup.original.as_str();
         let key = lower(self.alloc, path)?;
         match self.write_backup(rt, &backup) {
-            Ok(beside) => self.backups.add(beside.as_str(), backup),
+            Ok(beside) => {
+                self.backups.add(beside.as_str(), backup)?;
+                Ok(true)
+            }
             Err(error) => {
                 self.not_done(&error, "cannot write", key.as_str(), path)?;
                 self.backups.deleted.push(backup)?;
-                Ok(())
+                Ok(false)
             }
         }
     }

@@ -163,20 +163,30 @@ pub fn write_entry<R: AllocGlobal + Files>(
 ) -> io::Result<Option<Stamp>> {
     let (folder, name) = way(rt, path)?;
     if draft.entry.is_directory() {
-        let made = enter(rt, folder.as_str(), name)?;
-        if let (Here::Absent, Some(manner)) = (draft.here, draft.manner) {
-            let own = Owner::of(&fs::symlink_metadata(rt, made.as_str())?);
-            if let Some(mode) = manner.folder_mode(own) {
-                return Ok(Some(Stamp::of(&set_folder_mode(rt, made.as_str(), mode)?)));
-            }
-        }
-        return Ok(Some(Stamp::of(&fs::symlink_metadata(rt, made.as_str())?)));
+        return Ok(Some(make_folder(rt, folder.as_str(), name, draft)?));
     }
     let whole = path_of(rt.alloc(), folder.as_str(), name)?;
     if !place_whole(rt, folder.as_str(), whole.as_str(), draft)? {
         return Ok(None);
     }
     Ok(Some(Stamp::of(&fs::symlink_metadata(rt, whole.as_str())?)))
+}
+
+// Makes a folder in another one, unless it is there. A new one gets the permissions that the draft has for it.
+fn make_folder<R: AllocGlobal + Files>(
+    rt: &R,
+    folder: &str,
+    name: &str,
+    draft: &Draft<'_>,
+) -> io::Result<Stamp> {
+    let made = enter(rt, folder, name)?;
+    if let (Here::Absent, Some(manner)) = (draft.here, draft.manner) {
+        let own = Owner::of(&fs::symlink_metadata(rt, made.as_str())?);
+        if let Some(mode) = manner.folder_mode(own) {
+            return Ok(Stamp::of(&set_folder_mode(rt, made.as_str(), mode)?));
+        }
+    }
+    Ok(Stamp::of(&fs::symlink_metadata(rt, made.as_str())?))
 }
 
 /// Deletes a file or an empty folder that was looked at; `false` if something else came to be there since.

@@ -66,6 +66,7 @@ impl Mirror {
         let mut departures = self.departures(files, account)?;
         departures.leave_out(away.as_slice());
         self.find_copies(files, &mut departures)?;
+        self.save_departing(rt, files, &mut departures, account)?;
         self.write_all(rt, files, &departures, account)?;
         self.delete_gone(rt, files, &departures, account)?;
         if self.rename_all(rt, files)? {

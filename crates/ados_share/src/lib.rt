@@ -14,6 +14,7 @@ mod changes;
 mod contents;
 mod copied_folders;
 mod deleted_copies;
+mod departing;
 mod departure;
 mod departures;
 mod elsewhere;

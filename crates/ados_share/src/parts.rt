@@ -7,7 +7,6 @@ use crate::contents::digest;
 use crate::departure::Departures;
 use crate::elsewhere::Elsewhere;
 use crate::holders::{Holder, Holders};
-use crate::last_copies::bytes_of;
 use crate::mirror::Mirror;
 use crate::sought::{Content, Sought};
 use ados_ram::{Entry, FileBytes, Ram};
@@ -40,7 +39,7 @@ impl Mirror {
         Ok(())
     }
 
-    // What is to be looked for of them: what is foreign, or elsewhere. What begins with the old bytes and takes their place has them.
+    // What is to be looked for of them: what is foreign, or elsewhere. What takes the place of the old bytes may have them too.
     fn contents_of(&self, departures: &Departures<'_>) -> Result<Vec<Content>, TransferFault> {
         let mut contents = Vec::new(self.alloc);
         for (key, departure) in &departures.by_key {
@@ -61,25 +60,30 @@ impl Mirror {
                 is_foreign,
                 is_elsewhere,
                 place: record.place.copy()?,
-                inside: Around::if_begun(self.alloc, &record.place, later, bytes)?,
+                inside: Around::if_within(self.alloc, &record.place, later, bytes)?,
             })?;
         }
         Ok(contents)
     }
 
-    // The same of the backups, and of what was deleted or written over: they are elsewhere.
-    pub(crate) fn contents_of_backups(&self) -> Result<Vec<Content>, TransferFault> {
+    // The same of the backups, and of what was deleted or written over.
+    pub(crate) fn contents_of_backups(
+        &self,
+        files: &Ram,
+        holders: &Holders<'_>,
+    ) -> Result<Vec<Content>, TransferFault> {
         let mut contents = Vec::new(self.alloc);
         let backups = self.backups.by_path.values();
         for backup in backups.chain(self.backups.deleted.iter()) {
             let key = lower(self.alloc, backup.original.as_str())?;
             let place = self.place_of(key.as_str())?;
-            let later = bytes_of(&self.records, key.as_str());
+            let later = files.look(&place).and_then(Entry::bytes);
+            let moved = self.unwritten_elsewhere(files, backup.moved.as_ref())?;
             contents.push(Content {
                 bytes: backup.bytes.copy()?,
                 is_foreign: self.contents.are_foreign(&backup.bytes),
-                is_elsewhere: true,
-                inside: Around::if_begun(self.alloc, &place, later, &backup.bytes)?,
+                is_elsewhere: moved.is_some() || holders.has_outside(&backup.bytes),
+                inside: Around::if_within(self.alloc, &place, later, &backup.bytes)?,
                 place,
             })?;
         }

@@ -8,8 +8,8 @@ use ados_text::NoMemory;
 use std::alloc::Global;
 use std::collections::BTreeMap;
 
-// Shorter contents stand in others by chance, and are found nowhere.
-const LEAST: usize = 16;
+/// Shorter contents stand in others by chance, and are found nowhere.
+pub const LEAST: usize = 16;
 
 // After so many comparisons in vain contents are compared no longer: a file of zeros would be at each place of a larger one.
 const COMPARISONS: usize = 64;
@@ -24,6 +24,8 @@ pub struct Sought {
     // The same by the samples by which they are looked for.
     by_window: BTreeMap<u64, Vec<usize>>,
     filter: Filter,
+    // Some are looked for outside of the directory.
+    seeks_outside: bool,
 }
 
 /// The contents of a file that are to be looked for.
@@ -32,11 +34,11 @@ pub struct Content {
     pub bytes: FileBytes,
     /// They count also where they stand among others outside of the directory.
     pub is_foreign: bool,
-    /// The Shell has them elsewhere as a whole, or has moved their file.
+    /// The Shell has them elsewhere as a whole, or has moved their file: then they need not be looked for outside of the directory.
     pub is_elsewhere: bool,
     /// Where the file is of which they are.
     pub place: Place,
-    /// A file of the directory in which they stand, if one is known already.
+    /// A file of the directory in which they stand, if one is known already: the one that takes the place of theirs.
     pub inside: Option<Around>,
 }
 
@@ -80,6 +82,7 @@ impl Sought {
             by_digest: BTreeMap::new(alloc),
             by_window: BTreeMap::new(alloc),
             filter: Filter::empty(alloc),
+            seeks_outside: false,
         }
     }
 
@@ -108,6 +111,7 @@ impl Sought {
     fn add(&mut self, content: Content, sample: Option<Sample>) -> Result<(), NoMemory> {
         let number = self.parts.len();
         let key = digest(&content.bytes);
+        self.seeks_outside |= content.is_foreign && !content.is_elsewhere;
         push_number(self.alloc, &mut self.by_digest, key, number)?;
         if let Some(sample) = sample {
             push_number(self.alloc, &mut self.by_window, sample.window, number)?;
@@ -158,6 +162,9 @@ impl Sought {
 
     /// Notes which contents stand in a file outside of the directory.
     pub fn note_outside(&mut self, place: &Place, bytes: &FileBytes) -> Result<(), NoMemory> {
+        if !self.seeks_outside {
+            return Ok(());
+        }
         for number in self.within(bytes, false)? {
             if let Some(part) = self.parts.get_mut(number)
                 && part.content.is_foreign
@@ -184,6 +191,9 @@ impl Sought {
 
     // The numbers of the parts that stand in these bytes.
     fn within(&self, bytes: &FileBytes, is_strict: bool) -> Result<Vec<usize>, NoMemory> {
+        if self.by_window.is_empty() {
+            return Ok(Vec::new(self.alloc));
+        }
         let text = bytes.to_vec(self.alloc)?;
         let mut reading = Reading {
             is_strict,
