@@ -1,7 +1,5 @@
 //! The word of a line that is its command, and the name of the command that it stands for.
-ghost use Rattle.std.specs.Prelude.{◌≡◌, ◌≤◌, length, map, IfOk};
-ghost use Rattle.std.specs.List.{suffix_len};
-ghost use Rattle.std.specs.Option.{option_copied};
+ghost use Rattle.std.specs.{Prelude.{◌≡◌, ◌≤◌, length, map, IfOk}, List.{suffix_len}, Option.{option_copied}};
 ghost use Rattle.ados_text.specs.Text.{to_ascii};
 ghost use Rattle.ados_vars.specs.Vars.{value_in};
 ghost use Rattle.ados_check.specs.CommandWords.{command_name, from_command, is_name_byte, last_name, lead_after, lead_of, name_in, unquoted, without_first};

@@ -1,10 +1,7 @@
 //! The commands of the Shell by the words of a script, and the faults of their arguments.
-ghost use Rattle.std.specs.Prelude.{◌≡◌, Option, IfOk, IfSome};
-ghost use Rattle.std.specs.Option.{option_map};
-ghost use Rattle.ados_find.specs.Shared.{SharedState};
-ghost use Rattle.ados_find.specs.Views.{View};
-ghost use Rattle.ados_flow.specs.Execute.{fault_answer};
-ghost use Rattle.ados_flow.specs.Frames.{ScriptLine};
+ghost use Rattle.std.specs.{Prelude.{◌≡◌, Option, IfOk, IfSome}, Option.{option_map}};
+ghost use Rattle.ados_find.specs.{Shared.{SharedState}, Views.{View}};
+ghost use Rattle.ados_flow.specs.{Execute.{fault_answer}, Frames.{ScriptLine}};
 ghost use Rattle.ados_machine.specs.Commands.{action_of};
 ghost use Rattle.ados_readargs.specs.Faults.{result2_of};
 ghost use Rattle.ados_check.specs.Commands.{after, meaning_of, name_in_c};

@@ -1,8 +1,6 @@
 //! Copies that put what is in several directories into one.
-ghost use Rattle.std.specs.Prelude.{◌≡◌, is_some, IfOk, IfSome};
-ghost use Rattle.std.specs.List.{list_any};
-ghost use Rattle.ados_check.specs.Copies.{copies_flat, is_flat_copy, is_wild};
-ghost use Rattle.ados_check.specs.declared.findings.Problem.TheVariants.{FlatCopy};
+ghost use Rattle.std.specs.{Prelude.{◌≡◌, is_some, IfOk, IfSome}, List.{list_any}};
+ghost use Rattle.ados_check.specs.{Copies.{copies_flat, is_flat_copy, is_wild}, declared.findings.Problem.TheVariants.{FlatCopy}};
 
 use crate::findings::Problem;
 use ados_find::Refusal;

@@ -1,6 +1,5 @@
 //! The devices that a script mentions before one of its lines assigns or asks for them.
-ghost use Rattle.std.specs.Prelude.{◌≡◌, IfOk, OnOk};
-ghost use Rattle.std.specs.List.{flat_map};
+ghost use Rattle.std.specs.{Prelude.{◌≡◌, IfOk, OnOk}, List.{flat_map}};
 ghost use Rattle.ados_check.specs.DeviceNews.{assigned_at, news_in, news_of, with_device, with_devices, with_line};
 
 use crate::devices::{is_among, mentioned, push_assigned};

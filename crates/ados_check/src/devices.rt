@@ -1,8 +1,6 @@
 //! The devices that a line of a script mentions, and those that it assigns or asks for.
-ghost use Rattle.std.specs.Prelude.{◌≡◌, ◌++◌, ◌≤◌, length, IfOk, OnOk};
-ghost use Rattle.std.specs.List.{prefix_len};
-ghost use Rattle.std.specs.Option.{option_map};
-ghost use Rattle.ados_check.specs.Devices.{assigned_in, device_at, device_in, devices_in, first_device, is_among, is_device_byte, is_nameless, mentioned_in, names_top, one_or_none, path_in, used_by};
+ghost use Rattle.std.specs.{Prelude.{◌≡◌, ◌++◌, ◌≤◌, length, IfOk, OnOk}, List.{prefix_len}, Option.{option_map}};
+ghost use Rattle.ados_check.specs.Devices.{assigned_in, device_at, device_in, devices_in, first_device, is_among, is_device_byte, mentioned_in, names_top, one_or_none, path_in, used_by};
 
 use crate::arguments::{Word, argument_words, redirected_words};
 use crate::command_words::unquoted;

@@ -2,8 +2,7 @@
 
 ghost use Rattle.std.specs.Prelude.{◌≡◌, ℕ, true, IfOk, IfSome};
 ghost use Rattle.ados_text.specs.Lines.{lines_of};
-ghost use Rattle.ados_check.specs.Directives.{IfBad, IfLines, IsAlwaysBad, IsBadAt, IsFoundAt, IsNeverCalled, IsSample};
-ghost use Rattle.ados_check.specs.Signs.{is_dotted};
+ghost use Rattle.ados_check.specs.{Directives.{IfBad, IfLines, IsAlwaysBad, IsBadAt, IsFoundAt, IsNeverCalled, IsSample}, Signs.{is_dotted}};
 
 use crate::findings::{Finding, Problem};
 use crate::signs::is_dotted;

@@ -1,12 +1,8 @@
 //! The look at a script that is not to run: all that is wrong with it, as far as that does not depend on variables, on arguments
 //! or on what commands print.
-ghost use Rattle.std.specs.Prelude.{◌≡◌, ℕ, IfOk, OnOk};
-ghost use Rattle.std.specs.List.{All};
-ghost use Rattle.ados_check.specs.Directives.{IfBad, IfLines, IsNeverCalled, IsSample};
-ghost use Rattle.ados_check.specs.Errors.{AreSo, IsSo, StaySo};
+ghost use Rattle.std.specs.{Prelude.{◌≡◌, ℕ, IfOk, OnOk}, List.{All}};
+ghost use Rattle.ados_check.specs.{Directives.{IfBad, IfLines, IsNeverCalled, IsSample}, Errors.{AreSo, IsSo, StaySo}, LeftOut.{StayTold, TellsEach}, Signs.{SaysTheSame, signs_at, signs_told}};
 ghost use Rattle.ados_text.specs.Lines.{lines_of};
-ghost use Rattle.ados_check.specs.LeftOut.{StayTold, TellsEach};
-ghost use Rattle.ados_check.specs.Signs.{SaysTheSame, signs_at, signs_told};
 
 use crate::directives::{Sample, is_directive, sample_of};
 use crate::findings::{Finding, Problem};

@@ -1,17 +1,12 @@
 //! The jumps of a script that lead nowhere: an Else without EndIf, a Skip that finds neither its Lab nor an EndSkip.
 ghost use Rattle.std.specs.Prelude.{◌≡◌, true, is_some, Some, None, IfOk, IfSome};
 ghost use Rattle.ados_text.specs.declared.codes.TheConstants.Result2.{OBJECT_NOT_FOUND};
-ghost use Rattle.ados_find.specs.Codes.{fail_codes};
-ghost use Rattle.ados_find.specs.Shared.{SharedState};
-ghost use Rattle.ados_find.specs.Views.{View};
-ghost use Rattle.ados_flow.specs.Actions.{Quits};
-ghost use Rattle.ados_flow.specs.Rows.{row_of};
+ghost use Rattle.ados_find.specs.{Codes.{fail_codes}, Shared.{SharedState}, Views.{View}};
+ghost use Rattle.ados_flow.specs.{Actions.{Quits}, Rows.{row_of}};
 ghost use Rattle.ados_machine.specs.Commands.{template_of};
 ghost use Rattle.ados_readargs.specs.Fill.{fill_of};
-ghost use Rattle.ados_resident.specs.declared.commands.Builtin.TheVariants.{Flow};
-ghost use Rattle.ados_resident.specs.declared.commands.FlowCommand.TheVariants.{Skip};
-ghost use Rattle.ados_check.specs.Jumps.{label_filled, label_named, leads_nowhere, lost_jump};
-ghost use Rattle.ados_check.specs.Signs.{told_sign};
+ghost use Rattle.ados_resident.specs.{declared.commands.Builtin.TheVariants.{Flow}, declared.commands.FlowCommand.TheVariants.{Skip}};
+ghost use Rattle.ados_check.specs.{Jumps.{label_filled, label_named, leads_nowhere, lost_jump}, Signs.{told_sign}};
 
 use crate::findings::Problem;
 use crate::readings::cut_bytes;

@@ -1,8 +1,6 @@
 //! The commands of a line that are given an option of Release 2 which the Shell leaves out, and so takes for a plain word.
-ghost use Rattle.std.specs.Prelude.{◌≡◌, ◌++◌, map, IfOk, IfSome, OnOk};
-ghost use Rattle.std.specs.Option.{option_map};
-ghost use Rattle.ados_check.specs.LeftOut.{IsBlanked, IsRidOfIdle, IsStruck, are_idle, command_text, given_in, given_of, is_between, is_idle_in_line, is_in_idle, left_out_in, name_in, name_of, part_of, shown};
-ghost use Rattle.ados_check.specs.Table.{AreReleaseTwo};
+ghost use Rattle.std.specs.{Prelude.{◌≡◌, ◌++◌, map, IfOk, IfSome, OnOk}, Option.{option_map}};
+ghost use Rattle.ados_check.specs.{LeftOut.{IsBlanked, IsRidOfIdle, IsStruck, are_idle, command_text, given_in, given_of, is_between, is_idle_in_line, is_in_idle, left_out_in, name_in, name_of, part_of, shown}, Table.{AreReleaseTwo}};
 
 use crate::arguments::argument_words;
 use crate::command_words::CommandWords;

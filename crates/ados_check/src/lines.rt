@@ -1,10 +1,7 @@
 //! The check of a script's lines, all problems in their order.
-ghost use Rattle.std.specs.Prelude.{◌≡◌, ◌++◌, [], ◌∷◌, ℕ, None, IfOk, IfSome, OnOk, get_or, map};
-ghost use Rattle.std.specs.List.{slice_split};
+ghost use Rattle.std.specs.{Prelude.{◌≡◌, ◌++◌, [], ◌∷◌, ℕ, None, IfOk, IfSome, OnOk, get_or, map}, List.{slice_split}};
 ghost use Rattle.ados_text.specs.Lines.{is_newline};
-ghost use Rattle.ados_check.specs.Errors.{AreAlwaysSo, AreSoWith, AreSoWithFound, IsAlwaysSound, StaySo};
-ghost use Rattle.ados_check.specs.LeftOut.{StayTold, TellsLeftOut, TellsNone, ToldTheSame, ToldWith, gives_left_out, is_left_out};
-ghost use Rattle.ados_check.specs.Signs.{SaysTheSame, signs_at, signs_told, told_sign};
+ghost use Rattle.ados_check.specs.{Errors.{AreAlwaysSo, AreSoWith, AreSoWithFound, IsAlwaysSound, StaySo}, LeftOut.{StayTold, TellsLeftOut, TellsNone, ToldTheSame, ToldWith, gives_left_out, is_left_out}, Signs.{SaysTheSame, signs_at, signs_told, told_sign}};
 
 use crate::findings::{Finding, Problem};
 use crate::left_out::Reader;

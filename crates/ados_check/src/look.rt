@@ -1,12 +1,8 @@
 //! The look at the lines of a script: the problem of each one.
-ghost use Rattle.std.specs.Prelude.{◌≡◌, Some, Ok, IfOk, IfSome, OnOk};
-ghost use Rattle.std.specs.Option.{option_copied};
+ghost use Rattle.std.specs.{Prelude.{◌≡◌, Some, Ok, IfOk, IfSome, OnOk}, Option.{option_copied}};
 ghost use Rattle.ados_script.specs.Lines.{line_of};
 ghost use Rattle.ados_line.specs.declared.lines.Expanded.TheVariants.{Ready};
-ghost use Rattle.ados_check.specs.Directives.{IsSample};
-ghost use Rattle.ados_check.specs.Errors.{AreSo, IsCommand, IsHere, IsReadAs, IsSound};
-ghost use Rattle.ados_check.specs.LeftOut.{StayTold};
-ghost use Rattle.ados_check.specs.Signs.{SaysTheSame};
+ghost use Rattle.ados_check.specs.{Directives.{IsSample}, Errors.{AreSo, IsCommand, IsHere, IsReadAs, IsSound}, LeftOut.{StayTold}, Signs.{SaysTheSame}};
 
 use crate::arguments::argument_words;
 use crate::command_words::name_in;

@@ -1,7 +1,5 @@
 //! The words that lines of a script make aliases of: sought out once for all of its lines.
-ghost use Rattle.std.specs.Prelude.{◌≡◌, ◌≤◌, length, map, IfOk, IfSome, OnOk};
-ghost use Rattle.std.specs.List.{prefix_len};
-ghost use Rattle.std.specs.Option.{option_map};
+ghost use Rattle.std.specs.{Prelude.{◌≡◌, ◌≤◌, length, map, IfOk, IfSome, OnOk}, List.{prefix_len}, Option.{option_map}};
 ghost use Rattle.ados_text.specs.Text.{IsText, to_ascii};
 ghost use Rattle.ados_check.specs.Aliases.{HasAll, HasLine, HasLines, HasNone, alias_name, bare, has_made, is_open, may_be_alias, not_quote};
 

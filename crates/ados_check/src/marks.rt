@@ -1,10 +1,7 @@
 //! Bytes above 127 in whose place `_` is written, which no pattern has.
-ghost use Rattle.std.specs.Prelude.{◌≡◌, is_some, map, OnOk};
-ghost use Rattle.std.specs.List.{slice_split};
+ghost use Rattle.std.specs.{Prelude.{◌≡◌, is_some, map, OnOk}, List.{slice_split}};
 ghost use Rattle.ados_text.specs.Lines.{is_newline};
-ghost use Rattle.ados_check.specs.LeftOut.{is_between};
-ghost use Rattle.ados_check.specs.Marks.{IsMarked, is_in_printed, is_printed_in, marked, prints_sign};
-ghost use Rattle.ados_check.specs.Signs.{is_dotted, sign_of};
+ghost use Rattle.ados_check.specs.{LeftOut.{is_between}, Marks.{IsMarked, is_in_printed, is_printed_in, marked, prints_sign}, Signs.{is_dotted, sign_of}};
 
 use crate::findings::{Finding, Problem};
 use crate::lines::{line_at, lines_in, push_problem};

@@ -1,6 +1,5 @@
 //! The options among the words of a command that the Shell leaves out.
-ghost use Rattle.std.specs.Prelude.{◌≡◌, IfOk};
-ghost use Rattle.std.specs.List.{find};
+ghost use Rattle.std.specs.{Prelude.{◌≡◌, IfOk}, List.{find}};
 ghost use Rattle.ados_check.specs.Phrases.{end_of_first, given_options, is_equal, is_number, is_value_byte, omitted, option_phrase, parted_value, phrase_after, phrase_of, value_of};
 
 use crate::arguments::Word;

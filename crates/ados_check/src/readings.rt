@@ -1,12 +1,7 @@
 //! What a line is read as, whatever the variables of its shell are.
 ghost use Rattle.std.specs.Prelude.{◌≡◌, IfSome};
 ghost use Rattle.ados_text.specs.Text.{IsText};
-ghost use Rattle.ados_line.specs.Alias.{with_alias};
-ghost use Rattle.ados_line.specs.Answers.{Gives};
-ghost use Rattle.ados_line.specs.Comment.{without_comment};
-ghost use Rattle.ados_line.specs.Cut.{cut_of, expanded_of_cut};
-ghost use Rattle.ados_line.specs.Expansion.{expand_raw_line};
-ghost use Rattle.ados_line.specs.Values.{Variables};
+ghost use Rattle.ados_line.specs.{Alias.{with_alias}, Answers.{Gives}, Comment.{without_comment}, Cut.{cut_of, expanded_of_cut}, Expansion.{expand_raw_line}, Values.{Variables}};
 ghost use Rattle.ados_vars.specs.Vars.{Pairs};
 ghost use Rattle.ados_check.specs.Readings.{is_marked};
 

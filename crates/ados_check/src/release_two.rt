@@ -1,11 +1,8 @@
 //! Which option of Release 2 a word names, and which of them the Shell leaves out in a dialect: those of whose name its template has none,
 //! and those that are not implemented.
-ghost use Rattle.std.specs.Prelude.{◌≡◌, ◌||◌, not, true, IfOk};
-ghost use Rattle.std.specs.List.{list_any};
-ghost use Rattle.std.specs.Option.{option_copied};
+ghost use Rattle.std.specs.{Prelude.{◌≡◌, ◌||◌, not, true, IfOk}, List.{list_any}, Option.{option_copied}};
 ghost use Rattle.ados_text.specs.Text.{is_same};
-ghost use Rattle.ados_readargs.specs.Options.{has_name};
-ghost use Rattle.ados_readargs.specs.Template.{options_of};
+ghost use Rattle.ados_readargs.specs.{Options.{has_name}, Template.{options_of}};
 ghost use Rattle.ados_machine.specs.Commands.{template_of};
 ghost use Rattle.ados_check.specs.ReleaseTwo.{first_named, IfLeftOut, is_unimplemented, named, named_command, naming_of, omission_of};
 

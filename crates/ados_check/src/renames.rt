@@ -1,10 +1,8 @@
 //! Which words are other commands in a script than the Shell's own.
-ghost use Rattle.std.specs.Prelude.{◌≡◌, ◌||◌, is_some, map, IfOk};
-ghost use Rattle.std.specs.List.{list_any};
+ghost use Rattle.std.specs.{Prelude.{◌≡◌, ◌||◌, is_some, map, IfOk}, List.{list_any}};
 ghost use Rattle.ados_text.specs.Text.{to_ascii};
 ghost use Rattle.ados_vars.specs.Vars.{value_in};
-ghost use Rattle.ados_check.specs.Aliases.{has_made};
-ghost use Rattle.ados_check.specs.Renames.{calls, is_resident, may_call, renames_printers};
+ghost use Rattle.ados_check.specs.{Aliases.{has_made}, Renames.{calls, is_resident, may_call, renames_printers}};
 
 use crate::arguments::argument_words;
 use crate::command_words::{alias_text, name_in};

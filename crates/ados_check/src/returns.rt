@@ -1,9 +1,6 @@
 //! One finding for all lines of a script that end in a carriage return, since one `tr` takes it off all of them.
-ghost use Rattle.std.specs.Prelude.{◌≡◌, not};
-ghost use Rattle.std.specs.List.{filter, find, list_any};
-ghost use Rattle.std.specs.Option.{option_map};
-ghost use Rattle.ados_check.specs.Problems.{refuses_return, speaks_of_return};
-ghost use Rattle.ados_check.specs.Returns.{is_kept, merged};
+ghost use Rattle.std.specs.{Prelude.{◌≡◌, not}, List.{filter, find, list_any}, Option.{option_map}};
+ghost use Rattle.ados_check.specs.{Problems.{refuses_return, speaks_of_return}, Returns.{is_kept, merged}};
 
 use crate::findings::{Finding, Problem};
 

@@ -1,14 +1,9 @@
 //! Signs in a script that the Shell takes for something else: a byte above 127 is read as `?`, which in a name is a pattern that other
 //! names fit, and a carriage return at the end of a line is a byte of its last word.
-ghost use Rattle.std.specs.Prelude.{◌≡◌, ◌&&◌, true, false, is_some, not, Some};
-ghost use Rattle.std.specs.List.{find, list_any};
-ghost use Rattle.std.specs.Str.{IsAscii};
+ghost use Rattle.std.specs.{Prelude.{◌≡◌, ◌&&◌, true, false, is_some, not, Some}, List.{find, list_any}, Str.{IsAscii}};
 ghost use Rattle.ados_text.specs.Text.{is_past_ascii};
 ghost use Rattle.ados_line.specs.Comment.{without_comment};
-ghost use Rattle.ados_check.specs.Printing.{only_prints};
-ghost use Rattle.ados_check.specs.Problems.{is_harmless, is_printed_byte};
-ghost use Rattle.ados_check.specs.Marks.{is_order_mark};
-ghost use Rattle.ados_check.specs.Signs.{end_return, first_sign, is_dotted, is_remark, is_return, sign_of, told_sign};
+ghost use Rattle.ados_check.specs.{Printing.{only_prints}, Problems.{is_harmless, is_printed_byte}, Marks.{is_order_mark}, Signs.{end_return, first_sign, is_dotted, is_remark, is_return, sign_of, told_sign}};
 
 use crate::arguments::has_redirection;
 use crate::findings::Problem;

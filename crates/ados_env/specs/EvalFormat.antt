@@ -1,9 +1,9 @@
 -- What Eval prints of a value with LFORMAT.
 use Rattle.std.specs.Prelude.{ℕ, ℤ, ◌+◌, ◌-◌, ◌%◌, ◌==◌, nat_lt, true, false, [], ◌∷◌, ◌++◌, take, length, Option, Some, None, if◌then◌else◌}
-use Rattle.std.proofs.Math.ListN.{replicate}
 use Rattle.std.specs.Fmt.{digits, signed_decimal}
 use Rattle.std.specs.Int.{w32, cast_unsigned}
 use Rattle.ados_text.specs.Text.{Bytes, fold_of}
+use Rattle.ados_text.specs.Columns.{zero_padded_text}
 use Rattle.ados_env.specs.declared.eval_format.Field.{Field}
 use Rattle.ados_env.specs.declared.eval_format.Field.TheVariants.{Hexadecimal, Octal, Decimal, Character, Percent}
 use Rattle.ados_env.specs.declared.numerals.Base.TheVariants as base
@@ -31,14 +31,10 @@ number_or_none (Some n) = n
 abbrev pub width_in : Bytes → ℕ
 width_in rest = number_or_none (number_written base.Decimal (width_digits rest))
 
--- digits with zeros before them, up to a width
-abbrev pub padded_digits : ℕ → Bytes → Bytes
-padded_digits width text = replicate (width - length text) 48 ++ text
-
 -- what LFORMAT prints for a field of a value (or of its 32 bits), given the bytes behind its letter
 abbrev pub field_bytes : ℤ → Field → Bytes → Bytes
-field_bytes value Hexadecimal rest = padded_digits (width_in rest) (digits 16 true (cast_unsigned w32 value))
-field_bytes value Octal rest = padded_digits (width_in rest) (digits 8 false (cast_unsigned w32 value))
+field_bytes value Hexadecimal rest = zero_padded_text (width_in rest) (digits 16 true (cast_unsigned w32 value))
+field_bytes value Octal rest = zero_padded_text (width_in rest) (digits 8 false (cast_unsigned w32 value))
 field_bytes value Decimal rest = signed_decimal value
 field_bytes value Character rest = cast_unsigned w32 value % 128 ∷ []
 field_bytes value Percent rest = 37 ∷ []

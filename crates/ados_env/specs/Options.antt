@@ -1,5 +1,5 @@
 -- The options of commands by their places.
-use Rattle.std.specs.Prelude.{ℕ, List, [], Option, option_map, slice_get, unwrap_or}
+use Rattle.std.specs.Prelude.{ℕ, List, [], option_map, slice_get, unwrap_or}
 use Rattle.ados_text.specs.Text.{Text}
 use Rattle.ados_readargs.specs.Template.{options_of}
 use Rattle.ados_resident.specs.declared.commands.EnvCommand.{EnvCommand}

@@ -1,6 +1,5 @@
 // The lines in which an assign is printed.
-ghost use Rattle.std.specs.Prelude.{◌≡◌, ◌++◌, OnOk};
-ghost use Rattle.std.specs.List.{flat_map};
+ghost use Rattle.std.specs.{Prelude.{◌≡◌, ◌++◌, OnOk}, List.{flat_map}};
 ghost use Rattle.ados_env.specs.AssignLines.{further_line, directory_lines, assign_lines};
 
 use ados_assign::{Assign, Binding};

@@ -1,13 +1,10 @@
 // The devices that the arguments of a command use.
-ghost use Rattle.std.specs.Prelude.{◌≡◌, ◌++◌, OnOk};
-ghost use Rattle.std.specs.List.{flat_map};
+ghost use Rattle.std.specs.{Prelude.{◌≡◌, ◌++◌, OnOk}, List.{flat_map}};
 ghost use Rattle.ados_assign.specs.Uses.{reached_devices};
 ghost use Rattle.ados_readargs.specs.Args.{has_switch, option_text, option_texts};
 ghost use Rattle.ados_find.specs.Devices.{device_named};
 ghost use Rattle.ados_resident.specs.declared.commands.EnvCommand.TheVariants.{Assign};
-ghost use Rattle.ados_env.specs.declared.options.TheConstants.{WHICH_FILE};
-ghost use Rattle.ados_env.specs.Sought.{sought_of};
-ghost use Rattle.ados_env.specs.Devices.{devices_of, paths_in, program_paths, search_devices};
+ghost use Rattle.ados_env.specs.{declared.options.TheConstants.{WHICH_FILE}, Sought.{sought_of}, Devices.{devices_of, paths_in, program_paths, search_devices}};
 
 use crate::options::{EVAL_TO, WHICH_FILE};
 use crate::sought::Sought;

@@ -1,10 +1,9 @@
 // What Eval prints of a value with LFORMAT.
 ghost use Rattle.std.specs.Prelude.{◌≡◌, ◌++◌, OnOk, IfOk};
-ghost use Rattle.std.proofs.Math.ListN.{replicate};
-ghost use Rattle.ados_env.specs.EvalFormat.{field_bytes, field_len, formatted_from, formatted_value, padded_digits, piece_bytes, piece_len, width_digits, width_in};
+ghost use Rattle.ados_env.specs.EvalFormat.{field_bytes, field_len, formatted_from, formatted_value, piece_bytes, piece_len, width_digits, width_in};
 
 use crate::numerals::Base;
-use ados_text::{NoMemory, at_most, fold, push_number};
+use ados_text::{NoMemory, at_most, fold, push_number, push_zero_padded};
 use std::alloc::Global;
 
 /// What is put in for a `%` and a letter.
@@ -128,11 +127,11 @@ fn push_field(
     match field {
         Field::Hexadecimal => {
             let digits = format!(in alloc; "{bits:X}")?;
-            push_padded(output, width_in(rest), digits.as_bytes())
+            push_zero_padded(output, width_in(rest), digits.as_bytes())
         }
         Field::Octal => {
             let digits = format!(in alloc; "{bits:o}")?;
-            push_padded(output, width_in(rest), digits.as_bytes())
+            push_zero_padded(output, width_in(rest), digits.as_bytes())
         }
         Field::Decimal => push_number(output, value),
         Field::Character => {
@@ -144,24 +143,6 @@ fn push_field(
             Ok(())
         }
     }
-}
-
-// Adds digits, with zeros before them up to a width.
-fn push_padded(output: &mut Vec<u8>, width: usize, digits: &[u8]) -> Result<(), NoMemory>
-    ensures { OnOk result (output.new.items ≡ output.old.items ++ padded_digits width digits.now) }
-{
-    push_zeros(output, width.saturating_sub(digits.len()))?;
-    output.extend_from_slice(digits)?;
-    Ok(())
-}
-
-fn push_zeros(output: &mut Vec<u8>, count: usize) -> Result<(), NoMemory>
-    ensures { OnOk result (output.new.items ≡ output.old.items ++ replicate count 48) }
-{
-    for _ in 0..count {
-        output.push(b'0')?;
-    }
-    Ok(())
 }
 
 // How many digits there are at least.

@@ -1,7 +1,5 @@
 // Eval in Full: the value of an expression.
-ghost use Rattle.std.specs.Prelude.{◌≡◌, ◌++◌, IfOk, OnOk};
-ghost use Rattle.std.specs.List.{flat_map};
-ghost use Rattle.std.specs.Option.{option_map};
+ghost use Rattle.std.specs.{Prelude.{◌≡◌, ◌++◌, IfOk, OnOk}, List.{flat_map}, Option.{option_map}};
 ghost use Rattle.ados_find.specs.Effects.{DoesTo, effect_of};
 ghost use Rattle.ados_readargs.specs.Args.{option_texts};
 ghost use Rattle.ados_env.specs.EvalFull.{after_blank, eval_text, expression_row, full_eval_row, value_output};

@@ -1,9 +1,7 @@
 //! The value of an expression, by its tokens from left to right.
 ghost use Rattle.std.specs.Prelude.{◌≡◌, ℤ, [], Option, IfOk};
 ghost use Rattle.ados_text.specs.Stop.{Gives};
-ghost use Rattle.ados_env.specs.Grammar.{IsExpression};
-ghost use Rattle.ados_env.specs.Tokens.{tokens_of};
-ghost use Rattle.ados_env.specs.Expression.{closed, expression_value, limit_read, operator_read, settled_value, state_after, state_of, value_read, waits_left, waits_of, wanting_after, whole_value};
+ghost use Rattle.ados_env.specs.{Grammar.{IsExpression}, Tokens.{tokens_of}, Expression.{closed, expression_value, limit_read, operator_read, settled_value, state_after, state_of, value_read, waits_left, waits_of, wanting_after, whole_value}};
 
 use crate::operators::{Operator, Prefix};
 use crate::tokens::{Token, tokens_of};

@@ -1,13 +1,9 @@
 // Laws of the tables on which commands rest: names, texts, and places of options.
 ghost use Rattle.std.specs.Prelude.{◌≡◌, [], ◌∷◌, Some, codes};
-ghost use Rattle.ados_text.specs.Fault.{fault_text_of};
-ghost use Rattle.ados_text.specs.declared.codes.TheConstants.Result2.{NO_FREE_STORE, BAD_TEMPLATE, BAD_NUMBER, ARGUMENT_MISSING, VALUE_MISSING, TOO_MANY_ARGUMENTS, UNMATCHED_QUOTES, LINE_TOO_LONG, NO_PROGRAM_FILE, OBJECT_IN_USE, OBJECT_EXISTS, DIRECTORY_NOT_FOUND, OBJECT_NOT_FOUND, INVALID_NAME, WRONG_TYPE, DIRECTORY_NOT_EMPTY, TOO_MANY_LEVELS, DEVICE_NOT_MOUNTED, COMMENT_TOO_LONG, DISK_FULL, DELETE_PROTECTED, WRITE_PROTECTED, READ_PROTECTED, NOT_IMPLEMENTED, BREAK, NOT_EXECUTABLE, PIPE_FAULT, WAIT_FAULT, ENDED_BY_SIGNAL};
-ghost use Rattle.ados_resident.specs.Commands.{internal_name};
-ghost use Rattle.ados_resident.specs.Names.{internal_named};
-ghost use Rattle.ados_resident.specs.declared.internal_commands.InternalCommand.{InternalCommand};
+ghost use Rattle.ados_text.specs.{Fault.{fault_text_of}, declared.codes.TheConstants.Result2.{NO_FREE_STORE, BAD_TEMPLATE, BAD_NUMBER, ARGUMENT_MISSING, VALUE_MISSING, TOO_MANY_ARGUMENTS, UNMATCHED_QUOTES, LINE_TOO_LONG, NO_PROGRAM_FILE, OBJECT_IN_USE, OBJECT_EXISTS, DIRECTORY_NOT_FOUND, OBJECT_NOT_FOUND, INVALID_NAME, WRONG_TYPE, DIRECTORY_NOT_EMPTY, TOO_MANY_LEVELS, DEVICE_NOT_MOUNTED, COMMENT_TOO_LONG, DISK_FULL, DELETE_PROTECTED, WRITE_PROTECTED, READ_PROTECTED, NOT_IMPLEMENTED, BREAK, NOT_EXECUTABLE, PIPE_FAULT, WAIT_FAULT, ENDED_BY_SIGNAL}};
+ghost use Rattle.ados_resident.specs.{Commands.{internal_name}, Names.{internal_named}, declared.internal_commands.InternalCommand.{InternalCommand}};
 ghost use Rattle.ados_resident.specs.declared.commands.EnvCommand.TheVariants as command;
-ghost use Rattle.ados_env.specs.Options.{names_at};
-ghost use Rattle.ados_env.specs.declared.options.TheConstants.{ECHO_NOLINE, ECHO_FIRST, ECHO_LEN, EVAL_VALUE1, EVAL_OP, EVAL_VALUE2, EVAL_TO, EVAL_LFORMAT, ASSIGN_LIST, ASSIGN_DISMOUNT, ASSIGN_VOLS, ASSIGN_DIRS, ASSIGN_DEVICES, WHICH_FILE, WHICH_NORES, WHICH_RES, WHICH_ALL};
+ghost use Rattle.ados_env.specs.{Options.{names_at}, declared.options.TheConstants.{ECHO_NOLINE, ECHO_FIRST, ECHO_LEN, EVAL_VALUE1, EVAL_OP, EVAL_VALUE2, EVAL_TO, EVAL_LFORMAT, ASSIGN_LIST, ASSIGN_DISMOUNT, ASSIGN_VOLS, ASSIGN_DIRS, ASSIGN_DEVICES, WHICH_FILE, WHICH_NORES, WHICH_RES, WHICH_ALL}};
 
 /// Each internal command is found by its name.
 pub fn internal_commands_are_found()

@@ -1,6 +1,5 @@
 // The numbers that runs of digits write.
-ghost use Rattle.std.specs.Prelude.{◌≡◌};
-ghost use Rattle.std.specs.List.{prefix_len};
+ghost use Rattle.std.specs.{Prelude.{◌≡◌}, List.{prefix_len}};
 ghost use Rattle.ados_env.specs.Numerals.{based_sum, bits_checked, digit_value, digits_in, digits_value, is_digit_in, number_written};
 
 use ados_text::{at_most, fold};

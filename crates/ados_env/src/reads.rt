@@ -1,10 +1,8 @@
 // What the commands read of the shells that run.
 ghost use Rattle.std.specs.Prelude.{◌≡◌, List, false};
 ghost use Rattle.ados_readargs.specs.declared.args.Arg.{Arg};
-ghost use Rattle.ados_find.specs.Shared.{SharedState};
-ghost use Rattle.ados_find.specs.Views.{IgnoresInUse, IgnoresShells};
-ghost use Rattle.ados_env.specs.Reads.{reads_in_use, reads_shells};
-ghost use Rattle.ados_env.specs.Rows.{row_of};
+ghost use Rattle.ados_find.specs.{Shared.{SharedState}, Views.{IgnoresInUse, IgnoresShells}};
+ghost use Rattle.ados_env.specs.{Reads.{reads_in_use, reads_shells}, Rows.{row_of}};
 
 use ados_resident::{Dialect, EnvCommand};
 

@@ -1,6 +1,5 @@
 // The resident list as Resident prints it: a line for each internal command, and one for each entry.
-ghost use Rattle.std.specs.Prelude.{◌≡◌, ◌++◌, IfOk, OnOk};
-ghost use Rattle.std.specs.List.{flat_map};
+ghost use Rattle.std.specs.{Prelude.{◌≡◌, ◌++◌, IfOk, OnOk}, List.{flat_map}};
 ghost use Rattle.ados_env.specs.Resident.{entry_line, internal_line, resident_line, list_lines};
 
 use ados_resident::{Internal, Resident, Residents, count};

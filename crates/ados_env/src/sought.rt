@@ -1,12 +1,9 @@
 // What Which is to look for, and how far it looks.
-ghost use Rattle.std.specs.Prelude.{◌≡◌, true, IfOk, is_some};
-ghost use Rattle.std.specs.List.{list_any};
+ghost use Rattle.std.specs.{Prelude.{◌≡◌, true, IfOk, is_some}, List.{list_any}};
 ghost use Rattle.std.specs.FinMap as map;
-ghost use Rattle.ados_ram.specs.Place.{key_of};
-ghost use Rattle.ados_ram.specs.Files.{is_some_directory};
+ghost use Rattle.ados_ram.specs.{Place.{key_of}, Files.{is_some_directory}};
 ghost use Rattle.ados_find.specs.Paths as paths;
-ghost use Rattle.ados_find.specs.Routes.{route_devices};
-ghost use Rattle.ados_find.specs.Search.{file_of_entry, places_of_entries};
+ghost use Rattle.ados_find.specs.{Routes.{route_devices}, Search.{file_of_entry, places_of_entries}};
 ghost use Rattle.ados_env.specs.Sought.{has_file, route_of_all, route_of_first, sought_devices};
 
 use crate::options::{WHICH_ALL, WHICH_NORES, WHICH_RES};

@@ -1,7 +1,5 @@
 //! The tokens of an expression: what its text is made of.
-ghost use Rattle.std.specs.Prelude.{◌≡◌, ◌≤◌, ◌++◌, IfOk, OnOk};
-ghost use Rattle.std.specs.List.{prefix_len};
-ghost use Rattle.std.specs.Char.{is_ascii_alphabetic};
+ghost use Rattle.std.specs.{Prelude.{◌≡◌, ◌≤◌, ◌++◌, IfOk, OnOk}, List.{prefix_len}, Char.{is_ascii_alphabetic}};
 ghost use Rattle.ados_env.specs.Tokens.{bits_token, character_cut, decimal_cut, decimal_token, digits_cut, is_either, letters_in, marks_hexadecimal, shift_cut, sign_token, tokens_from, tokens_of, word_cut, word_token};
 
 use crate::numerals::Base;

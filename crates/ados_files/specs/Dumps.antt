@@ -1,9 +1,8 @@
 -- How Type shows bytes: HEX and NUMBER.
-use Rattle.std.specs.Prelude.{ℕ, zero, suc, ◌+◌, ◌-◌, ◌*◌, ◌/◌, ◌%◌, Bool, true, false, ◌&&◌, nat_lt, nat_le, [], ◌∷◌, ◌++◌, map, take, drop, length, codes, decimal, slice_get, Option, Some, None, if◌then◌else◌}
+use Rattle.std.specs.Prelude.{ℕ, zero, suc, ◌+◌, ◌*◌, ◌/◌, ◌%◌, Bool, true, false, ◌&&◌, nat_lt, nat_le, [], ◌∷◌, ◌++◌, map, take, drop, length, codes, decimal, slice_get, Option, Some, None, if◌then◌else◌}
 use Rattle.std.specs.Fmt.{digits}
-use Rattle.std.proofs.Math.ListN.{replicate}
 use Rattle.ados_text.specs.Text.{Bytes}
-use Rattle.ados_text.specs.Columns.{right_aligned_text}
+use Rattle.ados_text.specs.Columns.{right_aligned_text, zero_padded_text}
 use Rattle.ados_text.specs.Lines.{is_newline}
 
 -- a number below 16 as a hexadecimal digit, in capitals
@@ -14,13 +13,9 @@ hex_digit number = if nat_lt number 10 then 48 + number else 55 + number
 abbrev pub hex_byte : ℕ → Bytes
 hex_byte byte = hex_digit (byte / 16) ∷ hex_digit (byte % 16) ∷ []
 
--- digits, with zeros before them up to four
-unfoldable pub four_digits : Bytes → Bytes
-four_digits text = replicate (4 - length text) 48 ++ text
-
 -- a place in a file, in hexadecimal: of four digits, or of more if it takes more
 abbrev pub hex_place : ℕ → Bytes
-hex_place place = four_digits (digits 16 true place)
+hex_place place = zero_padded_text 4 (digits 16 true place)
 
 -- a byte as two hexadecimal digits; a missing byte is two blanks
 abbrev pub hex_or_blanks : Option ℕ → Bytes
@@ -53,16 +48,16 @@ hex_lines (suc count) number bytes = hex_line (number * 16) (take 16 bytes) ++ h
 abbrev pub hex_text : Bytes → Bytes
 hex_text bytes = hex_lines ((length bytes + 15) / 16) 0 bytes
 
--- what stands before a byte: at the beginning of a line (`true`) its number, right in 5 places, and a blank, and nothing otherwise
-abbrev pub line_number : Bool → ℕ → Bytes
-line_number true number = right_aligned_text 5 (decimal number) ++ 32 ∷ []
-line_number false number = []
+-- what stands before a line if it is shown with its number (`true`): the number, right in so many places, and a blank
+abbrev pub line_number : ℕ → Bool → ℕ → Bytes
+line_number width true number = right_aligned_text width (decimal number) ++ 32 ∷ []
+line_number width false number = []
 
--- bytes with numbers before their lines, if the first byte is in the line with this number; it begins the line if `begins`
+-- bytes with numbers in 5 places before their lines, if the first byte is in the line with this number; it begins the line if `begins`
 abbrev pub numbered_from : Bool → ℕ → Bytes → Bytes
 numbered_from begins number [] = []
 numbered_from begins number (byte ∷ bytes) =
-    line_number begins number ++ (byte ∷ numbered_from (is_newline byte) (if is_newline byte then number + 1 else number) bytes)
+    line_number 5 begins number ++ (byte ∷ numbered_from (is_newline byte) (if is_newline byte then number + 1 else number) bytes)
 
 -- NUMBER: all lines of bytes, with numbers from 1 on
 abbrev pub numbered_text : Bytes → Bytes

@@ -1,9 +1,8 @@
 -- What Search finds in files: the lines, or the names, that have a hit.
-use Rattle.std.specs.Prelude.{ℕ, ◌+◌, Bool, true, false, not, ◌&&◌, nat_lt, List, [], ◌∷◌, ◌++◌, codes, decimal, length, map, Option, Some, None, if◌then◌else◌}
+use Rattle.std.specs.Prelude.{ℕ, ◌+◌, Bool, true, not, ◌&&◌, nat_lt, List, [], ◌∷◌, ◌++◌, codes, length, map, Option, Some, None, if◌then◌else◌}
 use Rattle.std.specs.FinMap as finite
 use Rattle.std.specs.List.{filter, flat_map}
 use Rattle.ados_text.specs.Text.{Bytes, to_ascii}
-use Rattle.ados_text.specs.Columns.{right_aligned_text}
 use Rattle.ados_text.specs.Fault.{fault_text_of}
 use Rattle.ados_text.specs.declared.codes.Result2.{Result2}
 use Rattle.ados_pattern.specs.Matching.{is_match}
@@ -14,6 +13,7 @@ use Rattle.ados_ram.specs.InUse.{InUse, is_output}
 use Rattle.ados_ram.specs.Written.{full_path}
 use Rattle.ados_ram.specs.declared.entries.Entry.{Entry}
 use Rattle.ados_objects.specs.Lines.{say}
+use Rattle.ados_files.specs.Dumps.{line_number}
 use Rattle.ados_files.specs.Parts.{stands_in}
 use Rattle.ados_files.specs.SortOrder.{plain_lines}
 use Rattle.ados_files.specs.declared.hits.Hits.{Hits as HitsSoFar}
@@ -44,14 +44,9 @@ numbered_lines number (line ∷ lines) = (number, line) ∷ numbered_lines (numb
 abbrev pub hit_lines : Wanted → List (ℕ × Bytes) → List (ℕ × Bytes)
 hit_lines wanted lines = filter (λ line. is_hit wanted line.1) lines
 
--- what stands before a hit: its number if `true`, nothing with NONUM
-abbrev pub line_start : Bool → ℕ → Bytes
-line_start true number = right_aligned_text 6 (decimal number) ++ 32 ∷ []
-line_start false number = []
-
--- what is printed of a hit: the line, with its number in front unless NONUM
+-- what is printed of a hit: the line, with its number in 6 places in front unless NONUM
 abbrev pub hit_text : Bool → ℕ × Bytes → Bytes
-hit_text numbered line = line_start numbered line.0 ++ (line.1 ++ 10 ∷ [])
+hit_text numbered line = line_number 6 numbered line.0 ++ (line.1 ++ 10 ∷ [])
 
 -- the hits after those of these numbered lines; with `numbered` each has its number in front
 abbrev pub with_hits : Bool → Hits → List (ℕ × Bytes) → Hits

@@ -1,6 +1,5 @@
 // Objects with all that is below them.
-ghost use Rattle.std.specs.Prelude.{◌≡◌, ◌++◌, IfOk, OnOk};
-ghost use Rattle.std.specs.List.{flat_map};
+ghost use Rattle.std.specs.{Prelude.{◌≡◌, ◌++◌, IfOk, OnOk}, List.{flat_map}};
 ghost use Rattle.ados_files.specs.Below.{object_count, unless_root, objects_down, objects_of};
 
 use ados_objects::only;

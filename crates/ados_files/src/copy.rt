@@ -1,11 +1,8 @@
 // Copy: which files are copied, and to which places.
-ghost use Rattle.std.specs.Prelude.{◌≡◌, IfOk, OnOk};
+ghost use Rattle.std.specs.{Prelude.{◌≡◌, IfOk, OnOk}, Option.{option_copied}};
 ghost use Rattle.std.specs.FinMap as map;
-ghost use Rattle.std.specs.Option.{option_copied};
 ghost use Rattle.ados_ram.specs.Place.{key_of};
-ghost use Rattle.ados_find.specs.Done.{done_of};
-ghost use Rattle.ados_find.specs.Shared.{version};
-ghost use Rattle.ados_find.specs.Effects.{effect_of};
+ghost use Rattle.ados_find.specs.{Done.{done_of}, Shared.{version}, Effects.{effect_of}};
 ghost use Rattle.ados_files.specs.Copy.{manner_of, target_directory, copy_to_directory, is_onto, one_entry, copy_found, copy_into_target, copy_row};
 
 use crate::copy_one::{Copying, MakingMissing, Manner};

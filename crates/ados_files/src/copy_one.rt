@@ -1,12 +1,9 @@
 // The copying of one file.
 ghost use Rattle.std.specs.Prelude.{◌≡◌, ◌++◌, Option, IfOk, OnOk};
 ghost use Rattle.std.specs.FinMap as map;
-ghost use Rattle.ados_ram.specs.Place.{key_of};
-ghost use Rattle.ados_ram.specs.Files.{Files};
-ghost use Rattle.ados_text.specs.Stop.{Answers};
-ghost use Rattle.ados_text.specs.declared.codes.Result2.{Result2};
-ghost use Rattle.ados_find.specs.Done.{done_of, act_on_each};
-ghost use Rattle.ados_find.specs.Shared.{limits_of, version};
+ghost use Rattle.ados_ram.specs.{Place.{key_of}, Files.{Files}};
+ghost use Rattle.ados_text.specs.{Stop.{Answers}, declared.codes.Result2.{Result2}};
+ghost use Rattle.ados_find.specs.{Done.{done_of, act_on_each}, Shared.{limits_of, version}};
 ghost use Rattle.ados_files.specs.Copy.{middle_directories, make_missing, copy_fault, files_unless, new_bits, noted_files, cloned_files, copied_files, copied_fault, written_files, copy_written, copy_unless, copy_entry, copy_one};
 
 use crate::jobs::Job;

@@ -1,6 +1,5 @@
 // The devices that the arguments of a command use.
-ghost use Rattle.std.specs.Prelude.{◌≡◌, ◌++◌, OnOk};
-ghost use Rattle.std.specs.List.{flat_map};
+ghost use Rattle.std.specs.{Prelude.{◌≡◌, ◌++◌, OnOk}, List.{flat_map}};
 ghost use Rattle.ados_assign.specs.Uses.{reached_devices};
 ghost use Rattle.ados_files.specs.Devices.{devices_of, to_place};
 

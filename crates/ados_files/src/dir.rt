@@ -1,8 +1,6 @@
 // Dir: what is shown, and of which directories.
-ghost use Rattle.std.specs.Prelude.{◌≡◌, IfOk};
-ghost use Rattle.std.specs.Option.{option_copied};
-ghost use Rattle.ados_find.specs.Effects.{effect_of};
-ghost use Rattle.ados_find.specs.Paths.{Gives};
+ghost use Rattle.std.specs.{Prelude.{◌≡◌, IfOk}, Option.{option_copied}};
+ghost use Rattle.ados_find.specs.{Effects.{effect_of}, Paths.{Gives}};
 ghost use Rattle.ados_files.specs.Dir.{choice_by, choice_of, dir_by, dir_effect, directories_given, dir_row};
 
 use crate::dir_lines::{Choice, dir_text};

@@ -1,6 +1,5 @@
 // The lines of Dir, level by level.
-ghost use Rattle.std.specs.Prelude.{◌≡◌, ◌++◌, codes, IfOk, OnOk};
-ghost use Rattle.std.specs.List.{flat_map};
+ghost use Rattle.std.specs.{Prelude.{◌≡◌, ◌++◌, codes, IfOk, OnOk}, List.{flat_map}};
 ghost use Rattle.ados_files.specs.Below.{objects_in};
 ghost use Rattle.ados_objects.specs.Lines.{keeps, entry_lines};
 

@@ -1,10 +1,8 @@
 // How Type shows bytes: HEX and NUMBER.
-ghost use Rattle.std.specs.Prelude.{◌≡◌, ◌<◌, ◌+◌, ◌^◌, ◌++◌, map as each, IfOk, OnOk};
-ghost use Rattle.std.specs.Option.{option_copied};
-ghost use Rattle.std.proofs.Math.ListN.{replicate};
-ghost use Rattle.ados_files.specs.Dumps.{four_digits, hex_digit, hex_byte, hex_place, hex_or_blanks, hex_group, hex_groups, character_of, hex_line, hex_lines, hex_text, line_number, numbered_text};
+ghost use Rattle.std.specs.{Prelude.{◌≡◌, ◌<◌, ◌+◌, ◌^◌, ◌++◌, map as each, IfOk, OnOk}, Option.{option_copied}};
+ghost use Rattle.ados_files.specs.Dumps.{hex_digit, hex_byte, hex_place, hex_or_blanks, hex_group, hex_groups, character_of, hex_line, hex_lines, hex_text, line_number, numbered_text};
 
-use ados_text::{NoMemory, Text, at_most, push_right, without};
+use ados_text::{NoMemory, Text, at_most, push_right, push_zero_padded, without};
 use std::alloc::Global;
 
 /// Appends the bytes of a file by HEX.
@@ -62,26 +60,7 @@ fn push_place(output: &mut Vec<u8>, place: usize) -> Result<(), NoMemory>
     ensures { OnOk result (output.new.items ≡ output.old.items ++ hex_place place) }
 {
     let digits = format!(in *output.allocator(); "{place:X}")?;
-    push_four_digits(output, digits.as_bytes())
-}
-
-// Appends digits, with zeros before them up to four.
-#[tactic(auto, unfolding(crate::specs::Dumps::four_digits))]
-fn push_four_digits(output: &mut Vec<u8>, digits: &[u8]) -> Result<(), NoMemory>
-    ensures { OnOk result (output.new.items ≡ output.old.items ++ four_digits digits.now) }
-{
-    push_zeros(output, 4usize.saturating_sub(digits.len()))?;
-    output.extend_from_slice(digits)?;
-    Ok(())
-}
-
-fn push_zeros(output: &mut Vec<u8>, count: usize) -> Result<(), NoMemory>
-    ensures { OnOk result (output.new.items ≡ output.old.items ++ replicate count 48) }
-{
-    for _ in 0..count {
-        output.push(b'0')?;
-    }
-    Ok(())
+    push_zero_padded(output, 4, digits.as_bytes())
 }
 
 // A number below 16 as a digit, in capitals.
@@ -154,7 +133,7 @@ pub fn numbered(alloc: Global, bytes: &[u8]) -> Result<Vec<u8>, NoMemory>
     let mut begins = true;
     let mut number = 1;
     for byte in bytes {
-        push_number(&mut output, begins, number)?;
+        push_line_number(&mut output, 5, begins, number)?;
         output.push(*byte)?;
         begins = *byte == b'\n';
         if begins {
@@ -164,15 +143,20 @@ pub fn numbered(alloc: Global, bytes: &[u8]) -> Result<Vec<u8>, NoMemory>
     Ok(output)
 }
 
-// Appends the number of a line at its beginning.
-fn push_number(output: &mut Vec<u8>, begins: bool, number: usize) -> Result<(), NoMemory>
-    ensures { OnOk result (output.new.items ≡ output.old.items ++ line_number begins number) }
+/// Appends the number of a line, right in so many places, and a blank, if it is shown.
+pub fn push_line_number(
+    output: &mut Vec<u8>,
+    width: usize,
+    is_shown: bool,
+    number: usize,
+) -> Result<(), NoMemory>
+    ensures { OnOk result (output.new.items ≡ output.old.items ++ line_number width is_shown number) }
 {
-    if !begins {
+    if !is_shown {
         return Ok(());
     }
     let text = Text::of_number(*output.allocator(), number)?;
-    push_right(output, 5, text.as_bytes())?;
+    push_right(output, width, text.as_bytes())?;
     output.push(b' ')?;
     Ok(())
 }

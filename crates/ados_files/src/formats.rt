@@ -1,6 +1,5 @@
 // LFORMAT of List: a text in which parts of an object are put.
-ghost use Rattle.std.specs.Prelude.{◌≡◌, ◌≤◌, ◌++◌, false, length, decimal, IfOk, OnOk};
-ghost use Rattle.std.specs.List.{flat_map, suffix_len};
+ghost use Rattle.std.specs.{Prelude.{◌≡◌, ◌≤◌, ◌++◌, false, length, decimal, IfOk, OnOk}, List.{flat_map, suffix_len}};
 ghost use Rattle.ados_text.specs.Text.{fold_of};
 ghost use Rattle.ados_ram.specs.Entry.{size_of};
 ghost use Rattle.ados_files.specs.Formats.{part_named, parts_behind_sign, parts_from, slot_count, slot_part, without_slots, format_of, is_no_dot, behind_dot, stem_of, extension_of, part_text, format_line};

@@ -1,8 +1,6 @@
 // Rename of several objects: each goes into a directory under its own name.
-ghost use Rattle.std.specs.Prelude.{◌≡◌, ◌++◌, IfOk, OnOk};
-ghost use Rattle.std.specs.Option.{option_copied};
-ghost use Rattle.ados_find.specs.Effects.{effect_of};
-ghost use Rattle.ados_find.specs.Shared.{SharedState};
+ghost use Rattle.std.specs.{Prelude.{◌≡◌, ◌++◌, IfOk, OnOk}, Option.{option_copied}};
+ghost use Rattle.ados_find.specs.{Effects.{effect_of}, Shared.{SharedState}};
 
 use ados_find::{Codes, CommandResult, Outcome, Renamed, Shared, ShellView, Work, current};
 use ados_ram::{Busy, Entry, Place, Ram};

@@ -1,17 +1,17 @@
 // What Search finds in files: the lines, or the names, that have a hit.
 ghost use Rattle.std.specs.Prelude.{◌≡◌, ◌++◌, ◌∷◌, [], IfOk, OnOk};
 ghost use Rattle.std.specs.FinMap as finite;
-ghost use Rattle.ados_ram.specs.Place.{key_of};
-ghost use Rattle.ados_ram.specs.Written.{full_path};
+ghost use Rattle.ados_ram.specs.{Place.{key_of}, Written.{full_path}};
 ghost use Rattle.ados_files.specs.SortOrder.{plain_lines};
 
+use crate::dumps::push_line_number;
 use crate::parts::stands_in;
 use crate::sort_order::line_len;
 use ados_find::{Shared, ShellView};
 use ados_objects::{put_between, say_path};
 use ados_pattern::Pattern;
 use ados_ram::{Place, Ram};
-use ados_text::{LINE_BYTES, NoMemory, Result2, Text, at_most, fault_text, push_right, without};
+use ados_text::{LINE_BYTES, NoMemory, Result2, Text, at_most, fault_text, without};
 use std::alloc::Global;
 
 /// What Search looks for.
@@ -42,8 +42,7 @@ pub struct Hits {
     pub has_hit: bool,
 }
 
-ghost use Rattle.ados_files.specs.declared.hits.Wanted.TheVariants.{Matching};
-ghost use Rattle.ados_files.specs.Hits.{hit_lines, hit_text, hits_of, is_hit, line_start, search_bytes, search_file, search_files, search_lines, search_name, unread_line, with_hit, with_hits};
+ghost use Rattle.ados_files.specs.{declared.hits.Wanted.TheVariants.{Matching}, Hits.{hit_lines, hit_text, hits_of, is_hit, search_bytes, search_file, search_files, search_lines, search_name, unread_line, with_hit, with_hits}};
 
 /// Looks in one file after the other.
 pub fn search_files(
@@ -175,22 +174,10 @@ fn search_line(
 fn push_hit(hits: &mut Hits, numbered: bool, number: usize, line: &[u8]) -> Result<(), NoMemory>
     ensures { OnOk result (hits_of hits.new ≡ with_hit (hit_text numbered (number, line.now)) (hits_of hits.old)) }
 {
-    push_line_start(&mut hits.output, numbered, number)?;
+    push_line_number(&mut hits.output, 6, numbered, number)?;
     hits.output.extend_from_slice(line)?;
     hits.output.push(b'\n')?;
     hits.has_hit = true;
-    Ok(())
-}
-
-fn push_line_start(output: &mut Vec<u8>, numbered: bool, number: usize) -> Result<(), NoMemory>
-    ensures { OnOk result (output.new.items ≡ output.old.items ++ line_start numbered number) }
-{
-    if !numbered {
-        return Ok(());
-    }
-    let text = Text::of_number(*output.allocator(), number)?;
-    push_right(output, 6, text.as_bytes())?;
-    output.push(b' ')?;
     Ok(())
 }
 

@@ -1,8 +1,7 @@
 // What FROM of Copy, Rename and Search names; the files that Copy copies of that, with their paths below TO.
 ghost use Rattle.std.specs.Prelude.{◌≡◌, ◌++◌, ◌∷◌, [], drop, length, IfOk, OnOk};
 ghost use Rattle.std.specs.FinMap as map;
-ghost use Rattle.ados_ram.specs.Place.{key_of};
-ghost use Rattle.ados_ram.specs.Written.{written_place};
+ghost use Rattle.ados_ram.specs.{Place.{key_of}, Written.{written_place}};
 ghost use Rattle.ados_find.specs.Paths.{Gives};
 
 use ados_find::{Lookup, Shared};

@@ -1,7 +1,6 @@
 // Join: files, one after the other, written to a file.
 ghost use Rattle.std.specs.Prelude.{◌≡◌, IfOk, OnOk};
-ghost use Rattle.ados_find.specs.Done.{done_of};
-ghost use Rattle.ados_find.specs.Effects.{effect_of};
+ghost use Rattle.ados_find.specs.{Done.{done_of}, Effects.{effect_of}};
 ghost use Rattle.ados_files.specs.Join.{write_one, write_read, join_to_target, join_row};
 
 use crate::options::{JOIN_FILE, JOIN_TO};

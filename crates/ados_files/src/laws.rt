@@ -1,26 +1,14 @@
 // Laws of the commands, over their definitions.
 ghost use Rattle.std.specs.Prelude.{◌≡◌, ◌≤◌, ◌↔◌, true, List, [], ◌∷◌, take, length, map, codes, Bool, IsTrue};
 ghost use Rattle.ados_text.specs.Text.{Bytes, is_same, to_ascii};
-ghost use Rattle.ados_pattern.specs.Matches.{Matches};
-ghost use Rattle.ados_pattern.specs.Meaning.{Meaning, anywhere};
+ghost use Rattle.ados_pattern.specs.{Matches.{Matches}, Meaning.{Meaning, anywhere}};
 ghost use Rattle.ados_readargs.specs.declared.args.Arg.{Arg};
-ghost use Rattle.ados_ram.specs.Files.{Files, OthersStay};
-ghost use Rattle.ados_ram.specs.Place.{Place};
-ghost use Rattle.ados_find.specs.Shared.{SharedState};
-ghost use Rattle.ados_find.specs.Views.{View};
-ghost use Rattle.ados_files.specs.Copy.{copy_row};
-ghost use Rattle.ados_files.specs.Delete.{delete_row};
-ghost use Rattle.ados_files.specs.Rename.{rename_row};
+ghost use Rattle.ados_ram.specs.{Files.{Files, OthersStay}, Place.{Place}};
+ghost use Rattle.ados_find.specs.{Shared.{SharedState}, Views.{View}};
+ghost use Rattle.ados_files.specs.{Copy.{copy_row}, Delete.{delete_row}, Rename.{rename_row}, Hits.{is_hit}, Jobs.{all_jobs}, Search.{searched_files}, Parts.{HasPart}, declared.hits.Wanted.TheVariants.{Inside, Matching}, Rows.{core_template_of, full_template_of, names_at, option_names}, MayChange.{copy_may_change, delete_may_change, rename_may_change}};
 ghost use Rattle.ados_resident.specs.declared.commands.FilesCommand.{FilesCommand};
 ghost use Rattle.ados_resident.specs.declared.commands.FilesCommand.TheVariants as files;
-ghost use Rattle.ados_files.specs.Hits.{is_hit};
-ghost use Rattle.ados_files.specs.Jobs.{all_jobs};
-ghost use Rattle.ados_files.specs.Search.{searched_files};
-ghost use Rattle.ados_files.specs.Parts.{HasPart};
-ghost use Rattle.ados_files.specs.declared.hits.Wanted.TheVariants.{Inside, Matching};
-ghost use Rattle.ados_files.specs.Rows.{core_template_of, full_template_of, names_at, option_names};
 ghost use Rattle.ados_files.specs.declared.options.TheConstants as place;
-ghost use Rattle.ados_files.specs.MayChange.{copy_may_change, delete_may_change, rename_may_change};
 
 /// Copy, Delete and Rename leave other places unchanged, each with its entry: Copy all that are not TO or below it;
 /// Delete all that are not at or below an object that one of its arguments names when that argument's turn comes; Rename

@@ -1,8 +1,6 @@
 // The letters of options and flags.
-ghost use Rattle.std.specs.Prelude.{◌≡◌};
-ghost use Rattle.std.specs.Option.{option_map};
-ghost use Rattle.ados_files.specs.Letters.{are_letters_of, has_letter};
-ghost use Rattle.ados_files.specs.Texts.{text_or_empty};
+ghost use Rattle.std.specs.{Prelude.{◌≡◌}, Option.{option_map}};
+ghost use Rattle.ados_files.specs.{Letters.{are_letters_of, has_letter}, Texts.{text_or_empty}};
 
 use ados_text::fold;
 

@@ -1,15 +1,9 @@
 // List: lines of objects, and of what is in directories.
-ghost use Rattle.std.specs.Prelude.{◌≡◌, ◌++◌, IfOk, OnOk, option_map};
-ghost use Rattle.std.specs.Option.{option_copied};
+ghost use Rattle.std.specs.{Prelude.{◌≡◌, ◌++◌, IfOk, OnOk, option_map}, Option.{option_copied}};
 ghost use Rattle.ados_readargs.specs.Args.{option_text};
-ghost use Rattle.ados_files.specs.declared.options.TheConstants.{LIST_LFORMAT};
-ghost use Rattle.ados_files.specs.Shapes.{group_lines};
+ghost use Rattle.ados_files.specs.{declared.options.TheConstants.{LIST_LFORMAT}, Shapes.{group_lines}, Formats.{format_of}, Listing.{entries_of, listed_places, list_text, list_directory, list_texts, pattern_given, depth_of, shape_of, list_printed, list_row}};
 ghost use Rattle.ados_objects.specs.Bases.{entry_at};
-ghost use Rattle.ados_files.specs.Formats.{format_of};
-ghost use Rattle.ados_find.specs.Done.{fresh_work, end_effect};
-ghost use Rattle.ados_find.specs.Effects.{effect_of};
-ghost use Rattle.ados_find.specs.Paths.{Gives};
-ghost use Rattle.ados_files.specs.Listing.{entries_of, listed_places, list_text, list_directory, list_texts, pattern_given, depth_of, shape_of, list_printed, list_row};
+ghost use Rattle.ados_find.specs.{Done.{fresh_work, end_effect}, Effects.{effect_of}, Paths.{Gives}};
 
 use crate::below::object_count;
 use crate::formats::Format;

@@ -1,6 +1,5 @@
 // Protect: the bits of objects.
-ghost use Rattle.std.specs.Prelude.{◌≡◌, IfOk};
-ghost use Rattle.std.specs.Option.{option_copied};
+ghost use Rattle.std.specs.{Prelude.{◌≡◌, IfOk}, Option.{option_copied}};
 ghost use Rattle.ados_find.specs.Effects.{effect_of};
 
 use crate::below::objects_of;
@@ -28,8 +27,7 @@ pub struct Change {
     pub bits: Bits,
 }
 
-ghost use Rattle.ados_files.specs.Protect.{begins_with, flag_letters, bits_of, way_of, change_of};
-ghost use Rattle.ados_files.specs.Protect.{changed_bit, changed_bits, object_bits, protect_one, protect_place, protect_row};
+ghost use Rattle.ados_files.specs.Protect.{begins_with, flag_letters, bits_of, way_of, change_of, changed_bit, changed_bits, object_bits, protect_one, protect_place, protect_row};
 
 /// Protect changes the bits of objects.
 pub fn protect(alloc: Global, shared: &Shared, view: &ShellView, args: &Args) -> CommandResult

@@ -2,8 +2,7 @@
 ghost use Rattle.std.specs.Prelude.{◌≡◌, IfOk};
 ghost use Rattle.std.specs.FinMap as map;
 ghost use Rattle.ados_ram.specs.Place.{key_of};
-ghost use Rattle.ados_find.specs.Effects.{effect_of};
-ghost use Rattle.ados_find.specs.Paths.{Gives};
+ghost use Rattle.ados_find.specs.{Effects.{effect_of}, Paths.{Gives}};
 
 use crate::gather::gather_into;
 use crate::jobs::sources_of;

@@ -2,11 +2,8 @@
 ghost use Rattle.std.specs.Prelude.{◌≡◌, ◌++◌, IfOk, OnOk};
 ghost use Rattle.std.specs.FinMap as map;
 ghost use Rattle.ados_ram.specs.Place.{key_of};
-ghost use Rattle.ados_find.specs.Effects.{effect_of};
-ghost use Rattle.ados_find.specs.Paths.{Gives};
-ghost use Rattle.ados_files.specs.Search.{hits_effect, no_hits, object_files, search_row, search_sources, search_wanted, searched_files, searching_of, wanted_of};
-ghost use Rattle.ados_files.specs.Hits.{hits_of, search_files};
-ghost use Rattle.ados_find.specs.Shared.{SharedState};
+ghost use Rattle.ados_find.specs.{Effects.{effect_of}, Paths.{Gives}, Shared.{SharedState}};
+ghost use Rattle.ados_files.specs.{Search.{hits_effect, no_hits, object_files, search_row, search_sources, search_wanted, searched_files, searching_of, wanted_of}, Hits.{hits_of, search_files}};
 
 use crate::hits::{Hits, Searching, Wanted, search_files};
 use crate::jobs::sources_of;

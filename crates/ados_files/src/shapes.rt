@@ -1,7 +1,5 @@
 // What List shows of objects, and of what is below them.
-ghost use Rattle.std.specs.Prelude.{◌≡◌, ◌++◌, ◌∷◌, [], IfOk, OnOk};
-ghost use Rattle.std.specs.List.{flat_map};
-ghost use Rattle.std.specs.Option.{option_copied};
+ghost use Rattle.std.specs.{Prelude.{◌≡◌, ◌++◌, ◌∷◌, [], IfOk, OnOk}, List.{flat_map}, Option.{option_copied}};
 
 use crate::formats::Format;
 use crate::parts::stands_in;

@@ -1,12 +1,8 @@
 // Sort: the lines of a file are written to a file in an order.
 ghost use Rattle.std.specs.Prelude.{◌≡◌, IfOk};
-ghost use Rattle.ados_find.specs.Done.{done_of, fresh_work};
-ghost use Rattle.ados_find.specs.Effects.{effect_of};
-ghost use Rattle.ados_find.specs.Paths.{Gives};
-ghost use Rattle.ados_files.specs.Sort.{bytes_before, order_after, sort_read, sort_row, sorted_text, text_of_lines};
+ghost use Rattle.ados_find.specs.{Done.{done_of, fresh_work}, Effects.{effect_of}, Paths.{Gives}};
+ghost use Rattle.ados_files.specs.{Sort.{bytes_before, order_after, sort_read, sort_row, sorted_text, text_of_lines}, TypeFiles.{type_one}, declared.type_files.Printing.TheVariants.{Plain}};
 ghost use Rattle.ados_objects.specs.Acts.{at_path};
-ghost use Rattle.ados_files.specs.TypeFiles.{type_one};
-ghost use Rattle.ados_files.specs.declared.type_files.Printing.TheVariants.{Plain};
 
 use crate::join::written_to;
 use crate::options::{SORT_CASE, SORT_COLSTART, SORT_FROM, SORT_NUMERIC, SORT_TO};

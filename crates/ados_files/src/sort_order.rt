@@ -1,8 +1,5 @@
 // The lines of a file, and the order in which Sort puts them.
-ghost use Rattle.std.specs.Prelude.{◌≡◌, ◌<◌, ◌≤◌, length, position, IfOk, IfSome, OnOk};
-ghost use Rattle.std.specs.Cmp.Lexicographic.{slice_cmp};
-ghost use Rattle.std.specs.List.Sorted.{IsPermutation, IsSortedBy, IsStableBy};
-ghost use Rattle.std.specs.Ordering.{nat_cmp};
+ghost use Rattle.std.specs.{Prelude.{◌≡◌, ◌<◌, ◌≤◌, length, position, IfOk, IfSome, OnOk}, Cmp.Lexicographic.{slice_cmp}, List.Sorted.{IsPermutation, IsSortedBy, IsStableBy}, Ordering.{nat_cmp}};
 ghost use Rattle.ados_text.specs.Lines.{is_newline};
 ghost use Rattle.ados_files.specs.SortOrder.{digit_count, is_before, is_no_digit, leading_number, line_cmp, line_len, number_key, number_text, part_of, plain_lines, sign_count, sorted_lines, text_key};
 

@@ -1,7 +1,6 @@
 // Type: the bytes of files, unchanged or by HEX or NUMBER.
 ghost use Rattle.std.specs.Prelude.{◌≡◌, ◌++◌, IfOk, OnOk};
-ghost use Rattle.ados_find.specs.Effects.{effect_of};
-ghost use Rattle.ados_find.specs.Paths.{Gives};
+ghost use Rattle.ados_find.specs.{Effects.{effect_of}, Paths.{Gives}};
 ghost use Rattle.ados_files.specs.TypeFiles.{file_text, type_one, all_text, type_printed, is_asked, printing_by, printing_of, type_by_options, type_row};
 
 use crate::dumps::{numbered, push_hex};

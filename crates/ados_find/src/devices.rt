@@ -1,10 +1,8 @@
 // The devices that paths and searches use.
-ghost use Rattle.std.specs.Prelude.{◌≡◌, ◌++◌, ◌∷◌, [], OnOk, map as each};
-ghost use Rattle.std.specs.List.{flat_map};
+ghost use Rattle.std.specs.{Prelude.{◌≡◌, ◌++◌, ◌∷◌, [], OnOk, map as each}, List.{flat_map}};
 ghost use Rattle.ados_assign.specs.Uses.{reached_devices};
 ghost use Rattle.ados_text.specs.Text.{to_ascii};
-ghost use Rattle.ados_find.specs.Routes.{route_devices};
-ghost use Rattle.ados_find.specs.Devices.{device_named};
+ghost use Rattle.ados_find.specs.{Routes.{route_devices}, Devices.{device_named}};
 
 use crate::routes::Route;
 use crate::shared::Shared;

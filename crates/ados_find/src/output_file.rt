@@ -1,11 +1,8 @@
 // TO: what a command prints is written to a file at the end.
-ghost use Rattle.std.specs.Prelude.{◌≡◌, [], Option, IfOk};
-ghost use Rattle.std.specs.Option.{option_copied};
-ghost use Rattle.ados_find.specs.Effects.{effect_of};
-ghost use Rattle.ados_find.specs.OutputFile.{output_at, output_in, output_for, output_to};
+ghost use Rattle.std.specs.{Prelude.{◌≡◌, [], Option, IfOk}, Option.{option_copied}};
+ghost use Rattle.ados_find.specs.{Effects.{effect_of}, OutputFile.{output_at, output_in, output_for, output_to}};
 ghost use Rattle.ados_ram.specs.Files.{Files};
-ghost use Rattle.ados_text.specs.Stop.{Answers};
-ghost use Rattle.ados_text.specs.declared.codes.Result2.{Result2};
+ghost use Rattle.ados_text.specs.{Stop.{Answers}, declared.codes.Result2.{Result2}};
 
 use crate::codes::Codes;
 use crate::outcomes::{CommandResult, Outcome};

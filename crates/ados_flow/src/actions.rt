@@ -22,8 +22,7 @@ pub enum Action {
 }
 
 impl Action {
-    ghost use Rattle.ados_find.specs.Effects.{codes_effect};
-    ghost use Rattle.ados_find.specs.Shared.{SharedState};
+    ghost use Rattle.ados_find.specs.{Effects.{codes_effect}, Shared.{SharedState}};
     ghost use Rattle.ados_flow.specs.Actions.{Does, action_effect};
 
     /// It returns this, changes nothing and prints nothing.

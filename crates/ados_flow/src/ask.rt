@@ -1,7 +1,6 @@
 // Ask: a question that is answered by yes or no.
 ghost use Rattle.std.specs.Prelude.{◌≡◌, IfOk};
-ghost use Rattle.ados_flow.specs.Actions.{action_effect};
-ghost use Rattle.ados_flow.specs.Ask.{ask_row, reply_of};
+ghost use Rattle.ados_flow.specs.{Actions.{action_effect}, Ask.{ask_row, reply_of}};
 
 use crate::actions::Action;
 use ados_find::{Codes, Shared};

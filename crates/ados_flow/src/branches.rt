@@ -1,15 +1,10 @@
 //! Branches: If, Else and Skip, by which a script continues at another line.
-ghost use Rattle.std.specs.Prelude.{◌≡◌, IfOk};
-ghost use Rattle.std.specs.Option.{option_copied, option_map};
+ghost use Rattle.std.specs.{Prelude.{◌≡◌, IfOk}, Option.{option_copied, option_map}};
 ghost use Rattle.ados_text.specs.declared.codes.TheConstants.Result2.{WRONG_TYPE};
-ghost use Rattle.ados_find.specs.Codes.{fail_codes};
-ghost use Rattle.ados_find.specs.Effects.{codes_effect};
-ghost use Rattle.ados_find.specs.Shared.{SharedState};
+ghost use Rattle.ados_find.specs.{Codes.{fail_codes}, Effects.{codes_effect}, Shared.{SharedState}};
 ghost use Rattle.ados_readargs.specs.Args.{has_switch, option_texts};
 ghost use Rattle.ados_script.specs.Skips.{skip as skip_of};
-ghost use Rattle.ados_flow.specs.Actions.{Does, action_effect};
-ghost use Rattle.ados_flow.specs.Branches.{else_row, if_row, jump_action, label_sought, phrase_or_none, skip_row};
-ghost use Rattle.ados_flow.specs.Frames.{script_line_of};
+ghost use Rattle.ados_flow.specs.{Actions.{Does, action_effect}, Branches.{else_row, if_row, jump_action, label_sought, phrase_or_none, skip_row}, Frames.{script_line_of}};
 
 use crate::actions::Action;
 use crate::conditions::tested;

@@ -1,8 +1,6 @@
 // The conditions of If. A number is the index of an option in If's template (src/rows.rt), from 0.
-ghost use Rattle.std.specs.Prelude.{◌≡◌, ◌++◌, Err, IfOk, filter, option_to_list};
-ghost use Rattle.std.specs.Option.{option_map};
-ghost use Rattle.ados_find.specs.Codes.{fail_codes};
-ghost use Rattle.ados_find.specs.Paths.{Gives, place_of};
+ghost use Rattle.std.specs.{Prelude.{◌≡◌, ◌++◌, Err, IfOk, filter, option_to_list}, Option.{option_map}};
+ghost use Rattle.ados_find.specs.{Codes.{fail_codes}, Paths.{Gives, place_of}};
 ghost use Rattle.ados_readargs.specs.Args.{option_text};
 ghost use Rattle.ados_flow.specs.Conditions.{exists, code_reaches, is_given, place_exists, single_test, argument_order, order_if_both, order_of, if_test};
 

@@ -1,6 +1,5 @@
 // The devices that the arguments of a command use.
-ghost use Rattle.std.specs.Prelude.{◌≡◌, ◌++◌, OnOk, IfOk};
-ghost use Rattle.std.specs.List.{flat_map};
+ghost use Rattle.std.specs.{Prelude.{◌≡◌, ◌++◌, OnOk, IfOk}, List.{flat_map}};
 ghost use Rattle.ados_assign.specs.Uses.{reached_devices};
 ghost use Rattle.ados_readargs.specs.Args.{option_text};
 ghost use Rattle.ados_find.specs.Paths.{place_of};

@@ -1,12 +1,9 @@
 // Execute: the call of a script.
-ghost use Rattle.std.specs.Prelude.{◌≡◌, ◌++◌, IfOk, codes};
-ghost use Rattle.std.specs.Fmt.{decimal};
+ghost use Rattle.std.specs.{Prelude.{◌≡◌, ◌++◌, IfOk, codes}, Fmt.{decimal}};
 ghost use Rattle.ados_text.specs.Lines.{lines_of};
-ghost use Rattle.ados_find.specs.Paths.{place_of, Gives};
-ghost use Rattle.ados_find.specs.Shared.{SharedState};
+ghost use Rattle.ados_find.specs.{Paths.{place_of, Gives}, Shared.{SharedState}};
 ghost use Rattle.ados_subst.specs.Scripts.{script_of};
-ghost use Rattle.ados_flow.specs.Actions.{action_effect};
-ghost use Rattle.ados_flow.specs.Execute.{call_of_lines, execute_file, execute_row, script_by_word, script_place, script_row};
+ghost use Rattle.ados_flow.specs.{Actions.{action_effect}, Execute.{call_of_lines, execute_file, execute_row, script_by_word, script_place, script_row}};
 
 use crate::actions::Action;
 use crate::called::Called;

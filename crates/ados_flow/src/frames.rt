@@ -1,6 +1,5 @@
 // Frames.
-ghost use Rattle.std.specs.Prelude.{◌≡◌, suc, ◌+◌, ◌<◌, ◌^◌, List, Some, IfOk, OnSome, length, slice_get};
-ghost use Rattle.std.specs.Option.{option_copied, option_map};
+ghost use Rattle.std.specs.{Prelude.{◌≡◌, suc, ◌+◌, ◌<◌, ◌^◌, List, Some, IfOk, OnSome, length, slice_get}, Option.{option_copied, option_map}};
 
 use crate::code_rule::is_reached;
 use crate::kinds::FrameKind;

@@ -1,6 +1,5 @@
 // What a Run takes: the commands of the new shell.
-ghost use Rattle.std.specs.Prelude.{◌≡◌, ◌≤◌, ◌+◌, ◌-◌, ◌++◌, [], ◌∷◌, length, IfOk, OnOk};
-ghost use Rattle.std.specs.Option.{option_map};
+ghost use Rattle.std.specs.{Prelude.{◌≡◌, ◌≤◌, ◌+◌, ◌-◌, ◌++◌, [], ◌∷◌, length, IfOk, OnOk}, Option.{option_map}};
 ghost use Rattle.ados_flow.specs.Gathering.{has_no_command, before_plus, run_gathering, number_line, run_limit, without_plus};
 
 use ados_items::{Item, next_item};

@@ -2,8 +2,7 @@
 ghost use Rattle.std.specs.Prelude.{◌≡◌, [], ◌∷◌, Some, codes, option_map, slice_get};
 ghost use Rattle.ados_readargs.specs.Template.{options_of};
 ghost use Rattle.ados_resident.specs.declared.commands.FlowCommand.TheVariants as command;
-ghost use Rattle.ados_flow.specs.Rows.{full_template_of};
-ghost use Rattle.ados_flow.specs.declared.branches.TheConstants.{SKIP_LABEL, SKIP_BACK};
+ghost use Rattle.ados_flow.specs.{Rows.{full_template_of}, declared.branches.TheConstants.{SKIP_LABEL, SKIP_BACK}};
 
 /// The options of Skip are at the places in its template at which it reads them.
 pub fn options_have_their_places()

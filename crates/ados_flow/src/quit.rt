@@ -1,8 +1,7 @@
 // Quit: the end of a script.
 ghost use Rattle.std.specs.Prelude.{◌≡◌};
 ghost use Rattle.ados_find.specs.Shared.{SharedState};
-ghost use Rattle.ados_flow.specs.Actions.{action_effect};
-ghost use Rattle.ados_flow.specs.Quit.{quit_row};
+ghost use Rattle.ados_flow.specs.{Actions.{action_effect}, Quit.{quit_row}};
 
 use crate::actions::Action;
 use ados_find::Codes;

@@ -1,11 +1,8 @@
 // What the commands read of the shells that run.
 ghost use Rattle.std.specs.Prelude.{◌≡◌, List, Option, false};
 ghost use Rattle.ados_readargs.specs.declared.args.Arg.{Arg};
-ghost use Rattle.ados_find.specs.Shared.{SharedState};
-ghost use Rattle.ados_find.specs.Views.{IgnoresInUse};
-ghost use Rattle.ados_flow.specs.Frames.{ScriptLine};
-ghost use Rattle.ados_flow.specs.Reads.{reads_in_use};
-ghost use Rattle.ados_flow.specs.Rows.{row_of};
+ghost use Rattle.ados_find.specs.{Shared.{SharedState}, Views.{IgnoresInUse}};
+ghost use Rattle.ados_flow.specs.{Frames.{ScriptLine}, Reads.{reads_in_use}, Rows.{row_of}};
 
 use ados_resident::FlowCommand;
 

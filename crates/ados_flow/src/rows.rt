@@ -1,10 +1,7 @@
 // What each command does.
-ghost use Rattle.std.specs.Prelude.{◌≡◌, IfOk};
-ghost use Rattle.std.specs.Option.{option_copied};
+ghost use Rattle.std.specs.{Prelude.{◌≡◌, IfOk}, Option.{option_copied}};
 ghost use Rattle.ados_find.specs.Views.{IgnoresShells};
-ghost use Rattle.ados_flow.specs.Actions.{action_effect};
-ghost use Rattle.ados_flow.specs.Frames.{script_line_of};
-ghost use Rattle.ados_flow.specs.Rows.{row_of, core_template_of, full_template_of, template_of};
+ghost use Rattle.ados_flow.specs.{Actions.{action_effect}, Frames.{script_line_of}, Rows.{row_of, core_template_of, full_template_of, template_of}};
 
 use crate::actions::Action;
 use crate::ask::ask;

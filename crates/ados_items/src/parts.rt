@@ -1,9 +1,7 @@
 // Parts of a text.
-ghost use Rattle.std.specs.Prelude.{◌≡◌, ◌≤◌, length};
-ghost use Rattle.std.specs.List.{prefix_len, suffix_len};
+ghost use Rattle.std.specs.{Prelude.{◌≡◌, ◌≤◌, length}, List.{prefix_len, suffix_len}};
 ghost use Rattle.ados_text.specs.Text.{IsText};
-ghost use Rattle.ados_items.specs.Items.{bytes_between, is_blank};
-ghost use Rattle.ados_items.specs.Parts.{first_word, not_blank, rest_of, trimmed_text};
+ghost use Rattle.ados_items.specs.{Items.{bytes_between, is_blank}, Parts.{first_word, not_blank, rest_of, trimmed_text}};
 
 /// A space or a tab.
 pub fn is_blank(byte: u8) -> bool

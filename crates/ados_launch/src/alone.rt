@@ -1,12 +1,10 @@
 // A line that runs alone, in a shell that is opened for it.
 ghost use Rattle.std.specs.Prelude.{◌≡◌, ◌<◌, ◌≤◌, ◌++◌, List, length, None, true, is_some, IfErr, IfSome, OnOk, OnErr};
-ghost use Rattle.ados_machine.specs.Numbers.{free_number};
-ghost use Rattle.ados_machine.specs.World.{numbered_shell};
+ghost use Rattle.ados_machine.specs.{Numbers.{free_number}, World.{numbered_shell}};
 ghost use Rattle.ados_world.specs.Opened.{opening_fault};
 ghost use Rattle.ados_shell.specs.Drafts.{out_of};
 ghost use Rattle.ados_launcher.specs.declared.calls.Call.{Call};
-ghost use Rattle.ados_launch.specs.Agreement.{Agrees};
-ghost use Rattle.ados_launch.specs.Alone.{AgreesAfterOpening, AgreesOnceTaken, EndedAs, IfEnded, IfRunning, IfUnopened, IsUnopened, IsUntaken, RunsOn, LineProgress, TakesNext, UnopenedReason};
+ghost use Rattle.ados_launch.specs.{Agreement.{Agrees}, Alone.{AgreesAfterOpening, AgreesOnceTaken, EndedAs, IfEnded, IfRunning, IfUnopened, IsUnopened, IsUntaken, RunsOn, LineProgress, TakesNext, UnopenedReason}};
 
 use crate::asks::ask;
 use crate::events::give;

@@ -1,12 +1,9 @@
 // Asks a launcher for what a shell waits for, and gives the world its answer.
 ghost use Rattle.std.specs.Prelude.{◌≡◌, ◌≢◌, ◌<◌, false, None};
-ghost use Rattle.ados_machine.specs.FrameEnds.{IsSane};
-ghost use Rattle.ados_machine.specs.World.{pending_of};
-ghost use Rattle.ados_machine.specs.Children.{child_after_answer, shell_named};
+ghost use Rattle.ados_machine.specs.{FrameEnds.{IsSane}, World.{pending_of}, Children.{child_after_answer, shell_named}};
 ghost use Rattle.ados_shell.specs.Drafts.{out_of};
 ghost use Rattle.ados_launcher.specs.Lifecycles.{is_open, lifecycle_for_state, state_of};
-ghost use Rattle.ados_launch.specs.Agreement.{Agrees, IsOpenTable};
-ghost use Rattle.ados_launch.specs.Asked.{LauncherAnswers, Asks, MayAsk, TakesAnswer};
+ghost use Rattle.ados_launch.specs.{Agreement.{Agrees, IsOpenTable}, Asked.{LauncherAnswers, Asks, MayAsk, TakesAnswer}};
 
 use crate::events::give;
 use ados_launcher::Launcher;

@@ -1,13 +1,8 @@
 // The open children of a launcher.
 ghost use Rattle.std.specs.Prelude.{◌≡◌, ◌≢◌, ◌<◌, ℕ, List, true, false, get_or, MatchBool};
-ghost use Rattle.ados_machine.specs.FrameEnds.{IsSane};
-ghost use Rattle.ados_machine.specs.World.{pending_of};
-ghost use Rattle.ados_machine.specs.declared.children.ChildState.TheVariants.{Closed};
-ghost use Rattle.ados_launcher.specs.declared.calls.Call.{Call};
-ghost use Rattle.ados_launcher.specs.Lifecycles.{state_of};
-ghost use Rattle.ados_launch.specs.Agreement.{AddsWait, AreOver, IsOpenTable, WaitsForOpen};
-ghost use Rattle.ados_launch.specs.Alone.{AgreesAfterLine, is_open_after_line, keeps_open};
-ghost use Rattle.ados_launch.specs.Rounds.{asks_read_or_wait};
+ghost use Rattle.ados_machine.specs.{FrameEnds.{IsSane}, World.{pending_of}, declared.children.ChildState.TheVariants.{Closed}};
+ghost use Rattle.ados_launcher.specs.{declared.calls.Call.{Call}, Lifecycles.{state_of}};
+ghost use Rattle.ados_launch.specs.{Agreement.{AddsWait, AreOver, IsOpenTable, WaitsForOpen}, Alone.{AgreesAfterLine, is_open_after_line, keeps_open}, Rounds.{asks_read_or_wait}};
 
 use crate::alone::{SystemEnd, SystemFault};
 use crate::rounds::asks_further;

@@ -1,10 +1,7 @@
 // A world driven by a reader's lines, a launcher's answers and a list of breaks.
 ghost use Rattle.std.specs.Prelude.{◌≡◌, ◌<◌, ◌^◌, ◌-◌, [], length, OnOk};
 ghost use Rattle.ados_machine.specs.World.{codes_at};
-ghost use Rattle.ados_launch.specs.Agreement.{Agrees, IsOpenTable};
-ghost use Rattle.ados_launch.specs.Drives.{HasDriveResult, Drives};
-ghost use Rattle.ados_launch.specs.Schedule.{first_schedule_state};
-ghost use Rattle.ados_launch.specs.Session.{moment_of};
+ghost use Rattle.ados_launch.specs.{Agreement.{Agrees, IsOpenTable}, Drives.{HasDriveResult, Drives}, Schedule.{first_schedule_state}, Session.{moment_of}};
 
 use crate::faults::DriveFault;
 use crate::session::Session;

@@ -1,7 +1,6 @@
 // Giving an event to the world.
 ghost use Rattle.std.specs.Prelude.{◌≡◌, ◌<◌, ◌≤◌, ◌-◌, [], true, nat_lt, if◌then◌else◌, OnOk, OnErr, Ok};
-ghost use Rattle.ados_machine.specs.Step.{event_out, is_accepted, step_of};
-ghost use Rattle.ados_machine.specs.Runs.{IsResponse, resulting_world};
+ghost use Rattle.ados_machine.specs.{Step.{event_out, is_accepted, step_of}, Runs.{IsResponse, resulting_world}};
 ghost use Rattle.ados_shell.specs.Drafts.{out_of};
 
 use ados_text::{NoMemory, Text};

@@ -1,8 +1,6 @@
 // Why a run stops before its end.
 ghost use Rattle.std.specs.Prelude.{◌≡◌};
-ghost use Rattle.ados_launch.specs.Faults.{drive_fault};
-ghost use Rattle.ados_launch.specs.declared.faults.DriveFault.TheVariants.{Write};
-ghost use Rattle.ados_launch.specs.declared.faults.IntakeFault.TheVariants.{NoMemory as OutOfMemory};
+ghost use Rattle.ados_launch.specs.{Faults.{drive_fault}, declared.faults.DriveFault.TheVariants.{Write}, declared.faults.IntakeFault.TheVariants.{NoMemory as OutOfMemory}};
 
 use crate::written::WriteFault;
 use ados_text::NoMemory;

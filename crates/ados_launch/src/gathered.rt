@@ -1,6 +1,5 @@
 //! Output is gathered, up to 4,000 bytes and 1,000 events, and written with what comes after it.
-ghost use Rattle.std.specs.Prelude.{◌≡◌, ◌<◌, ◌^◌, ◌-◌, ◌++◌, ℕ, List, [], true, false, OnOk, OnErr};
-ghost use Rattle.std.specs.Io.KnownBytes.{Appends};
+ghost use Rattle.std.specs.{Prelude.{◌≡◌, ◌<◌, ◌^◌, ◌-◌, ◌++◌, ℕ, List, [], true, false, OnOk, OnErr}, Io.KnownBytes.{Appends}};
 ghost use Rattle.ados_launch.specs.Gathering.{FailsToWrite, Gathers, GetsPart};
 
 use crate::Sink;

@@ -1,14 +1,8 @@
 // What the events of a run share, and how each is taken.
 ghost use Rattle.std.specs.Prelude.{◌≡◌, ◌<◌, ◌^◌, ◌-◌, ℕ, [], true, false, not, get_or, length, OnOk, OnErr, IsErrOf};
-ghost use Rattle.ados_machine.specs.FrameEnds.{IsSane};
-ghost use Rattle.ados_machine.specs.World.{pending_of, wants_line};
+ghost use Rattle.ados_machine.specs.{FrameEnds.{IsSane}, World.{pending_of, wants_line}};
 ghost use Rattle.ados_shell.specs.Drafts.{out_of};
-ghost use Rattle.ados_launch.specs.Agreement.{Agrees, IsOpenTable};
-ghost use Rattle.ados_launch.specs.Intake.{comes_at_once, FailsToRead, LacksMemory, TakesLineOrEnd, TakesNextItem};
-ghost use Rattle.ados_launch.specs.Lines.{bytes_ahead, has_short_line, IsUnreadable, IfKnown};
-ghost use Rattle.ados_launch.specs.NoFurther.{TakesPart};
-ghost use Rattle.ados_launch.specs.Rounds.{asks_read_or_wait};
-ghost use Rattle.ados_launch.specs.Schedule.{found_next, MayCome};
+ghost use Rattle.ados_launch.specs.{Agreement.{Agrees, IsOpenTable}, Intake.{comes_at_once, FailsToRead, LacksMemory, TakesLineOrEnd, TakesNextItem}, Lines.{bytes_ahead, has_short_line, IsUnreadable, IfKnown}, NoFurther.{TakesPart}, Rounds.{asks_read_or_wait}, Schedule.{found_next, MayCome}};
 
 use crate::Source;
 use crate::asks::answer;

@@ -1,8 +1,7 @@
 // The next line of an input.
 ghost use Rattle.std.specs.Prelude.{◌≡◌, ◌<◌, ◌≤◌, ℕ, List, Option, true, false, vec_len, length, position, ◌^◌, ◌-◌, ◌+◌, [], ◌∷◌, ◌++◌, take, IfOk, IfSome, OnOk, OnErr, IsErrOf};
 ghost use Rattle.ados_text.specs.Lines.{is_newline};
-ghost use Rattle.ados_launch.specs.Lines.{bytes_ahead, has_short_line, kind_of_length, IfKnown, TakesLine};
-ghost use Rattle.ados_launch.specs.NoFurther.{TakesPart};
+ghost use Rattle.ados_launch.specs.{Lines.{bytes_ahead, has_short_line, kind_of_length, IfKnown, TakesLine}, NoFurther.{TakesPart}};
 
 use crate::Source;
 use crate::faults::IntakeFault;

@@ -1,8 +1,6 @@
 // Bytes that were read and not yet taken.
-ghost use Rattle.std.specs.Prelude.{◌≡◌, ◌<◌, ◌≤◌, ◌^◌, ◌-◌, ℕ, List, [], ◌∷◌, length, take, drop, IfOk, IfSome, IfNone, OnErr};
-ghost use Rattle.std.specs.Io.KnownBytes.{Consumes, Keeps, IsAtEnd};
-ghost use Rattle.ados_launch.specs.Faults.{CountsFault};
-ghost use Rattle.ados_launch.specs.Lines.{bytes_ahead};
+ghost use Rattle.std.specs.{Prelude.{◌≡◌, ◌<◌, ◌≤◌, ◌^◌, ◌-◌, ℕ, List, [], ◌∷◌, length, take, drop, IfOk, IfSome, IfNone, OnErr}, Io.KnownBytes.{Consumes, Keeps, IsAtEnd}};
+ghost use Rattle.ados_launch.specs.{Faults.{CountsFault}, Lines.{bytes_ahead}};
 
 use crate::Source;
 use std::io;

@@ -1,8 +1,6 @@
 // The order in which events come.
-ghost use Rattle.std.specs.Prelude.{◌≡◌, ◌<◌, ◌≤◌, ◌+◌, ◌-◌, ◌^◌, drop, length, option_map, IfSome, is_none};
-ghost use Rattle.std.specs.List.{prefix_len};
-ghost use Rattle.ados_launch.specs.Rounds.{due_place};
-ghost use Rattle.ados_launch.specs.Schedule.{breaks_left, first_due_break, first_schedule_state, is_passed, found_next, scheduled_next, passed_schedule_state, place_due, following_schedule_state, IsInRound, MayCome};
+ghost use Rattle.std.specs.{Prelude.{◌≡◌, ◌<◌, ◌≤◌, ◌+◌, ◌-◌, ◌^◌, drop, length, option_map, IfSome, is_none}, List.{prefix_len}};
+ghost use Rattle.ados_launch.specs.{Rounds.{due_place}, Schedule.{breaks_left, first_due_break, first_schedule_state, is_passed, found_next, scheduled_next, passed_schedule_state, place_due, following_schedule_state, IsInRound, MayCome}};
 
 use crate::rounds::{Due, Round};
 use ados_machine::BreakAt;

@@ -1,17 +1,8 @@
 // A world that is driven event by event.
-ghost use Rattle.std.specs.Prelude.{◌≡◌, ◌<◌, ◌^◌, ◌-◌, ◌+◌, ◌≤◌, ℕ, List, [], true, false, None, get_or, is_none, option_map, IfOk, OnOk, OnErr, IsErrOf, length};
-ghost use Rattle.std.specs.Io.KnownBytes.{Appends};
-ghost use Rattle.std.specs.Option.{option_copied};
-ghost use Rattle.ados_machine.specs.FrameEnds.{IsSane};
-ghost use Rattle.ados_machine.specs.World.{codes_at, pending_of};
-ghost use Rattle.ados_launch.specs.Agreement.{Agrees, AreOver, IsOpenTable, WaitsForOpen};
+ghost use Rattle.std.specs.{Prelude.{◌≡◌, ◌<◌, ◌^◌, ◌-◌, ◌+◌, ◌≤◌, ℕ, List, [], true, false, None, get_or, is_none, option_map, IfOk, OnOk, OnErr, IsErrOf, length}, Io.KnownBytes.{Appends}, Option.{option_copied}};
+ghost use Rattle.ados_machine.specs.{FrameEnds.{IsSane}, World.{codes_at, pending_of}};
+ghost use Rattle.ados_launch.specs.{Agreement.{Agrees, AreOver, IsOpenTable, WaitsForOpen}, Alone.{AgreesAfterLine}, Gathering.{FailsToWrite, GetsPart, HasGatherResult}, Rounds.{asks_read_or_wait, due_place}, Schedule.{IsInRound, first_schedule_state, next_named, scheduled_next, unless_break}, Session.{moment_of}, Steps.{next_request}};
 ghost use Rattle.ados_launcher.specs.declared.calls.Call.{Call};
-ghost use Rattle.ados_launch.specs.Alone.{AgreesAfterLine};
-ghost use Rattle.ados_launch.specs.Gathering.{FailsToWrite, GetsPart, HasGatherResult};
-ghost use Rattle.ados_launch.specs.Rounds.{asks_read_or_wait, due_place};
-ghost use Rattle.ados_launch.specs.Schedule.{IsInRound, first_schedule_state, next_named, scheduled_next, unless_break};
-ghost use Rattle.ados_launch.specs.Session.{moment_of};
-ghost use Rattle.ados_launch.specs.Steps.{next_request};
 
 use crate::alone::{SystemEnd, SystemFault};
 use crate::children::{children_after_line, wait_for_open};

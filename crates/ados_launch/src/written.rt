@@ -1,6 +1,5 @@
 // Bytes written whole, or a write fault.
-ghost use Rattle.std.specs.Prelude.{◌≡◌, ◌⊎◌, ◌<◌, ◌^◌, ◌-◌, ◌+◌, ℕ, length, take, OnOk, OnErr};
-ghost use Rattle.std.specs.Io.KnownBytes.{Appends};
+ghost use Rattle.std.specs.{Prelude.{◌≡◌, ◌⊎◌, ◌<◌, ◌^◌, ◌-◌, ◌+◌, ℕ, length, take, OnOk, OnErr}, Io.KnownBytes.{Appends}};
 ghost use Rattle.ados_launch.specs.Faults.{one_more};
 
 use crate::Sink;

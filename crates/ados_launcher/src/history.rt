@@ -1,6 +1,5 @@
 //! A list that only the contracts see: it takes no memory, and its calls do nothing when the program runs.
-ghost use Rattle.std.specs.Prelude.{◌≡◌, List, [], ◌∷◌, ◌++◌};
-ghost use Rattle.std.specs.Borrow.{ftrue};
+ghost use Rattle.std.specs.{Prelude.{◌≡◌, List, [], ◌∷◌, ◌++◌}, Borrow.{ftrue}};
 
 use std::marker::{Model, PhantomData};
 

@@ -2,8 +2,7 @@
 ghost use Rattle.std.specs.Prelude.{◌≡◌, ◌≤◌, true, length, drop, IfOk, OnOk};
 ghost use Rattle.ados_text.specs.Text.{IsText};
 ghost use Rattle.ados_items.specs.Items.{item_at, value_of, bytes_between, IsWithin};
-ghost use Rattle.ados_line.specs.Cut.{CutContinuation, with_piece, with_blanks, with_name, read_name, is_taken, read_redirection, cut_word, cut_item, run_item, cut_item_by_command, is_run, with_rest, nothing_read};
-ghost use Rattle.ados_line.specs.Steps.{Goes, with_arguments};
+ghost use Rattle.ados_line.specs.{Cut.{CutContinuation, with_piece, with_blanks, with_name, read_name, is_taken, read_redirection, cut_word, cut_item, run_item, cut_item_by_command, is_run, with_rest, nothing_read}, Steps.{Goes, with_arguments}};
 
 use crate::faults::LineFault;
 use crate::lines::Redirection;

@@ -1,13 +1,7 @@
 // What a raw line is read as: the order of comment, alias, variables, back-ticks and cut.
-ghost use Rattle.std.specs.Prelude.{◌≡◌, ◌<◌, ◌++◌, map, Err, IfOk, OnOk, length};
-ghost use Rattle.std.specs.List.{list_any};
+ghost use Rattle.std.specs.{Prelude.{◌≡◌, ◌<◌, ◌++◌, map, Err, IfOk, OnOk, length}, List.{list_any}};
 ghost use Rattle.ados_text.specs.Text.{IsText};
-ghost use Rattle.ados_line.specs.Answers.{Gives};
-ghost use Rattle.ados_line.specs.Alias.{with_alias};
-ghost use Rattle.ados_line.specs.Comment.{without_comment, IsUpToComment};
-ghost use Rattle.ados_line.specs.Expansion.{expand_raw_line, expanded_line, read_rest_of_text, read_resumed_text, resume_line, newline_to_space, without_newline, tick_text, IsMade, IsResumed};
-ghost use Rattle.ados_line.specs.Signs.{is_special};
-ghost use Rattle.ados_line.specs.Values.{visible_variables};
+ghost use Rattle.ados_line.specs.{Answers.{Gives}, Alias.{with_alias}, Comment.{without_comment, IsUpToComment}, Expansion.{expand_raw_line, expanded_line, read_rest_of_text, read_resumed_text, resume_line, newline_to_space, without_newline, tick_text, IsMade, IsResumed}, Signs.{is_special}, Values.{visible_variables}};
 
 use crate::aliases::replace_alias;
 use crate::comments::without_comment;

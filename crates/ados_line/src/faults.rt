@@ -1,7 +1,6 @@
 // Why a line can't be read, and the number of each fault.
 ghost use Rattle.std.specs.Prelude.{◌≡◌};
-ghost use Rattle.ados_line.specs.Faults.{result2_of};
-ghost use Rattle.ados_line.specs.declared.faults.LineFault.TheVariants.{NoMemory as OutOfMemory};
+ghost use Rattle.ados_line.specs.{Faults.{result2_of}, declared.faults.LineFault.TheVariants.{NoMemory as OutOfMemory}};
 
 use ados_text::{NoMemory, Result2};
 use thiserror::Error;

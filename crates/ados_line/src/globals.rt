@@ -2,9 +2,7 @@
 ghost use Rattle.std.specs.Prelude.{◌≡◌, IfOk};
 ghost use Rattle.ados_text.specs.Text.{IsText};
 ghost use Rattle.ados_vars.specs.Locals.{shown_pairs};
-ghost use Rattle.ados_line.specs.Globals.{asks_beyond, asks_global, is_beyond};
-ghost use Rattle.ados_line.specs.Letters.{letters_of};
-ghost use Rattle.ados_line.specs.Values.{reference};
+ghost use Rattle.ados_line.specs.{Globals.{asks_beyond, asks_global, is_beyond}, Letters.{letters_of}, Values.{reference}};
 
 use crate::aliases::replace_alias;
 use crate::comments::without_comment;

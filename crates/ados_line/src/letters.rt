@@ -1,10 +1,8 @@
 // The characters of a line: inside quotes a star and the byte after it are one.
-ghost use Rattle.std.specs.Prelude.{◌≡◌, ◌++◌, ℕ, List, true, false, IfOk, OnOk};
-ghost use Rattle.std.specs.List.{flat_map};
+ghost use Rattle.std.specs.{Prelude.{◌≡◌, ◌++◌, ℕ, List, true, false, IfOk, OnOk}, List.{flat_map}};
 ghost use Rattle.ados_text.specs.Text.{IsText};
 ghost use Rattle.ados_items.specs.Items.{item_at};
-ghost use Rattle.ados_line.specs.declared.letters.Letter.{Letter};
-ghost use Rattle.ados_line.specs.Letters.{plain_letters, starred_letters, letters_after_item, letters_of, following_letters, letter_bytes};
+ghost use Rattle.ados_line.specs.{declared.letters.Letter.{Letter}, Letters.{plain_letters, starred_letters, letters_after_item, letters_of, following_letters, letter_bytes}};
 
 use ados_items::{Item, between, next_item};
 use ados_text::NoMemory;

@@ -1,10 +1,7 @@
 // The cut of a whole line.
-ghost use Rattle.std.specs.Prelude.{◌≡◌, false, Ok, IfOk};
-ghost use Rattle.std.specs.List.{list_any};
+ghost use Rattle.std.specs.{Prelude.{◌≡◌, false, Ok, IfOk}, List.{list_any}};
 ghost use Rattle.ados_text.specs.Text.{IsText};
-ghost use Rattle.ados_line.specs.Cut.{cut_of};
-ghost use Rattle.ados_line.specs.Signs.{is_mark};
-ghost use Rattle.ados_line.specs.Steps.{IsCut};
+ghost use Rattle.ados_line.specs.{Cut.{cut_of}, Signs.{is_mark}, Steps.{IsCut}};
 
 use crate::cuts::{Cut, Reading};
 use crate::faults::LineFault;

@@ -1,11 +1,7 @@
 // What a line is after its reading.
-ghost use Rattle.std.specs.Prelude.{◌≡◌, false, Ok, IfOk};
-ghost use Rattle.std.specs.List.{list_any};
+ghost use Rattle.std.specs.{Prelude.{◌≡◌, false, Ok, IfOk}, List.{list_any}};
 ghost use Rattle.ados_text.specs.Text.{IsText};
-ghost use Rattle.ados_line.specs.Answers.{Gives};
-ghost use Rattle.ados_line.specs.Cut.{cut_of, expanded_of_cut};
-ghost use Rattle.ados_line.specs.Pieces.{IsOfPieces};
-ghost use Rattle.ados_line.specs.Signs.{is_special};
+ghost use Rattle.ados_line.specs.{Answers.{Gives}, Cut.{cut_of, expanded_of_cut}, Pieces.{IsOfPieces}, Signs.{is_special}};
 
 use crate::cuts::Cut;
 use crate::faults::LineFault;

@@ -1,6 +1,5 @@
 // References to variables: where their names begin and end.
-ghost use Rattle.std.specs.Prelude.{◌≡◌, ◌≤◌, length, slice_get, IfSome, IsTrue, ◌<◌};
-ghost use Rattle.std.specs.List.{prefix_len};
+ghost use Rattle.std.specs.{Prelude.{◌≡◌, ◌≤◌, length, slice_get, IfSome, IsTrue, ◌<◌}, List.{prefix_len}};
 ghost use Rattle.ados_line.specs.Values.{is_of_name, is_plain, is_this, reference};
 
 use crate::letters::Letter;

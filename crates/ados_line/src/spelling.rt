@@ -1,6 +1,5 @@
 // Characters as text.
-ghost use Rattle.std.specs.Prelude.{◌≡◌, ◌++◌, OnOk};
-ghost use Rattle.std.specs.List.{flat_map};
+ghost use Rattle.std.specs.{Prelude.{◌≡◌, ◌++◌, OnOk}, List.{flat_map}};
 ghost use Rattle.ados_line.specs.Letters.{letter_text, starless_text};
 
 use crate::letters::Letter;

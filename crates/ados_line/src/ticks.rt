@@ -1,9 +1,7 @@
 // The first pair of back-ticks in a line.
 ghost use Rattle.std.specs.Prelude.{◌≡◌, ◌≤◌, ◌<◌, length, position, IfSome};
 ghost use Rattle.ados_text.specs.Text.{IsText};
-ghost use Rattle.ados_line.specs.Answers.{Gives};
-ghost use Rattle.ados_line.specs.Letters.{letter_bytes};
-ghost use Rattle.ados_line.specs.Ticks.{is_tick, within_bytes, split_at_pair, split_after_bytes};
+ghost use Rattle.ados_line.specs.{Answers.{Gives}, Letters.{letter_bytes}, Ticks.{is_tick, within_bytes, split_at_pair, split_after_bytes}};
 
 use crate::faults::LineFault;
 use crate::letters::{Letter, read_letters};

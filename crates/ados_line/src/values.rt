@@ -1,7 +1,6 @@
 // A text with the values of its variables.
 ghost use Rattle.std.specs.Prelude.{◌≡◌, ◌++◌, IfOk};
-ghost use Rattle.ados_line.specs.Answers.{within_line_limit, Gives};
-ghost use Rattle.ados_line.specs.Values.{visible_variables, first_segment, later_letter_count, text_of_segment, values};
+ghost use Rattle.ados_line.specs.{Answers.{within_line_limit, Gives}, Values.{visible_variables, first_segment, later_letter_count, text_of_segment, values}};
 
 use crate::faults::LineFault;
 use crate::letters::Letter;

@@ -1,5 +1,5 @@
 -- A script begins with its lines, and goes on from one to the next.
-use Rattle.std.proofs.Common.{◌-◌, ◌==◌, ◌||◌, ◌≡◌, ◌∙◌, sym, ℕ, List, [], ◌∷◌, Bool, true, false, not, ◌&&◌, length, nat_le, Option, Some, None, Ok, refl, ap, arith}
+use Rattle.std.proofs.Common.{◌-◌, ◌==◌, ◌||◌, ◌≡◌, ◌∙◌, sym, ℕ, List, [], ◌∷◌, Bool, true, false, not, ◌&&◌, length, nat_le, Some, None, Ok, refl, ap, arith}
 use Rattle.std.proofs.lemmas.Bool.{lt-leb}
 use Rattle.std.specs.Fmt.{decimal}
 use Rattle.ados_text.specs.Lines.{lines_of}

@@ -1,31 +1,7 @@
 //! The laws: what holds of every run, by the definitions alone.
 
-ghost use Rattle.ados_machine.specs.Alone.{AloneIsARun, AloneMeansWhole};
-ghost use Rattle.ados_machine.specs.Begun.{ShellsBeginByTheirMakers};
-ghost use Rattle.ados_machine.specs.Binding.{EventsBindOnlyWhatTheyUsed};
-ghost use Rattle.ados_machine.specs.Bound.{UsedDefersAreBound};
-ghost use Rattle.ados_machine.specs.Broken.{BreaksByCMark, BreaksByDFlag, BreaksUseUpTheFlag, CommandsUseUpTheFlag};
-ghost use Rattle.ados_machine.specs.Called.{ScriptsBeginWithTheirLines, CalledScriptsBeginWithTheirLines, FramesGoOn, JumpsLeadToTheirLine, FramesKeepTheirLines};
-ghost use Rattle.ados_machine.specs.Codes.{UnknownCommandsFail, UnknownCommandsAreTold, FaultyLinesFail, ExitStatusesAreReturned, FaultsAreReturned, FailedStartsAreReturned};
-ghost use Rattle.ados_machine.specs.Early.{ScriptsEndEarlyAtTheirFirst, FramesGiveBack, EarlyAndBackIsToObey};
-ghost use Rattle.ados_machine.specs.Given.{EventsGiveWhatIsPending, FurtherLinesWait, ReadyShellsAreTurned, TypedLinesAreTakenInOrder};
-ghost use Rattle.ados_machine.specs.InUse.{EntriesStayInUse, IdleShellsUseNoEntry, OutputsStayOpen, StartsOpenOutputs};
-ghost use Rattle.ados_machine.specs.Kept.{EventsKeepAllCodes, FreshWorldsHaveAllCodes, LastCodesStay};
-ghost use Rattle.ados_machine.specs.Manual.{ElsesLeadPastTheirBlock, IfsLeadPastTheirBlock, SkipsLeadPastTheirLabel};
-ghost use Rattle.ados_machine.specs.LookupOrder.{WordsAreLookedUpInOrder};
-ghost use Rattle.ados_machine.specs.Plain.{EnabledCommandsAreFound, EffectsAreRecorded, EffectsArePrinted, FailAtSetsTheLimit, SubstitutionsKeepTheirOutput, DirectoriesAreCarried};
-ghost use Rattle.ados_machine.specs.Programs.{StartsAskForTheirProgram, StartsUseTheirEntry, FirstFaultsStay, PiecesArePrinted};
-ghost use Rattle.ados_machine.specs.Redirected.{OpenOutputsAreInUse};
-ghost use Rattle.ados_machine.specs.Reports.{ReportsTellLastRecords};
-ghost use Rattle.ados_machine.specs.Laws.{ScriptsEndWhereTheRuleSays, EventsKeepWorldsSane, ReportsAreTheEnds, EachFrameEndsOnce, BreaksEndScripts, BreaksKeepWhatComes, FreshWorldsHaveNoChild, TurnsKeepChildren, AnswersMoveChildren, RequestsAreOfChildren, FittingAnswersAreAccepted, AcceptedAnswersFit, RequestsNameTheirShells};
-ghost use Rattle.ados_machine.specs.FrameEnds.{IsSane};
-ghost use Rattle.ados_machine.specs.Quiet.{QuietShellsAreInvisible};
-ghost use Rattle.ados_machine.specs.Starts.{FailedStartsChangeTheCodes, FailedStartsLeaveNothing};
-ghost use Rattle.ados_machine.specs.LoneReports.{AloneTellsReports};
-ghost use Rattle.ados_machine.specs.Typing.{LinesAreTakenIn, FullQueuesTakeNoLine};
-ghost use Rattle.ados_machine.specs.World.{fresh_world};
-ghost use Rattle.ados_resident.specs.declared.dialects.Dialect.{Dialect};
-ghost use Rattle.ados_resident.specs.declared.hosts.HostEntry.{HostEntry};
+ghost use Rattle.ados_machine.specs.{Alone.{AloneIsARun, AloneMeansWhole}, Begun.{ShellsBeginByTheirMakers}, Binding.{EventsBindOnlyWhatTheyUsed}, Bound.{UsedDefersAreBound}, Broken.{BreaksByCMark, BreaksByDFlag, BreaksUseUpTheFlag, CommandsUseUpTheFlag}, Called.{ScriptsBeginWithTheirLines, CalledScriptsBeginWithTheirLines, FramesGoOn, JumpsLeadToTheirLine, FramesKeepTheirLines}, Codes.{UnknownCommandsFail, UnknownCommandsAreTold, FaultyLinesFail, ExitStatusesAreReturned, FaultsAreReturned, FailedStartsAreReturned}, Early.{ScriptsEndEarlyAtTheirFirst, FramesGiveBack, EarlyAndBackIsToObey}, Given.{EventsGiveWhatIsPending, FurtherLinesWait, ReadyShellsAreTurned, TypedLinesAreTakenInOrder}, InUse.{EntriesStayInUse, IdleShellsUseNoEntry, OutputsStayOpen, StartsOpenOutputs}, Kept.{EventsKeepAllCodes, FreshWorldsHaveAllCodes, LastCodesStay}, Manual.{ElsesLeadPastTheirBlock, IfsLeadPastTheirBlock, SkipsLeadPastTheirLabel}, LookupOrder.{WordsAreLookedUpInOrder}, Plain.{EnabledCommandsAreFound, EffectsAreRecorded, EffectsArePrinted, FailAtSetsTheLimit, SubstitutionsKeepTheirOutput, DirectoriesAreCarried}, Programs.{StartsAskForTheirProgram, StartsUseTheirEntry, FirstFaultsStay, PiecesArePrinted}, Redirected.{OpenOutputsAreInUse}, Reports.{ReportsTellLastRecords}, Laws.{ScriptsEndWhereTheRuleSays, EventsKeepWorldsSane, ReportsAreTheEnds, EachFrameEndsOnce, BreaksEndScripts, BreaksKeepWhatComes, FreshWorldsHaveNoChild, TurnsKeepChildren, AnswersMoveChildren, RequestsAreOfChildren, FittingAnswersAreAccepted, AcceptedAnswersFit, RequestsNameTheirShells}, FrameEnds.{IsSane}, Quiet.{QuietShellsAreInvisible}, Starts.{FailedStartsChangeTheCodes, FailedStartsLeaveNothing}, LoneReports.{AloneTellsReports}, Typing.{LinesAreTakenIn, FullQueuesTakeNoLine}, World.{fresh_world}};
+ghost use Rattle.ados_resident.specs.{declared.dialects.Dialect.{Dialect}, declared.hosts.HostEntry.{HostEntry}};
 ghost use Rattle.std.specs.Prelude.{List};
 
 /// In every run of a world that is sane (no script runs on after a failure), as a fresh one is and events keep it: in

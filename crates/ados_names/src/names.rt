@@ -1,6 +1,5 @@
 // Which texts are names of objects.
-ghost use Rattle.std.specs.Prelude.{◌≡◌};
-ghost use Rattle.std.specs.List.{list_all};
+ghost use Rattle.std.specs.{Prelude.{◌≡◌}, List.{list_all}};
 ghost use Rattle.ados_names.specs.Names.{is_name, is_name_byte};
 
 use ados_text::Text;

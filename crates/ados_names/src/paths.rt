@@ -1,15 +1,11 @@
 // Paths, and which texts name them.
-ghost use Rattle.std.specs.Prelude.{◌≡◌, ◌≤◌, ◌+◌, ◌&&◌, true, nat_le, Ok, Err, IsOk, IfOk, length};
-ghost use Rattle.std.specs.Option.{option_copied};
-ghost use Rattle.ados_names.specs.Names.{is_name};
-ghost use Rattle.ados_names.specs.Path.{parts_of, are_parts, path_limit, path_of, device_text, text_of, path_with_name, joined_path};
-ghost use Rattle.ados_text.specs.Stop.{Gives};
-ghost use Rattle.ados_text.specs.declared.stops.Stop.TheVariants.{NoMemory as OutOfMemory};
-ghost use Rattle.ados_names.specs.Lengths.{pieces_len};
+ghost use Rattle.std.specs.{Prelude.{◌≡◌, ◌≤◌, ◌+◌, ◌&&◌, true, nat_le, Ok, Err, IsOk, IfOk, length}, Option.{option_copied}};
+ghost use Rattle.ados_names.specs.{Names.{is_name}, Path.{parts_of, are_parts, path_limit, path_of, device_text, text_of, path_with_name, joined_path}, Lengths.{pieces_len}};
+ghost use Rattle.ados_text.specs.{Stop.{Gives}, declared.stops.Stop.TheVariants.{NoMemory as OutOfMemory}};
 
 use crate::names::is_name;
 use crate::pieces::{are_pieces, colon, is_path_piece, steps};
-use crate::steps::Step;
+use crate::steps::{SHORT, Step};
 use ados_text::{NoMemory, Result2, Stop, Text};
 use smallvec::SmallVec;
 use std::alloc::Global;
@@ -22,7 +18,7 @@ pub const PATH_LIMIT: usize = 255;
 #[derive(Clone, Drop)]
 pub struct Path {
     device: Option<Text>,
-    steps: SmallVec<Step, 8>,
+    steps: SmallVec<Step, SHORT>,
 }
 
 impl Model for Path {

@@ -1,11 +1,9 @@
 // The pieces of a path's text, between its colon and its slashes.
-ghost use Rattle.std.specs.Prelude.{◌≡◌, ◌≤◌, ◌<◌, ◌-◌, IfOk, IfSome, length, take, drop, position};
-ghost use Rattle.std.specs.List.{list_all, slice_split, suffix_len};
-ghost use Rattle.ados_names.specs.Names.{is_colon, is_slash};
-ghost use Rattle.ados_names.specs.Path.{path_step, steps_of, is_path_piece, is_piece_byte, last_piece_of};
+ghost use Rattle.std.specs.{Prelude.{◌≡◌, ◌≤◌, ◌<◌, ◌-◌, IfOk, IfSome, length, take, drop, position}, List.{list_all, slice_split, suffix_len}};
+ghost use Rattle.ados_names.specs.{Names.{is_colon, is_slash}, Path.{path_step, steps_of, is_path_piece, is_piece_byte, last_piece_of}};
 
 use crate::names::are_a_name;
-use crate::steps::Step;
+use crate::steps::{SHORT, Step};
 use ados_text::{NoMemory, Text};
 use smallvec::SmallVec;
 use std::alloc::Global;
@@ -54,7 +52,7 @@ fn step(text: &Text, from: usize, to: usize) -> Result<Step, NoMemory>
 }
 
 /// The steps of a text from a place on.
-pub fn steps(alloc: Global, text: &Text, start: usize) -> Result<SmallVec<Step, 8>, NoMemory>
+pub fn steps(alloc: Global, text: &Text, start: usize) -> Result<SmallVec<Step, SHORT>, NoMemory>
     requires { start ≤ length text.now }
     ensures { IfOk result (λ steps. steps.items ≡ steps_of (slice_split is_slash (drop start text.now))) }
 {

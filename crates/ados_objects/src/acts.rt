@@ -1,11 +1,8 @@
 // What is done with the objects that arguments name.
 ghost use Rattle.std.specs.Prelude.{◌≡◌, Option, Err, IfOk, OnOk};
-ghost use Rattle.ados_text.specs.declared.codes.Result2.{Result2};
+ghost use Rattle.ados_text.specs.{declared.codes.Result2.{Result2}, Stop.{Answers}};
 ghost use Rattle.ados_ram.specs.Files.{Files};
-ghost use Rattle.ados_text.specs.Stop.{Answers};
-ghost use Rattle.ados_find.specs.Done.{Done, done_of, fresh_work, refused_or, act_on_each, end_effect};
-ghost use Rattle.ados_find.specs.Shared.{SharedState};
-ghost use Rattle.ados_find.specs.Effects.{effect_of};
+ghost use Rattle.ados_find.specs.{Done.{Done, done_of, fresh_work, refused_or, act_on_each, end_effect}, Shared.{SharedState}, Effects.{effect_of}};
 ghost use Rattle.ados_objects.specs.Acts.{at_path, at_names, in_files, in_files_saying};
 
 use crate::lines::say_path;

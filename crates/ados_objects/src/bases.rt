@@ -1,6 +1,5 @@
 // The objects in the directories for which a path stands; whether there is a directory or a file.
-ghost use Rattle.std.specs.Prelude.{◌≡◌, ◌≤◌, ◌++◌, take, drop, length, IfOk, OnOk};
-ghost use Rattle.std.specs.Option.{option_copied};
+ghost use Rattle.std.specs.{Prelude.{◌≡◌, ◌≤◌, ◌++◌, take, drop, length, IfOk, OnOk}, Option.{option_copied}};
 ghost use Rattle.ados_ram.specs.Files.{is_some_directory, is_some_file};
 ghost use Rattle.ados_objects.specs.Bases.{all_children, entry_at, further_children, has_object, new_places};
 

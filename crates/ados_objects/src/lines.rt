@@ -1,10 +1,7 @@
 // Lines of a listing.
-ghost use Rattle.std.specs.Prelude.{◌≡◌, ℕ, List, Option, ◌++◌, ◌∷◌, [], OnOk};
-ghost use Rattle.std.specs.Option.{option_copied};
+ghost use Rattle.std.specs.{Prelude.{◌≡◌, ℕ, List, Option, ◌++◌, ◌∷◌, [], OnOk}, Option.{option_copied}};
 ghost use Rattle.ados_text.specs.Columns.{right_aligned_text};
-ghost use Rattle.ados_ram.specs.Entry.{bits_text};
-ghost use Rattle.ados_ram.specs.Written.{full_path};
-ghost use Rattle.ados_ram.specs.declared.entries.Entry.{Entry};
+ghost use Rattle.ados_ram.specs.{Entry.{bits_text}, Written.{full_path}, declared.entries.Entry.{Entry}};
 ghost use Rattle.ados_objects.specs.Lines.{say, keeps, entry_lines, size_text, comment_line, list_line};
 
 use ados_ram::{Bits, Body, Entry, Place, Ram};

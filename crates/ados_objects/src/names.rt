@@ -1,9 +1,7 @@
 // Arguments that name objects.
-ghost use Rattle.std.specs.Prelude.{◌≡◌, ◌∷◌, [], false, Err, IfOk};
-ghost use Rattle.std.specs.Option.{option_copied};
+ghost use Rattle.std.specs.{Prelude.{◌≡◌, ◌∷◌, [], false, Err, IfOk}, Option.{option_copied}};
 ghost use Rattle.ados_objects.specs.Bases.{entry_at};
-ghost use Rattle.ados_find.specs.Effects.{if_found};
-ghost use Rattle.ados_find.specs.Paths.{bases_of, place_of, Gives};
+ghost use Rattle.ados_find.specs.{Effects.{if_found}, Paths.{bases_of, place_of, Gives}};
 
 use crate::bases::{all_children, entry_at};
 use ados_find::{Codes, Lookup, Refusal, Shared, bases_of, place_of};

@@ -1,9 +1,7 @@
 //! The parts of a pattern from its text, from right to left.
 
 ghost use Rattle.std.specs.Prelude.{◌≡◌, IfOk, option_map};
-ghost use Rattle.ados_pattern.specs.Form.{form_of};
-ghost use Rattle.ados_pattern.specs.Build.{with_token, levels_of_tokens, with_group, item_many, item_other, levels_of, with_bar, form_of_tokens, whole_row, with_item, with_member};
-ghost use Rattle.ados_pattern.specs.Tokens.{tokens_from, tokens_of};
+ghost use Rattle.ados_pattern.specs.{Form.{form_of}, Build.{with_token, levels_of_tokens, with_group, item_many, item_other, levels_of, with_bar, form_of_tokens, whole_row, with_item, with_member}, Tokens.{tokens_from, tokens_of}};
 
 use crate::parts::Part;
 use crate::tokens::{Mode, Token};

@@ -1,10 +1,7 @@
 //! Which single bytes a part of a pattern matches; case is ignored.
 
 ghost use Rattle.std.specs.Prelude.{◌≡◌};
-ghost use Rattle.ados_pattern.specs.Form.{form_of};
-ghost use Rattle.ados_pattern.specs.Matches.{in_range};
-ghost use Rattle.ados_pattern.specs.Range.{is_between_of, upper_of};
-ghost use Rattle.ados_pattern.specs.CharTest.{has_test, test_in, test_of};
+ghost use Rattle.ados_pattern.specs.{Form.{form_of}, Matches.{in_range}, Range.{is_between_of, upper_of}, CharTest.{has_test, test_in, test_of}};
 
 use crate::parts::Part;
 use ados_text::fold;

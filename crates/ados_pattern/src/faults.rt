@@ -1,8 +1,7 @@
 //! The first fault of a pattern's text.
 
 ghost use Rattle.std.specs.Prelude.{◌≡◌, ◌+◌, ◌<◌, ◌≤◌, ◌^◌, length};
-ghost use Rattle.ados_pattern.specs.Fault.{closes, depth_after, ends_row, fault_from, has_nothing, is_bad_class, is_fault};
-ghost use Rattle.ados_pattern.specs.Tokens.{tokens_from};
+ghost use Rattle.ados_pattern.specs.{Fault.{closes, depth_after, ends_row, fault_from, has_nothing, is_bad_class, is_fault}, Tokens.{tokens_from}};
 
 use crate::tokens::{Mode, Token};
 

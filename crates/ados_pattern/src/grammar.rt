@@ -2,15 +2,7 @@
 
 ghost use Rattle.std.specs.Prelude.{◌≡◌, ◌<◌, ◌≤◌, ◌↔◌, ◌⊎◌, ℕ, None, Some, length, IsTrue};
 ghost use Rattle.ados_text.specs.Text.{Text};
-ghost use Rattle.ados_pattern.specs.declared.errors.PatternFault.TheVariants.{BadPattern, TooLong};
-ghost use Rattle.ados_pattern.specs.Fault.{fault_of};
-ghost use Rattle.ados_pattern.specs.FaultPlace.{FaultAt, IsFirstFault};
-ghost use Rattle.ados_pattern.specs.Form.{Form};
-ghost use Rattle.ados_pattern.specs.Grammar.{IsPattern};
-ghost use Rattle.ados_pattern.specs.Literal.{name_in};
-ghost use Rattle.ados_pattern.specs.Matches.{Matches};
-ghost use Rattle.ados_pattern.specs.Matching.{is_match};
-ghost use Rattle.ados_pattern.specs.Meaning.{meaning_of};
+ghost use Rattle.ados_pattern.specs.{declared.errors.PatternFault.TheVariants.{BadPattern, TooLong}, Fault.{fault_of}, FaultPlace.{FaultAt, IsFirstFault}, Form.{Form}, Grammar.{IsPattern}, Literal.{name_in}, Matches.{Matches}, Matching.{is_match}, Meaning.{meaning_of}};
 
 /// Each text is a pattern or has a first fault, and never both; and a pattern says one form.
 pub fn one_reading()

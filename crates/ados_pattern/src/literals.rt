@@ -1,8 +1,7 @@
 //! The names of literal patterns.
 
 ghost use Rattle.std.specs.Prelude.{◌≡◌, if◌then◌else◌, IfOk};
-ghost use Rattle.ados_pattern.specs.Literal.{chars_after, literal_name};
-ghost use Rattle.ados_pattern.specs.Tokens.{tokens_from};
+ghost use Rattle.ados_pattern.specs.{Literal.{chars_after, literal_name}, Tokens.{tokens_from}};
 
 use crate::tokens::{Mode, Token};
 use ados_text::{NoMemory, Text};

@@ -1,9 +1,7 @@
 //! Whether a text is what a pattern says.
 
 ghost use Rattle.std.specs.Prelude.{◌<◌, ◌^◌, ◌↔◌, length, IfOk, IsTrue};
-ghost use Rattle.ados_pattern.specs.Form.{form_of};
-ghost use Rattle.ados_pattern.specs.Matches.{Matches};
-ghost use Rattle.ados_pattern.specs.Table.{IsTable, cells_of};
+ghost use Rattle.ados_pattern.specs.{Form.{form_of}, Matches.{Matches}, Table.{IsTable, cells_of}};
 
 use crate::bytes::CharTest;
 use crate::parts::Part;
@@ -16,8 +14,7 @@ use std::alloc::Global;
 
 impl Pattern {
     ghost use Rattle.std.specs.Prelude.{◌≡◌, ◌↔◌, IsTrue, IfOk};
-    ghost use Rattle.ados_pattern.specs.Matches.{Matches};
-    ghost use Rattle.ados_pattern.specs.Matching.{is_match};
+    ghost use Rattle.ados_pattern.specs.{Matches.{Matches}, Matching.{is_match}};
 
     /// Whether the text is what the pattern says; case is ignored.
     ///

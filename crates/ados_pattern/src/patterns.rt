@@ -25,8 +25,7 @@ pub struct Pattern {
 }
 
 impl Model for Pattern {
-    ghost use Rattle.ados_pattern.specs.Form.{form_of};
-    ghost use Rattle.ados_pattern.specs.Meaning.{Meaning, meaning_code};
+    ghost use Rattle.ados_pattern.specs.{Form.{form_of}, Meaning.{Meaning, meaning_code}};
 
     ghost Value = { Meaning };
 
@@ -37,12 +36,7 @@ impl Model for Pattern {
 
 impl Pattern {
     ghost use Rattle.std.specs.Prelude.{◌≡◌, ◌<◌, ◌≤◌, ◌↔◌, ℕ, length, IfOk, IsOkUnless, MatchOption, is_some, option_copied};
-    ghost use Rattle.ados_pattern.specs.Fault.{fault_of};
-    ghost use Rattle.ados_pattern.specs.FaultPlace.{IsFirstFault};
-    ghost use Rattle.ados_pattern.specs.Form.{Form, form_of};
-    ghost use Rattle.ados_pattern.specs.Grammar.{IsPattern};
-    ghost use Rattle.ados_pattern.specs.Literal.{name_in};
-    ghost use Rattle.ados_pattern.specs.Meaning.{anywhere, meaning_of};
+    ghost use Rattle.ados_pattern.specs.{Fault.{fault_of}, FaultPlace.{IsFirstFault}, Form.{Form, form_of}, Grammar.{IsPattern}, Literal.{name_in}, Meaning.{anywhere, meaning_of}};
 
     /// The pattern that a text is.
     ///

@@ -4,11 +4,7 @@
 //! walked without a table; `#`, `~` and `[~ ..]` need the table of their part.
 
 ghost use Rattle.std.specs.Prelude.{◌≡◌, ◌&&◌, ◌+◌, ◌<◌, ◌≤◌, ℕ, length, nat_lt, IfOk};
-ghost use Rattle.ados_pattern.specs.CharTest.{has_test, test_of};
-ghost use Rattle.ados_pattern.specs.Form.{form_of};
-ghost use Rattle.ados_pattern.specs.Matches.{Matches};
-ghost use Rattle.ados_pattern.specs.Reach.{AreWithin, Reaches};
-ghost use Rattle.ados_pattern.specs.Table.{byte_at, is_set};
+ghost use Rattle.ados_pattern.specs.{CharTest.{has_test, test_of}, Form.{form_of}, Matches.{Matches}, Reach.{AreWithin, Reaches}, Table.{byte_at, is_set}};
 
 use crate::bytes::CharTest;
 use crate::matching::table;

@@ -1,9 +1,7 @@
 //! Which pieces of a text a part of a pattern matches.
 
-ghost use Rattle.std.specs.Prelude.{◌≡◌, ◌+◌, ◌*◌, ◌<◌, ◌^◌, ◌≤◌, ◌-◌, ◌&&◌, ℕ, length, IfOk};
-ghost use Rattle.std.specs.List.{list_any, range_with_len};
-ghost use Rattle.ados_pattern.specs.CharTest.{has_test, test_of};
-ghost use Rattle.ados_pattern.specs.Table.{IsBuilt, IsRuleTable, byte_at, cell_of, cells_in, cells_of, column_of, is_set, leads, row_cell, table_word};
+ghost use Rattle.std.specs.{Prelude.{◌≡◌, ◌+◌, ◌*◌, ◌<◌, ◌^◌, ◌≤◌, ◌-◌, ◌&&◌, ℕ, length, IfOk}, List.{list_any, range_with_len}};
+ghost use Rattle.ados_pattern.specs.{CharTest.{has_test, test_of}, Table.{IsBuilt, IsRuleTable, byte_at, cell_of, cells_in, cells_of, column_of, is_set, leads, row_cell, table_word}};
 
 use crate::bytes::CharTest;
 use crate::words::{before, below, has_bit, led_to, single, up_to, word_at};

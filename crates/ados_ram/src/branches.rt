@@ -1,13 +1,8 @@
 // The tree: an object with all that is in it, shared between versions.
-ghost use Rattle.std.specs.Prelude.{◌≡◌, ◌++◌, IfOk, OnOk, Some, [], false};
-ghost use Rattle.std.specs.Option.{option_copied};
+ghost use Rattle.std.specs.{Prelude.{◌≡◌, ◌++◌, IfOk, OnOk, Some, [], false}, Option.{option_copied}};
 ghost use Rattle.std.specs.FinMap as map;
 ghost use Rattle.ados_text.specs.Text.{folded_text};
-ghost use Rattle.ados_ram.specs.Place.{key_of, place_cmp, is_root};
-ghost use Rattle.ados_ram.specs.Tree.{AreKids, IsReplaced, MayStand, branch_rows, subtree_rows, rows_of, rows_by_root, rows_way, rows_written, places_of_ways, with_flat, IsEntryAt};
-ghost use Rattle.ados_ram.specs.Contents.{contents};
-ghost use Rattle.ados_ram.specs.Rows.{inner_rows};
-ghost use Rattle.ados_ram.specs.FileOperations.{has_descendants};
+ghost use Rattle.ados_ram.specs.{Place.{key_of, place_cmp, is_root}, Tree.{AreKids, IsReplaced, MayStand, branch_rows, subtree_rows, rows_of, rows_by_root, rows_way, rows_written, places_of_ways, with_flat, IsEntryAt}, Contents.{contents}, Rows.{inner_rows}, FileOperations.{has_descendants}};
 
 use crate::children::Children;
 use crate::entries::Entry;

@@ -1,11 +1,8 @@
 // The objects of a directory, in the order of their names. They are kept in blocks, which versions share.
-ghost use Rattle.std.specs.Prelude.{◌≡◌, ◌+◌, ◌≤◌, ◌++◌, ◌==◌, [], length, IfOk, IfSome, OnOk, IsTrue};
-ghost use Rattle.std.specs.Option.{option_copied};
+ghost use Rattle.std.specs.{Prelude.{◌≡◌, ◌+◌, ◌≤◌, ◌++◌, ◌==◌, [], length, IfOk, IfSome, OnOk, IsTrue}, Option.{option_copied}};
 ghost use Rattle.std.specs.FinMap as map;
-ghost use Rattle.ados_text.specs.Text.{folded_text};
-ghost use Rattle.ados_text.specs.Name.{name_cmp};
-ghost use Rattle.ados_ram.specs.Tree.{replace_kid, branch_rows, rows_found};
-ghost use Rattle.ados_ram.specs.Blocks.{all_kids, AllFull, AreBlocks, IsBlockOf};
+ghost use Rattle.ados_text.specs.{Text.{folded_text}, Name.{name_cmp}};
+ghost use Rattle.ados_ram.specs.{Tree.{replace_kid, branch_rows, rows_found}, Blocks.{all_kids, AllFull, AreBlocks, IsBlockOf}};
 
 use crate::branches::Branch;
 use crate::kids::{begins_by, changed, kid_at, share_kids};
@@ -33,10 +30,8 @@ pub struct Block {
 }
 
 impl Model for Children {
-    ghost use Rattle.std.specs.Prelude.{◌+◌, ◌*◌, length};
-    ghost use Rattle.std.specs.Coded.{coded_list};
-    ghost use Rattle.ados_ram.specs.Tree.{Kids, coded_kid, flatten};
-    ghost use Rattle.ados_ram.specs.Blocks.{all_kids, AreBlocks};
+    ghost use Rattle.std.specs.{Prelude.{◌+◌, ◌*◌, length}, Coded.{coded_list}};
+    ghost use Rattle.ados_ram.specs.{Tree.{Kids, coded_kid, flatten}, Blocks.{all_kids, AreBlocks}};
 
     ghost Value = { Kids };
 
@@ -54,8 +49,7 @@ impl Model for Children {
 }
 
 impl Model for Block {
-    ghost use Rattle.std.specs.Prelude.{◌+◌, ◌*◌, length};
-    ghost use Rattle.std.specs.Coded.{coded_list};
+    ghost use Rattle.std.specs.{Prelude.{◌+◌, ◌*◌, length}, Coded.{coded_list}};
     ghost use Rattle.ados_ram.specs.Tree.{Kids, coded_kid, flatten};
 
     ghost Value = { Kids };
@@ -186,12 +180,15 @@ impl Children {
     }
 }
 
-// Which block holds a name, or is to hold it.
+// Which block holds a name, or is to hold it. Most directories have one block, and no name has to be compared to choose it.
 fn block_of(blocks: &[Block], name: &Name) -> usize
     requires { AreBlocks blocks.now }
     ensures within { result ≤ length blocks.now }
     ensures parted { IsBlockOf (folded_text name.now) blocks.now result }
 {
+    if blocks.len() < 2 {
+        return 0;
+    }
     blocks
         .partition_point(|block| begins_by(block.kids(), name))
         .saturating_sub(1)

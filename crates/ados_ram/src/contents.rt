@@ -1,8 +1,6 @@
 // What a directory's list holds, by the rows.
 ghost use Rattle.std.specs.Prelude.{◌≡◌, IfOk};
-ghost use Rattle.ados_ram.specs.Place.{key_of};
-ghost use Rattle.ados_ram.specs.FileOperations.{child_names};
-ghost use Rattle.ados_ram.specs.Contents.{children, is_within, directory_files};
+ghost use Rattle.ados_ram.specs.{Place.{key_of}, FileOperations.{child_names}, Contents.{children, is_within, directory_files}};
 
 use crate::places::Place;
 use crate::rows::Row;

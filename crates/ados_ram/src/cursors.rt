@@ -1,10 +1,8 @@
 // Cursors: places in the files from which a lookup can continue.
-ghost use Rattle.std.specs.Prelude.{◌≡◌, ◌∷◌, []};
-ghost use Rattle.std.specs.Option.{option_copied};
+ghost use Rattle.std.specs.{Prelude.{◌≡◌, ◌∷◌, []}, Option.{option_copied}};
 ghost use Rattle.std.specs.FinMap as map;
 ghost use Rattle.ados_text.specs.Text.{folded_text};
-ghost use Rattle.ados_ram.specs.Place.{place_cmp};
-ghost use Rattle.ados_ram.specs.Tree.{branch_rows, subtree_rows};
+ghost use Rattle.ados_ram.specs.{Place.{place_cmp}, Tree.{branch_rows, subtree_rows}};
 
 use crate::branches::Branch;
 use crate::entries::Entry;
@@ -21,8 +19,7 @@ pub struct Cursor<'a> {
 
 impl<'a> Model for Cursor<'a> {
     ghost use Rattle.std.specs.Option.{option_copied};
-    ghost use Rattle.ados_ram.specs.Files.{Rows};
-    ghost use Rattle.ados_ram.specs.Tree.{branch_rows};
+    ghost use Rattle.ados_ram.specs.{Files.{Rows}, Tree.{branch_rows}};
 
     ghost Value = { Rows };
 

@@ -1,9 +1,9 @@
 // What the files have of an object: its name, its contents, its bits, its comment.
-ghost use Rattle.std.specs.Prelude.{◌≡◌, [], IfOk};
-ghost use Rattle.std.specs.Option.{option_copied};
+ghost use Rattle.std.specs.{Prelude.{◌≡◌, [], IfOk}, Option.{option_copied}};
 ghost use Rattle.ados_ram.specs.Entry.{letter};
 
 use crate::file_bytes::FileBytes;
+use crate::places::Place;
 use ados_text::{Name, NoMemory, Text};
 use std::alloc::Global;
 
@@ -97,7 +97,7 @@ pub struct Entry {
 }
 
 impl Entry {
-    ghost use Rattle.ados_ram.specs.Entry.{is_directory, bytes_of, bytes_or_none, size_of, new_directory, file_entry_with_bits, with_bits, with_comment, renamed_entry};
+    ghost use Rattle.ados_ram.specs.{Place.{last_name}, Entry.{is_directory, bytes_of, bytes_or_none, size_of, new_directory, file_entry_with_bits, with_bits, with_comment, renamed_entry}};
 
     /// Whether it is a directory.
     pub fn is_directory(&self) -> bool
@@ -141,20 +141,20 @@ impl Entry {
         })
     }
 
-    /// A new file with this name and these bits, or an old one after it was written: an old one keeps its name, comment
+    /// A new file at this place with these bits, or an old one after it was written: an old one keeps its name, comment
     /// and bits, except for bit a.
     pub(crate) fn written(
         alloc: Global,
         old: Option<&Entry>,
-        name: Name,
+        place: &Place,
         bytes: FileBytes,
         bits: Bits,
     ) -> Result<Entry, NoMemory>
-        ensures { IfOk result (λ entry. entry ≡ file_entry_with_bits bits (option_copied old.entry) name bytes) }
+        ensures { IfOk result (λ entry. entry ≡ file_entry_with_bits bits (option_copied old.entry) (last_name place.now) bytes) }
     {
         match old {
             None => Ok(Entry {
-                name,
+                name: place.last_name()?,
                 body: Body::File(bytes),
                 bits,
                 comment: Text::from_bytes(alloc, &[])?,

@@ -1,6 +1,5 @@
 //! The bytes of a file that is being made.
-ghost use Rattle.std.specs.Prelude.{◌≡◌, ◌<◌, ◌≤◌, ◌++◌, [], length, IfOk, OnOk};
-ghost use Rattle.std.specs.List.{concat};
+ghost use Rattle.std.specs.{Prelude.{◌≡◌, ◌<◌, ◌≤◌, ◌++◌, [], length, IfOk, OnOk}, List.{concat}};
 ghost use Rattle.ados_ram.specs.Cut.{AllOf, IsCut, IsDraft, piece_bytes, block_bytes};
 
 use crate::file_units::{BLOCK_PIECES, Block, PIECE_BYTES, Piece, share_blocks, share_pieces};

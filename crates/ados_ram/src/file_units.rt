@@ -1,12 +1,7 @@
 //! The units of a file: pieces, and blocks of pieces. Both are shared.
-ghost use Rattle.std.specs.Prelude.{◌≡◌, ◌++◌, IfOk, OnOk};
-ghost use Rattle.std.specs.List.{concat};
-ghost use Rattle.std.specs.Str.{bytes_eq};
-ghost use Rattle.std.specs.Cmp.{partial_equiv_from_equiv};
+ghost use Rattle.std.specs.{Prelude.{◌≡◌, ◌++◌, IfOk, OnOk}, List.{concat}, Str.{bytes_eq}, Cmp.{partial_equiv_from_equiv}, Option.{option_copied}};
 ghost use Rattle.std.proofs.lemmas.Cmp.{nat_list_eq_equiv};
-ghost use Rattle.ados_ram.specs.Cut.{IsCut, piece_bytes, block_bytes};
-ghost use Rattle.ados_ram.specs.Starts.{left_of};
-ghost use Rattle.std.specs.Option.{option_copied};
+ghost use Rattle.ados_ram.specs.{Cut.{IsCut, piece_bytes, block_bytes}, Starts.{left_of}};
 
 use ados_text::NoMemory;
 use std::alloc::Global;
@@ -40,8 +35,7 @@ impl Model for Piece {
 }
 
 impl Model for Block {
-    ghost use Rattle.std.specs.Prelude.{List, ℕ};
-    ghost use Rattle.std.specs.List.{concat};
+    ghost use Rattle.std.specs.{Prelude.{List, ℕ}, List.{concat}};
 
     ghost Value = { List ℕ };
 

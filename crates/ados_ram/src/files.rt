@@ -1,17 +1,8 @@
 // The files of the RAM disk, each version of them: look-ups and changes.
-ghost use Rattle.std.specs.Prelude.{◌≡◌, IfOk};
-ghost use Rattle.std.specs.Option.{option_copied};
-ghost use Rattle.std.specs.Result.{result_err};
+ghost use Rattle.std.specs.{Prelude.{◌≡◌, IfOk}, Option.{option_copied}, Result.{result_err}};
 ghost use Rattle.std.specs.FinMap as map;
-ghost use Rattle.ados_ram.specs.Place.{key_of, last_name};
-ghost use Rattle.ados_ram.specs.Files.{AreFiles, entry_bytes, first_files};
-ghost use Rattle.ados_ram.specs.InUse.{is_output};
-ghost use Rattle.ados_ram.specs.FileOperations.{read_fault, list_fault, child_names};
+ghost use Rattle.ados_ram.specs.{Place.{key_of, last_name}, Files.{AreFiles, entry_bytes, first_files}, InUse.{is_output}, FileOperations.{read_fault, list_fault, child_names, make_dir_of, make_dir_fault, delete_fault, rename_of, rename_fault, protect_of, protect_fault, comment_of, comment_fault}, Contents.{children, contents, directory_files}, Tree.{subtree_rows}, Written.{written_place, full_path}};
 ghost use Rattle.ados_text.specs.Stop.{Answers};
-ghost use Rattle.ados_ram.specs.FileOperations.{make_dir_of, make_dir_fault, delete_fault, rename_of, rename_fault, protect_of, protect_fault, comment_of, comment_fault};
-ghost use Rattle.ados_ram.specs.Contents.{children, contents, directory_files};
-ghost use Rattle.ados_ram.specs.Tree.{subtree_rows};
-ghost use Rattle.ados_ram.specs.Written.{written_place, full_path};
 
 use crate::contents::{child_names, children, directory_files};
 use crate::cursors::Cursor;

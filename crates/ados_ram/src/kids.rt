@@ -1,21 +1,22 @@
 // Some objects of a directory, in the order of their names.
-ghost use Rattle.std.specs.Prelude.{◌≡◌, ◌++◌, IfOk, IfSome, IsTrue, OnOk};
-ghost use Rattle.std.specs.Option.{option_copied};
+ghost use Rattle.std.specs.{Prelude.{◌≡◌, ◌++◌, IfOk, IfSome, IsTrue, OnOk}, Option.{option_copied}};
 ghost use Rattle.std.specs.FinMap as map;
-ghost use Rattle.ados_text.specs.Text.{folded_text};
-ghost use Rattle.ados_text.specs.Name.{name_cmp};
-ghost use Rattle.ados_ram.specs.Tree.{IsKidPosition, replace_kid, branch_rows, rows_found};
-ghost use Rattle.ados_ram.specs.Blocks.{first_is_at_most};
+ghost use Rattle.ados_text.specs.{Text.{folded_text}, Name.{name_cmp}};
+ghost use Rattle.ados_ram.specs.{Tree.{IsKidPosition, replace_kid, branch_rows, rows_found}, Blocks.{first_is_at_most}};
 
 use crate::branches::Branch;
 use ados_text::{Name, NoMemory};
 use std::alloc::Global;
 use std::cmp::Ordering;
 
-// How the name of a branch compares to another.
+// How the name of a branch compares to another. Most names that are looked for are written as the object has them, and are
+// compared at once.
 fn order(kid: &Branch, name: &Name) -> Ordering
     ensures { result ≡ name_cmp kid.now.0 (folded_text name.now) }
 {
+    if kid.name().text() == name.text() {
+        return Ordering::Equal;
+    }
     kid.name().cmp(name)
 }
 

@@ -1,17 +1,8 @@
 // Laws of the files, over their definitions.
-ghost use Rattle.std.specs.Prelude.{◌≡◌, ◌&&◌, ◌||◌, ◌++◌, ◌∷◌, Bool, None};
-ghost use Rattle.std.specs.declared.cmp.Ordering.TheVariants.{Less};
+ghost use Rattle.std.specs.{Prelude.{◌≡◌, ◌&&◌, ◌||◌, ◌++◌, ◌∷◌, Bool, None}, declared.cmp.Ordering.TheVariants.{Less}};
 ghost use Rattle.std.specs.FinMap as map;
-ghost use Rattle.ados_text.specs.Text.{Bytes, Text};
-ghost use Rattle.ados_text.specs.Name.{Name, name_cmp};
-ghost use Rattle.ados_ram.specs.declared.entries.Bits.{Bits};
-ghost use Rattle.ados_ram.specs.declared.limits.Limits.{Limits};
-ghost use Rattle.ados_ram.specs.InUse.{InUse};
-ghost use Rattle.ados_ram.specs.Place.{Key, Place, key_of, last_name, place_cmp, is_same_key, is_child, is_below, is_at_or_below};
-ghost use Rattle.ados_ram.specs.Files.{AreNamed, Files, IsTree, IsWithin, first_files, is_some_file, OthersStay};
-ghost use Rattle.ados_ram.specs.FileOperations.{write_of, write_as_of, write_fault, append_of, append_fault, put_open_of, put_open_fault, make_dir_of, make_dir_fault, rename_fault, rename_of, protect_of, comment_of};
-ghost use Rattle.ados_ram.specs.Renames.{RenamesMove};
-ghost use Rattle.ados_ram.specs.Contents.{children, contents, is_within, directory_files, contents_cmp, ListsJust};
+ghost use Rattle.ados_text.specs.{Text.{Bytes, Text}, Name.{Name, name_cmp}};
+ghost use Rattle.ados_ram.specs.{declared.entries.Bits.{Bits}, declared.limits.Limits.{Limits}, InUse.{InUse}, Place.{Key, Place, key_of, last_name, place_cmp, is_same_key, is_child, is_below, is_at_or_below}, Files.{AreNamed, Files, IsTree, IsWithin, first_files, is_some_file, OthersStay}, FileOperations.{write_of, write_as_of, write_fault, append_of, append_fault, put_open_of, put_open_fault, make_dir_of, make_dir_fault, rename_fault, rename_of, protect_of, comment_of}, Renames.{RenamesMove}, Contents.{children, contents, is_within, directory_files, contents_cmp, ListsJust}};
 
 /// The lists of a directory hold just what they are to hold, each once: its contents are the places below it, each
 /// directory after all that is in it, and otherwise in the order of names; its children are the places directly in it,

@@ -14,8 +14,7 @@ pub struct NewBytes<'a> {
 }
 
 impl<'a> Model for NewBytes<'a> {
-    ghost use Rattle.std.specs.Prelude.{List, ℕ, ◌++◌};
-    ghost use Rattle.std.specs.Option.{option_copied};
+    ghost use Rattle.std.specs.{Prelude.{List, ℕ, ◌++◌}, Option.{option_copied}};
     ghost use Rattle.ados_ram.specs.Entry.{bytes_or_none};
 
     ghost Value = { List ℕ };
@@ -24,8 +23,7 @@ impl<'a> Model for NewBytes<'a> {
 }
 
 impl<'a> NewBytes<'a> {
-    ghost use Rattle.std.specs.Prelude.{◌++◌};
-    ghost use Rattle.std.specs.Option.{option_copied};
+    ghost use Rattle.std.specs.{Prelude.{◌++◌}, Option.{option_copied}};
     ghost use Rattle.ados_ram.specs.Entry.{bytes_or_none};
 
     /// Bytes that are kept, or none, followed by more.

@@ -1,7 +1,5 @@
 // Places: full paths as lists of names.
-ghost use Rattle.std.specs.Prelude.{◌≡◌, IfOk, OnErr, OnOk, [], ◌++◌, ◌∷◌, length, drop};
-ghost use Rattle.std.specs.Option.{option_copied, option_map};
-ghost use Rattle.std.specs.Cmp.{partial_equiv_from_equiv};
+ghost use Rattle.std.specs.{Prelude.{◌≡◌, IfOk, OnErr, OnOk, [], ◌++◌, ◌∷◌, length, drop}, Option.{option_copied, option_map}, Cmp.{partial_equiv_from_equiv}};
 ghost use Rattle.std.proofs.lemmas.Cmp.{on_equiv, eq_by_cmp_equiv};
 ghost use Rattle.ados_text.specs.Text.{folded_text};
 ghost use Rattle.ados_ram.specs.Place.{key_of, place_cmp_total, is_same_key, is_same_place, last_name, parent_of, key_suffix, is_below, moved_place, any_same, any_at_or_below};
@@ -75,7 +73,9 @@ impl Place {
     pub fn joined(&self, names: &[Name]) -> Result<Place, NoMemory>
         ensures { IfOk result (λ place. place ≡ self.now ++ names.now) }
     {
-        let mut joined = self.names.clone()?;
+        let count = self.names.len() + names.len();
+        let mut joined: Vec<Name> = Vec::with_capacity(*self.names.allocator(), count)?;
+        joined.extend_from_slice(&self.names)?;
         joined.extend_from_slice(names)?;
         Ok(Place { names: joined })
     }
@@ -111,11 +111,14 @@ impl Place {
         Ok(Place { names })
     }
 
-    /// An equal place with the same spelling.
+    /// An equal place with the same spelling. It has room for one more name, by which most copies lead on.
     pub fn copy(&self) -> Result<Place, NoMemory>
         ensures { IfOk result (λ place. place ≡ self.now) }
     {
-        Ok(self.clone()?)
+        let count = self.names.len() + 1;
+        let mut names: Vec<Name> = Vec::with_capacity(*self.names.allocator(), count)?;
+        names.extend_from_slice(&self.names)?;
+        Ok(Place { names })
     }
 }
 

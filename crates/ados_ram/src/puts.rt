@@ -1,11 +1,7 @@
 //! Writing a file: the files with its bytes, kept and new.
-ghost use Rattle.std.specs.Prelude.{◌≡◌, false, IfOk};
-ghost use Rattle.std.specs.Option.{option_copied};
+ghost use Rattle.std.specs.{Prelude.{◌≡◌, false, IfOk}, Option.{option_copied}};
 ghost use Rattle.std.specs.FinMap as map;
-ghost use Rattle.ados_ram.specs.Place.{key_of, is_root, last_name};
-ghost use Rattle.ados_ram.specs.Files.{AreFiles};
-ghost use Rattle.ados_ram.specs.InUse.{is_output};
-ghost use Rattle.ados_ram.specs.FileOperations.{write_of, write_fault, write_as_of, append_of, append_fault, put_open_of, put_open_fault};
+ghost use Rattle.ados_ram.specs.{Place.{key_of, is_root, last_name}, Files.{AreFiles}, InUse.{is_output}, FileOperations.{write_of, write_fault, write_as_of, append_of, append_fault, put_open_of, put_open_fault}};
 ghost use Rattle.ados_text.specs.Stop.{Answers};
 
 use crate::entries::{Bits, Entry};
@@ -180,7 +176,7 @@ impl Ram {
         ensures { IfOk result (λ new. new ≡ write_as_of self.now (key_of place.now) (last_name place.now) bytes.now bits) }
     {
         let bytes = bytes.joined(self.alloc)?;
-        let entry = Entry::written(self.alloc, old, place.last_name()?, bytes, bits)?;
+        let entry = Entry::written(self.alloc, old, place, bytes, bits)?;
         self.with(place, entry)
     }
 

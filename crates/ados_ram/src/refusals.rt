@@ -1,13 +1,7 @@
 // Why the files refuse a call: for each call, the first of its refusals that applies.
-ghost use Rattle.std.specs.Prelude.{◌≡◌, ◌+◌, ℕ, List, length, Some, IfOk};
-ghost use Rattle.std.specs.Option.{option_copied};
-ghost use Rattle.std.specs.Result.{result_err};
+ghost use Rattle.std.specs.{Prelude.{◌≡◌, ◌+◌, ℕ, List, Some, IfOk}, Option.{option_copied}, Result.{result_err}};
 ghost use Rattle.std.specs.FinMap as map;
-ghost use Rattle.ados_ram.specs.declared.entries.Entry.{Entry};
-ghost use Rattle.ados_ram.specs.Place.{key_of};
-ghost use Rattle.ados_ram.specs.Entry.{size_of};
-ghost use Rattle.ados_ram.specs.Files.{entry_bytes};
-ghost use Rattle.ados_ram.specs.FileOperations.{read_fault, list_fault, write_target_fault, write_fault, full_fault, is_put, is_unarchived_file, put_open_fault, free_fault, make_dir_fault, delete_fault, rename_target_fault, rename_fault, change_fault};
+ghost use Rattle.ados_ram.specs.{declared.entries.Entry.{Entry}, Place.{key_of}, Entry.{size_of}, Files.{entry_bytes}, FileOperations.{read_fault, list_fault, write_target_fault, write_fault, full_fault, is_put, is_unarchived_file, put_open_fault, free_fault, make_dir_fault, delete_fault, rename_target_fault, rename_fault, change_fault}};
 
 use crate::entries::{Body, Entry};
 use crate::file_bytes::FileBytes;

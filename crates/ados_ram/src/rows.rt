@@ -15,11 +15,8 @@ pub struct Row {
 }
 
 impl Model for Row {
-    ghost use Rattle.std.specs.Prelude.{List, ℕ};
-    ghost use Rattle.std.specs.Coded.{coded×, coded_list, coded_ℕ};
-    ghost use Rattle.ados_ram.specs.Place.{key_of};
-    ghost use Rattle.ados_ram.specs.Entry.{coded_entry};
-    ghost use Rattle.ados_ram.specs.declared.entries.Entry.{Entry};
+    ghost use Rattle.std.specs.{Prelude.{List, ℕ}, Coded.{coded×, coded_list, coded_ℕ}};
+    ghost use Rattle.ados_ram.specs.{Place.{key_of}, Entry.{coded_entry}, declared.entries.Entry.{Entry}};
 
     ghost Value = { List (List ℕ) × Entry };
 

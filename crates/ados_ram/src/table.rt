@@ -1,18 +1,7 @@
 // The table of all objects, in a tree: the files as a map.
-ghost use Rattle.std.specs.Prelude.{◌≡◌, ◌+◌, ◌≤◌, [], false, length, IfOk, IsSome};
-ghost use Rattle.std.specs.Option.{option_copied};
+ghost use Rattle.std.specs.{Prelude.{◌≡◌, ◌+◌, ◌≤◌, [], false, length, IfOk, IsSome}, Option.{option_copied}};
 ghost use Rattle.std.specs.FinMap as map;
-ghost use Rattle.ados_ram.specs.declared.entries.Entry.{Entry};
-ghost use Rattle.ados_ram.specs.Place.{key_of, is_root, last_name};
-ghost use Rattle.ados_ram.specs.Entry.{size_of, bytes_or_none};
-ghost use Rattle.ados_ram.specs.Files.{AreFiles, entry_bytes, total_of, first_files};
-ghost use Rattle.ados_ram.specs.Limits.{bytes_limit};
-ghost use Rattle.ados_ram.specs.declared.limits.Limits.TheVariants.{Large};
-ghost use Rattle.ados_ram.specs.FileOperations.{has_descendants, rename_of, way_fault};
-ghost use Rattle.ados_ram.specs.Contents.{contents};
-ghost use Rattle.ados_ram.specs.Rows.{inner_rows};
-ghost use Rattle.ados_ram.specs.Written.{written_place};
-ghost use Rattle.ados_ram.specs.Tree.{parent_key, first_kid, first_kids, branch_rows, subtree_rows, IsEntryAt, IsRenamed, MayMove};
+ghost use Rattle.ados_ram.specs.{declared.entries.Entry.{Entry}, Place.{key_of, is_root, last_name}, Entry.{size_of, bytes_or_none}, Files.{AreFiles, entry_bytes, total_of, first_files}, Limits.{bytes_limit}, declared.limits.Limits.TheVariants.{Large}, FileOperations.{has_descendants, rename_of, way_fault}, Contents.{contents}, Rows.{inner_rows}, Written.{written_place}, Tree.{parent_key, first_kid, first_kids, branch_rows, subtree_rows, IsEntryAt, IsRenamed, MayMove}};
 
 use crate::branches::Branch;
 use crate::children::Children;
@@ -38,8 +27,7 @@ pub struct Table {
 
 impl Model for Table {
     ghost use Rattle.std.specs.FinMap as map;
-    ghost use Rattle.ados_ram.specs.Files.{Files, coded_files};
-    ghost use Rattle.ados_ram.specs.Rows.{AreRows};
+    ghost use Rattle.ados_ram.specs.{Files.{Files, coded_files}, Rows.{AreRows}};
 
     ghost Value = { Files };
 

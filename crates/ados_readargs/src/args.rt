@@ -1,12 +1,7 @@
 // What the options of a template were given.
-ghost use Rattle.std.specs.Prelude.{◌≡◌, [], Ok, false, length, get_or, slice_get, IfOk, IfErr, IfSome, OnOk};
-ghost use Rattle.std.specs.Option.{option_map};
+ghost use Rattle.std.specs.{Prelude.{◌≡◌, [], Ok, false, length, get_or, slice_get, IfOk, IfErr, IfSome, OnOk}, Option.{option_map}};
 ghost use Rattle.ados_text.specs.Text.{IsText};
-ghost use Rattle.ados_readargs.specs.Args.{has_switch, option_text, option_texts, option_number};
-ghost use Rattle.ados_readargs.specs.Checks.{has_bad};
-ghost use Rattle.ados_readargs.specs.Faults.{IsFaultOf};
-ghost use Rattle.ados_readargs.specs.Fill.{parsed_args, LosesNoWord};
-ghost use Rattle.ados_readargs.specs.Phrases.{IsFilled};
+ghost use Rattle.ados_readargs.specs.{Args.{has_switch, option_text, option_texts, option_number}, Checks.{has_bad}, Faults.{IsFaultOf}, Fill.{parsed_args, LosesNoWord}, Phrases.{IsFilled}};
 
 use crate::errors::ArgFault;
 use crate::fill::args_read;

@@ -1,8 +1,6 @@
 // What is asked of an option once the words are read: `/A` and `/N`.
-ghost use Rattle.std.specs.Prelude.{◌≡◌, length, slice_get};
-ghost use Rattle.std.specs.List.{list_any};
-ghost use Rattle.ados_readargs.specs.Args.{or_absent, option_texts};
-ghost use Rattle.ados_readargs.specs.Checks.{is_lacking, lacks, is_bad_text, is_bad, has_bad};
+ghost use Rattle.std.specs.{Prelude.{◌≡◌, length, slice_get}, List.{list_any}};
+ghost use Rattle.ados_readargs.specs.{Args.{or_absent, option_texts}, Checks.{is_lacking, lacks, is_bad_text, is_bad, has_bad}};
 
 use crate::option_list::OptionList;
 use crate::options::TemplateOption;

@@ -1,7 +1,6 @@
 // Why a text is not a template, or a line does not fill one.
 ghost use Rattle.std.specs.Prelude.{◌≡◌};
-ghost use Rattle.ados_readargs.specs.Faults.{result2_of};
-ghost use Rattle.ados_readargs.specs.declared.errors.ArgFault.TheVariants.{NoMemory as OutOfMemory};
+ghost use Rattle.ados_readargs.specs.{Faults.{result2_of}, declared.errors.ArgFault.TheVariants.{NoMemory as OutOfMemory}};
 
 use ados_text::{NoMemory, Result2};
 use std::alloc::AllocFailed;

@@ -1,9 +1,6 @@
 // The arguments of a line, or its first fault.
 ghost use Rattle.std.specs.Prelude.{◌≡◌, Ok, false, IfErr, OnOk};
-ghost use Rattle.ados_readargs.specs.Checks.{has_bad};
-ghost use Rattle.ados_readargs.specs.Faults.{IsFaultOf};
-ghost use Rattle.ados_readargs.specs.Fill.{args_of_readings};
-ghost use Rattle.ados_readargs.specs.Shares.{TakesAll};
+ghost use Rattle.ados_readargs.specs.{Checks.{has_bad}, Faults.{IsFaultOf}, Fill.{args_of_readings}, Shares.{TakesAll}};
 
 use crate::checks::{has_bad, lacks};
 use crate::errors::ArgFault;

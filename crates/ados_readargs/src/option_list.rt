@@ -1,9 +1,6 @@
 // The options of a template, with what is asked of them for each line.
-ghost use Rattle.std.specs.Prelude.{◌≡◌, ◌==◌, ◌<◌, ℕ, true, false, length, get_or, IfSome};
-ghost use Rattle.std.specs.List.{list_any};
-ghost use Rattle.ados_readargs.specs.NameLengths.{has_as_long, one_is_as_long};
-ghost use Rattle.ados_readargs.specs.Options.{is_required, is_rest, takes_number};
-ghost use Rattle.ados_readargs.specs.Shares.{is_middle, middle_of};
+ghost use Rattle.std.specs.{Prelude.{◌≡◌, ◌==◌, ◌<◌, ℕ, true, false, length, get_or, IfSome}, List.{list_any}};
+ghost use Rattle.ados_readargs.specs.{NameLengths.{has_as_long, one_is_as_long}, Options.{is_required, is_rest, takes_number}, Shares.{is_middle, middle_of}};
 
 use crate::options::{TemplateOption, has_rest};
 use std::marker::Model;
@@ -21,12 +18,8 @@ pub struct OptionList {
 }
 
 impl Model for OptionList {
-    ghost use Rattle.std.specs.Prelude.{◌≡◌, ℕ, true, false, List, get_or};
-    ghost use Rattle.std.specs.List.{list_any};
-    ghost use Rattle.ados_readargs.specs.NameLengths.{one_is_as_long};
-    ghost use Rattle.ados_readargs.specs.Options.{is_required, is_rest, takes_number};
-    ghost use Rattle.ados_readargs.specs.Shares.{middle_of};
-    ghost use Rattle.ados_readargs.specs.declared.options.TemplateOption.{TemplateOption};
+    ghost use Rattle.std.specs.{Prelude.{◌≡◌, ℕ, true, false, List, get_or}, List.{list_any}};
+    ghost use Rattle.ados_readargs.specs.{NameLengths.{one_is_as_long}, Options.{is_required, is_rest, takes_number}, Shares.{middle_of}, declared.options.TemplateOption.{TemplateOption}};
 
     ghost Value = { List TemplateOption };
 

@@ -1,7 +1,6 @@
 // An option: its names and its qualifiers.
-ghost use Rattle.std.specs.Prelude.{◌≡◌};
+ghost use Rattle.std.specs.{Prelude.{◌≡◌}, List.{list_any}};
 ghost use Rattle.ados_readargs.specs.Options.{has_name, is_positional, takes_value, no_qualifiers, option_qualifiers, is_rest};
-ghost use Rattle.std.specs.List.{list_any};
 
 use ados_text::{Texts, same_name};
 

@@ -1,11 +1,6 @@
 // The pass over the words of a line: what each says is kept, up to the first fault.
 ghost use Rattle.std.specs.Prelude.{◌≡◌, true, None, Ok, IfSome, IfOk, IfErr, OnOk, position};
-ghost use Rattle.ados_readargs.specs.Faults.{IsFaultOf};
-ghost use Rattle.ados_readargs.specs.Words.{line_words_of};
-ghost use Rattle.ados_readargs.specs.Steps.{IsPlainAt, ReadsOn, StopsReading};
-ghost use Rattle.ados_readargs.specs.Meanings.{is_keyword, read_end, read_from, read_of, quotes_first};
-ghost use Rattle.ados_readargs.specs.Readings.{Readings, no_readings};
-ghost use Rattle.ados_readargs.specs.declared.meanings.Pending.TheVariants.{Free};
+ghost use Rattle.ados_readargs.specs.{Faults.{IsFaultOf}, Words.{line_words_of}, Steps.{IsPlainAt, ReadsOn, StopsReading}, Meanings.{is_keyword, read_end, read_from, read_of, quotes_first}, Readings.{Readings, no_readings}, declared.meanings.Pending.TheVariants.{Free}};
 
 use crate::errors::ArgFault;
 use crate::keywords::option_named;

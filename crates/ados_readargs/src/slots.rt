@@ -1,12 +1,8 @@
 // What each option was given, by places of texts in a buffer.
-ghost use Rattle.std.specs.Prelude.{◌≡◌, ◌++◌, ◌≤◌, [], ◌∷◌, length, map, get_or, slice_get, IfOk, OnOk, IfSome};
-ghost use Rattle.std.specs.Option.{option_map};
+ghost use Rattle.std.specs.{Prelude.{◌≡◌, ◌++◌, ◌≤◌, [], ◌∷◌, length, map, get_or, slice_get, IfOk, OnOk, IfSome}, Option.{option_map}};
 ghost use Rattle.ados_text.specs.Text.{IsText};
 ghost use Rattle.ados_items.specs.Items.{value_of};
-ghost use Rattle.ados_readargs.specs.Args.{has_switch, switch_arg, or_absent, option_text, option_texts, value_arg};
-ghost use Rattle.ados_readargs.specs.Checks.{is_absent};
-ghost use Rattle.ados_readargs.specs.Readings.{given_items};
-ghost use Rattle.ados_readargs.specs.Slots.{slot_of, switch_slot};
+ghost use Rattle.ados_readargs.specs.{Args.{has_switch, switch_arg, or_absent, option_text, option_texts, value_arg}, Checks.{is_absent}, Readings.{given_items}, Slots.{slot_of, switch_slot}};
 
 use crate::args::Arg;
 use crate::buffers::Buffer;
@@ -39,10 +35,8 @@ pub struct Slots {
 }
 
 impl Model for Slots {
-    ghost use Rattle.std.specs.Prelude.{List, length};
-    ghost use Rattle.std.specs.List.{All};
-    ghost use Rattle.ados_readargs.specs.Slots.{HoldsIn, args_in};
-    ghost use Rattle.ados_readargs.specs.declared.args.Arg.{Arg};
+    ghost use Rattle.std.specs.{Prelude.{List, length}, List.{All}};
+    ghost use Rattle.ados_readargs.specs.{Slots.{HoldsIn, args_in}, declared.args.Arg.{Arg}};
 
     ghost Value = { List Arg };
 

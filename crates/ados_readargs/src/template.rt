@@ -1,13 +1,7 @@
 // Templates, and which texts are templates.
-ghost use Rattle.std.specs.Prelude.{◌≡◌, [], Ok, Some, false, map, IfOk, IfErr, OnOk};
-ghost use Rattle.std.specs.List.{slice_split, list_any, count_by};
+ghost use Rattle.std.specs.{Prelude.{◌≡◌, [], Ok, Some, false, map, IfOk, IfErr, OnOk}, List.{slice_split, list_any, count_by}};
 ghost use Rattle.ados_text.specs.Text.{to_ascii, is_same};
-ghost use Rattle.ados_readargs.specs.Options.{has_name, no_qualifiers};
-ghost use Rattle.ados_readargs.specs.Checks.{has_bad};
-ghost use Rattle.ados_readargs.specs.Fill.{fill_of, LosesNoWord};
-ghost use Rattle.ados_readargs.specs.Faults.{IsFaultOf, IsBadTemplate};
-ghost use Rattle.ados_readargs.specs.Phrases.{IsFilled};
-ghost use Rattle.ados_readargs.specs.Template.{IsTemplate, with_letter, with_qualifier, parsed_qualifiers, qualifiers_of_pieces, is_byte, names_of, option_of, parsed_options, is_many, occurs_again, is_twice, has_twice, is_template, template_of, options_of};
+ghost use Rattle.ados_readargs.specs.{Options.{has_name, no_qualifiers}, Checks.{has_bad}, Fill.{fill_of, LosesNoWord}, Faults.{IsFaultOf, IsBadTemplate}, Phrases.{IsFilled}, Template.{IsTemplate, with_letter, with_qualifier, parsed_qualifiers, qualifiers_of_pieces, is_byte, names_of, option_of, parsed_options, is_many, occurs_again, is_twice, has_twice, is_template, template_of, options_of}};
 
 use crate::args::Args;
 use crate::errors::ArgFault;

@@ -1,6 +1,5 @@
 // The words of a command's arguments.
-ghost use Rattle.std.specs.Prelude.{◌≡◌, ◌+◌, true, length};
-ghost use Rattle.std.specs.List.{list_any};
+ghost use Rattle.std.specs.{Prelude.{◌≡◌, ◌+◌, true, length}, List.{list_any}};
 ghost use Rattle.ados_items.specs.Items.{item_at};
 ghost use Rattle.ados_readargs.specs.Words.{run_end, run_end_from, word_of, line_words_of, item_of, start_of, is_open_quote, is_equals_sign};
 

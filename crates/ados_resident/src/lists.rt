@@ -1,9 +1,6 @@
 // The two parts of the resident list: internal commands, and the entries that programs were loaded into.
-ghost use Rattle.std.specs.Prelude.{◌≡◌, ◌++◌, IfOk, OnOk, map};
-ghost use Rattle.std.specs.Option.{option_copied};
-ghost use Rattle.ados_resident.specs.Commands.{internal_name};
-ghost use Rattle.ados_resident.specs.Names.{first_with_name};
-ghost use Rattle.ados_resident.specs.Residents.{count_of, enabled_internal, switched_internal, put_entry};
+ghost use Rattle.std.specs.{Prelude.{◌≡◌, ◌++◌, IfOk, OnOk, map}, Option.{option_copied}};
+ghost use Rattle.ados_resident.specs.{Commands.{internal_name}, Names.{first_with_name}, Residents.{count_of, enabled_internal, switched_internal, put_entry}};
 
 use crate::internal_commands::InternalCommand;
 use crate::residents::{Internal, Resident};

@@ -1,7 +1,6 @@
 // The commands by their names.
 ghost use Rattle.std.specs.Prelude.{◌≡◌};
-ghost use Rattle.ados_resident.specs.Commands.{disk_name, internal_name};
-ghost use Rattle.ados_resident.specs.Names.{disk_named, first_with_name, internal_named};
+ghost use Rattle.ados_resident.specs.{Commands.{disk_name, internal_name}, Names.{disk_named, first_with_name, internal_named}};
 
 use crate::dialects::Dialect;
 use crate::disk_commands::DiskCommand;

@@ -1,7 +1,6 @@
 // Where blocks end: a table of one entry for each line, made from the last line up.
 ghost use Rattle.std.specs.Prelude.{◌≡◌, ◌≤◌, true, IfSome, OnOk};
-ghost use Rattle.ados_script.specs.Blocks.{is_end};
-ghost use Rattle.ados_script.specs.Tables.{ends_above, kept_ends, with_entry};
+ghost use Rattle.ados_script.specs.{Blocks.{is_end}, Tables.{ends_above, kept_ends, with_entry}};
 
 use crate::heads::Head;
 use ados_text::NoMemory;

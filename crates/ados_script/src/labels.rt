@@ -1,13 +1,7 @@
 //! The labels of Lab lines, in the order of their texts. A search compares the bytes in place, and allocates nothing.
-ghost use Rattle.std.specs.Prelude.{◌≡◌, ℕ, List, reverse, nat_lt, IfOk, OnOk};
-ghost use Rattle.std.specs.List.{filter, find};
-ghost use Rattle.std.specs.List.Sorted.{IsNonDecreasingBy, IsSortedByKey};
-ghost use Rattle.std.specs.Option.{option_copied, option_map};
-ghost use Rattle.ados_text.specs.Text.{folded_text};
-ghost use Rattle.ados_text.specs.Name.{name_cmp};
-ghost use Rattle.ados_script.specs.Heads.{label_of};
-ghost use Rattle.ados_script.specs.Tables.{has_text};
-ghost use Rattle.ados_script.specs.declared.labels.Label.{Label};
+ghost use Rattle.std.specs.{Prelude.{◌≡◌, ℕ, List, reverse, nat_lt, IfOk, OnOk}, List.{filter, find}, List.Sorted.{IsNonDecreasingBy, IsSortedByKey}, Option.{option_copied, option_map}};
+ghost use Rattle.ados_text.specs.{Text.{folded_text}, Name.{name_cmp}};
+ghost use Rattle.ados_script.specs.{Heads.{label_of}, Tables.{has_text}, declared.labels.Label.{Label}};
 
 use ados_items::{Item, next_item, value};
 use ados_text::{Name, NoMemory, Text, fold};

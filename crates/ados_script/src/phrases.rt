@@ -1,6 +1,5 @@
 //! The phrase of a Lab line: the words behind its first one, with one blank between two.
-ghost use Rattle.std.specs.Prelude.{◌≡◌, ◌+◌, ◌++◌, [], ◌∷◌, true, false, length, drop, if◌then◌else◌, IfOk, OnOk};
-ghost use Rattle.std.specs.Option.{option_map};
+ghost use Rattle.std.specs.{Prelude.{◌≡◌, ◌+◌, ◌++◌, [], ◌∷◌, true, false, length, drop, if◌then◌else◌, IfOk, OnOk}, Option.{option_map}};
 ghost use Rattle.ados_items.specs.Items.{item_at, value_of};
 ghost use Rattle.ados_script.specs.Phrases.{piece_of, phrase_of, spaced_from};
 

@@ -1,12 +1,6 @@
 //! The lines of a script, and where its jumps lead.
-ghost use Rattle.std.specs.Prelude.{◌≡◌, Some, IfOk};
-ghost use Rattle.std.specs.List.{find};
-ghost use Rattle.std.specs.Option.{option_copied, option_map};
-ghost use Rattle.ados_script.specs.Blocks.{after_if, after_else};
-ghost use Rattle.ados_script.specs.Jumps.{LeadsWithin};
-ghost use Rattle.ados_script.specs.Lines.{line_of, numbers_below};
-ghost use Rattle.ados_script.specs.Skips.{skip};
-ghost use Rattle.ados_script.specs.Tables.{sought_at};
+ghost use Rattle.std.specs.{Prelude.{◌≡◌, Some, IfOk}, List.{find}, Option.{option_copied, option_map}};
+ghost use Rattle.ados_script.specs.{Blocks.{after_if, after_else}, Jumps.{LeadsWithin}, Lines.{line_of, numbers_below}, Skips.{skip}, Tables.{sought_at}};
 
 use crate::blocks::kept_ends;
 use crate::jumps::{Jump, jump_to_next};

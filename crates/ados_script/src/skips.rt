@@ -1,6 +1,5 @@
 // Where a Skip leads: to the nearer of two lines, each the first one below the Skip in an ascending list.
-ghost use Rattle.std.specs.Prelude.{◌≡◌, ◌+◌, ◌<◌, ◌^◌, IfSome};
-ghost use Rattle.std.specs.List.Sorted.{IsNonDecreasing};
+ghost use Rattle.std.specs.{Prelude.{◌≡◌, ◌+◌, ◌<◌, ◌^◌, IfSome}, List.Sorted.{IsNonDecreasing}};
 ghost use Rattle.ados_script.specs.Tables.{jump_past_first, first_below, nearer_of};
 
 use crate::jumps::Jump;

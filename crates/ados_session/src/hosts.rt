@@ -1,8 +1,7 @@
 //! Files of the programs of the host that are commands.
 ghost use Rattle.std.specs.Prelude.{◌≡◌, ◌++◌, ◌∷◌, ◌&&◌, [], true, IfOk, IfErr, OnErr};
 ghost use Rattle.ados_text.specs.Lines.{lines_of};
-ghost use Rattle.ados_session.specs.Faults.{IsFault};
-ghost use Rattle.ados_session.specs.Hosts.{are_hosts, are_free, host_line, parsed_hosts, is_comment, is_host_line};
+ghost use Rattle.ados_session.specs.{Faults.{IsFault}, Hosts.{are_hosts, are_free, host_line, parsed_hosts, is_comment, is_host_line}};
 
 use crate::faults::FileFault;
 use ados_items::{first_word, rest_of, trimmed};

@@ -1,11 +1,7 @@
 //! Recordings of sessions.
 ghost use Rattle.std.specs.Prelude.{◌≡◌, ◌&&◌, [], ◌∷◌, Some, true, IfOk, IfErr};
-ghost use Rattle.ados_text.specs.Lines.{lines_of};
-ghost use Rattle.ados_text.specs.Text.{IsText};
-ghost use Rattle.ados_session.specs.Breaks.{are_rising};
-ghost use Rattle.ados_session.specs.Faults.{IsFault};
-ghost use Rattle.ados_session.specs.Hosts.{are_free};
-ghost use Rattle.ados_session.specs.Recordings.{IsRecordingFault, answer_line, are_records, break_line, break_line_in_form, dialect_of, recording_form, is_record, is_recording, is_session, joined_sessions, record_line, record_of, session_of_lines, session_in};
+ghost use Rattle.ados_text.specs.{Lines.{lines_of}, Text.{IsText}};
+ghost use Rattle.ados_session.specs.{Breaks.{are_rising}, Faults.{IsFault}, Hosts.{are_free}, Recordings.{IsRecordingFault, answer_line, are_records, break_line, break_line_in_form, dialect_of, recording_form, is_record, is_recording, is_session, joined_sessions, record_line, record_of, session_of_lines, session_in}};
 
 use crate::answers::answer_of;
 use crate::breaks::{add_break, break_of};

@@ -1,8 +1,5 @@
 //! What one update of the shared folder could not write, and what follows from that.
-ghost use Rattle.std.specs.Prelude.{◌≡◌, ◌++◌, ◌∷◌, ◌+◌, ◌-◌, ◌^◌, [], None, IfOk, OnErr, OnOk, if◌then◌else◌, min, string_bytes};
-ghost use Rattle.std.specs.BTreeMap.{get_by_text};
-ghost use Rattle.std.specs.List.{list_any};
-ghost use Rattle.std.specs.Option.{option_map, is_some};
+ghost use Rattle.std.specs.{Prelude.{◌≡◌, ◌++◌, ◌∷◌, ◌+◌, ◌-◌, ◌^◌, [], None, IfOk, OnErr, OnOk, if◌then◌else◌, min, string_bytes}, BTreeMap.{get_by_text}, List.{list_any}, Option.{option_map, is_some}};
 ghost use Rattle.ados_share.specs.Account.{contents_of, first_path, is_in_unwritten, path_left_out, paths_of, with_bytes_of, with_fresh, with_path_of};
 ghost use Rattle.ados_transfer.specs.Within.{is_substring};
 

@@ -1,12 +1,7 @@
 //! What changed in the folder of a share, on its way into the Shell's files.
-ghost use Rattle.std.specs.Prelude.{◌≡◌, ◌||◌, IfOk, OnOk, string_bytes};
-ghost use Rattle.std.specs.BTreeMap.{keys};
-ghost use Rattle.std.specs.List.{list_any};
-ghost use Rattle.std.specs.Option.{option_copied};
+ghost use Rattle.std.specs.{Prelude.{◌≡◌, ◌||◌, IfOk, OnOk, string_bytes}, BTreeMap.{keys}, List.{list_any}, Option.{option_copied}};
 ghost use Rattle.ados_text.specs.Text.{Bytes};
-ghost use Rattle.ados_share.specs.Changes.{has_changed, has_last_stamp, has_stand_in, is_gone, is_unchanged};
-ghost use Rattle.ados_share.specs.Arrivals.{size_of_coming};
-ghost use Rattle.ados_share.specs.Records.{OthersStay, has_key};
+ghost use Rattle.ados_share.specs.{Changes.{has_changed, has_last_stamp, has_stand_in, is_gone, is_unchanged}, Arrivals.{size_of_coming}, Records.{OthersStay, has_key}};
 
 use crate::arrival_plan::ArrivalPlan;
 use crate::contents::digest;

@@ -1,7 +1,6 @@
 //! What the script made above the top of a disk, beside the directory that is kept alike with a folder: this machine does not get it, so it
 //! may hold the only bytes of what the script deletes.
-ghost use Rattle.std.specs.Prelude.{◌≡◌, true, OnOk, string_bytes};
-ghost use Rattle.std.specs.Option.{is_some, option_map};
+ghost use Rattle.std.specs.{Prelude.{◌≡◌, true, OnOk, string_bytes}, Option.{is_some, option_map}};
 
 use crate::account::Account;
 use crate::mirror::Mirror;

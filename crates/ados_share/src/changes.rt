@@ -1,6 +1,5 @@
 //! What is planned for one object of the folder of a share.
-ghost use Rattle.std.specs.Prelude.{◌≡◌, true};
-ghost use Rattle.std.specs.Option.{is_none, option_copied};
+ghost use Rattle.std.specs.{Prelude.{◌≡◌, true}, Option.{is_none, option_copied}};
 ghost use Rattle.ados_share.specs.Changes.{comes_in, has_made_anew, is_made_anew, is_of_kind};
 
 use crate::arrival_plan::ArrivalPlan;

@@ -1,7 +1,6 @@
 //! Files whose bytes the Shell has, while the folder of a share has them in another file, or had them until another program deleted or
 //! changed the file that waited. Once no file there has them any longer a backup is made of what the Shell has.
-ghost use Rattle.std.specs.Prelude.{◌≡◌, true, IfOk, Some};
-ghost use Rattle.std.specs.Option.{is_some};
+ghost use Rattle.std.specs.{Prelude.{◌≡◌, true, IfOk, Some}, Option.{is_some}};
 
 use crate::backups::{Backup, Backups, needs_backup};
 use crate::changes::is_made_anew;

@@ -1,7 +1,5 @@
 //! One object of the Shell's files on its way to the folder of a share.
-ghost use Rattle.std.specs.Prelude.{◌≡◌, [], ◌||◌, IfOk, OnOk, string_bytes};
-ghost use Rattle.std.specs.BTreeMap.{IsEmpty};
-ghost use Rattle.std.specs.Str.{bytes_eq};
+ghost use Rattle.std.specs.{Prelude.{◌≡◌, [], ◌||◌, IfOk, OnOk, string_bytes}, BTreeMap.{IsEmpty}, Str.{bytes_eq}};
 ghost use Rattle.ados_text.specs.Text.{Bytes};
 ghost use Rattle.ados_transfer.specs.Paths.{IsBelow, path_in};
 ghost use Rattle.ados_share.specs.Records.{has_key};

@@ -1,9 +1,6 @@
 //! What changed in the Shell's files below the directories of a share, on its way to the folders.
-ghost use Rattle.std.specs.Prelude.{◌≡◌, true, false, IfOk, OnOk, is_none, string_bytes};
-ghost use Rattle.std.specs.List.{list_any};
-ghost use Rattle.std.specs.Option.{is_some, option_map};
+ghost use Rattle.std.specs.{Prelude.{◌≡◌, true, false, IfOk, OnOk, is_none, string_bytes}, List.{list_any}, Option.{is_some, option_map}, BTreeMap.{get_by_text}};
 ghost use Rattle.ados_text.specs.Text.{Bytes};
-ghost use Rattle.std.specs.BTreeMap.{get_by_text};
 ghost use Rattle.ados_share.specs.Records.{has_key, has_left, is_kept_there};
 
 use crate::account::{Account, Moment};

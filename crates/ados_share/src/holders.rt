@@ -1,6 +1,5 @@
 //! Which files of the Shell have the same bytes as a file of the folder of a share.
-ghost use Rattle.std.specs.Prelude.{◌≡◌, true, IfSome, find};
-ghost use Rattle.std.specs.Option.{option_copied};
+ghost use Rattle.std.specs.{Prelude.{◌≡◌, true, IfSome, find}, Option.{option_copied}};
 ghost use Rattle.ados_share.specs.Contents.{has_bytes};
 
 use crate::around::Around;

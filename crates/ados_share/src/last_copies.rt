@@ -1,7 +1,5 @@
 //! Bytes that this machine has in one file alone while the Shell has them outside of the directory: the file is not deleted.
-ghost use Rattle.std.specs.Prelude.{◌≡◌, true, IfSome};
-ghost use Rattle.std.specs.Option.{option_copied};
-ghost use Rattle.std.specs.BTreeMap.{get_by_text};
+ghost use Rattle.std.specs.{Prelude.{◌≡◌, true, IfSome}, Option.{option_copied}, BTreeMap.{get_by_text}};
 ghost use Rattle.ados_share.specs.Contents.{if_file_of, is_file_of};
 
 use crate::departure::{Departure, Departures};

@@ -1,12 +1,8 @@
 //! Files of the folder that the script moved away, and that are in their place again with the same bytes: where they went is followed on.
 //! So what was moved is not in memory alone once the new one is deleted or written over, by whomever. The script may move that one too, and so
 //! on: each is followed.
-ghost use Rattle.std.specs.Prelude.{◌≡◌, IfOk, map, string_bytes, true};
-ghost use Rattle.std.specs.List.{list_any};
-ghost use Rattle.std.specs.Option.{is_some, option_copied};
-ghost use Rattle.std.specs.BTreeMap.{get_by_text};
-ghost use Rattle.ados_share.specs.Backups.{followed, moved_before, moved_from, moved_to};
-ghost use Rattle.ados_share.specs.Moves.{gave_way};
+ghost use Rattle.std.specs.{Prelude.{◌≡◌, IfOk, map, string_bytes, true}, List.{list_any}, Option.{is_some, option_copied}, BTreeMap.{get_by_text}};
+ghost use Rattle.ados_share.specs.{Backups.{followed, moved_before, moved_from, moved_to}, Moves.{gave_way}};
 
 use crate::backups::{Backup, Backups};
 use crate::deleted_copies::PRIVATE;

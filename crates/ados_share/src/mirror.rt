@@ -1,7 +1,5 @@
 //! A share: folders of this machine and directories of the Shell's files that are kept alike.
-ghost use Rattle.std.specs.Prelude.{◌≡◌, true, None, Some, OnOk, string_bytes};
-ghost use Rattle.std.specs.BTreeMap.{IsOrdered};
-ghost use Rattle.std.specs.String.{string_cmp};
+ghost use Rattle.std.specs.{Prelude.{◌≡◌, true, None, Some, OnOk, string_bytes}, BTreeMap.{IsOrdered}, String.{string_cmp}};
 ghost use Rattle.ados_share.specs.Records.{Sets};
 
 use crate::backups::Backups;

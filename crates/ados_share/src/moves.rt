@@ -1,12 +1,9 @@
 //! Where files of the folder went in the Shell's files: each Rename is followed, so that a file that was moved out of the directory is
 //! known there, whatever its bytes are by then.
-ghost use Rattle.std.specs.Prelude.{◌≡◌, IfOk, None, OnErr, OnOk, Some, string_bytes, true};
-ghost use Rattle.std.specs.Option.{is_some, option_copied};
-ghost use Rattle.std.specs.BTreeMap.{IsEmpty, IsUnchanged, get_by_text};
+ghost use Rattle.std.specs.{Prelude.{◌≡◌, IfOk, None, OnErr, OnOk, Some, string_bytes, true}, Option.{is_some, option_copied}, BTreeMap.{IsEmpty, IsUnchanged, get_by_text}};
 ghost use Rattle.std.specs.FinMap as map;
 ghost use Rattle.ados_ram.specs.Place.{key_of};
-ghost use Rattle.ados_share.specs.Moves.{destination_after, destination_without, is_deleted, is_file, is_within, may_be_elsewhere};
-ghost use Rattle.ados_share.specs.Records.{Sets, has_content, is_settled};
+ghost use Rattle.ados_share.specs.{Moves.{destination_after, destination_without, is_deleted, is_file, is_within, may_be_elsewhere}, Records.{Sets, has_content, is_settled}};
 
 use crate::elsewhere::Elsewhere;
 use crate::mirror::Mirror;

@@ -1,10 +1,7 @@
 //! What is noted of files that are gone from the folder while the Shell has their bytes: each file by itself. Two of one path and the same
 //! bytes are told apart by where the script moved them, so that the end of the one is not that of the other.
-ghost use Rattle.std.specs.Prelude.{◌≡◌, true, IfOk, OnOk, Some};
-ghost use Rattle.std.specs.List.{list_any};
-ghost use Rattle.std.specs.Option.{is_some, option_copied};
-ghost use Rattle.ados_share.specs.Backups.{counts_for, follows, is_of, with_noted};
-ghost use Rattle.ados_share.specs.Moves.{is_one_destination};
+ghost use Rattle.std.specs.{Prelude.{◌≡◌, true, IfOk, OnOk, Some}, List.{list_any}, Option.{is_some, option_copied}};
+ghost use Rattle.ados_share.specs.{Backups.{counts_for, follows, is_of, with_noted}, Moves.{is_one_destination}};
 
 use crate::backups::{Backup, Backups};
 use crate::elsewhere::Elsewhere;

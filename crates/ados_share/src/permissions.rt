@@ -1,6 +1,5 @@
 //! Which permissions what is written to the folder gets: nobody is to read or write afterwards what he could not before.
-ghost use Rattle.std.specs.Prelude.{◌≡◌, IfOk, IfSome, Some, bit_and};
-ghost use Rattle.std.specs.BTreeMap.{get_by_text};
+ghost use Rattle.std.specs.{Prelude.{◌≡◌, IfOk, IfSome, Some, bit_and}, BTreeMap.{get_by_text}};
 
 use crate::account::Account;
 use crate::backups::Backup;

@@ -1,10 +1,6 @@
 //! How an object of the folder of a share that is gone in the Shell's files, or of another kind there, is deleted.
-ghost use Rattle.std.specs.Prelude.{◌≡◌, None, IfOk, OnOk, true, false, string_bytes};
-ghost use Rattle.std.specs.BTreeMap.{get_by_text};
-ghost use Rattle.std.specs.Option.{option_map};
-ghost use Rattle.ados_share.specs.Account.{first_path, is_end};
-ghost use Rattle.ados_share.specs.Changes.{has_made_anew};
-ghost use Rattle.ados_share.specs.Records.{Sets};
+ghost use Rattle.std.specs.{Prelude.{◌≡◌, None, IfOk, OnOk, true, false, string_bytes}, BTreeMap.{get_by_text}, Option.{option_map}};
+ghost use Rattle.ados_share.specs.{Account.{first_path, is_end}, Changes.{has_made_anew}, Records.{Sets}};
 
 use crate::account::{Account, Moment};
 use crate::changes::is_made_anew;

@@ -1,6 +1,5 @@
 //! Where the programs of a share start, and when none does.
-ghost use Rattle.std.specs.Prelude.{◌≡◌, true, IfOk};
-ghost use Rattle.std.specs.Option.{is_some};
+ghost use Rattle.std.specs.{Prelude.{◌≡◌, true, IfOk}, Option.{is_some}};
 ghost use Rattle.ados_share.specs.Account.{barred_by};
 
 use crate::account::Account;

@@ -1,7 +1,6 @@
 //! What an update wrote is on the disk before the update deletes or replaces anything whose bytes stand only there: a power cut would
 //! otherwise leave an empty file while the old one is gone.
-ghost use Rattle.std.specs.Prelude.{◌≡◌, ◌++◌, [], true, false, IfOk, OnOk, string_bytes};
-ghost use Rattle.std.specs.Option.{is_some, option_map};
+ghost use Rattle.std.specs.{Prelude.{◌≡◌, ◌++◌, [], true, false, IfOk, OnOk, string_bytes}, Option.{is_some, option_map}};
 ghost use Rattle.ados_share.specs.Account.{contents_of, failed_files, files_of};
 ghost use Rattle.ados_transfer.specs.Paths.{IsBelow};
 

@@ -1,10 +1,7 @@
 // Answers of a launcher, for a shell that waits for one.
-ghost use Rattle.std.specs.Prelude.{◌≡◌, IfOk, OnErr, OnOk, is_some, true};
-ghost use Rattle.ados_machine.specs.Answers.{answered_completion, answered_in, code_of, ended_completion, output_fault, is_piece, piece_completion, started_completion};
-ghost use Rattle.std.specs.Prelude.{None};
-ghost use Rattle.ados_machine.specs.Opening.{line_output};
+ghost use Rattle.std.specs.Prelude.{◌≡◌, IfOk, OnErr, OnOk, is_some, true, None};
+ghost use Rattle.ados_machine.specs.{Answers.{answered_completion, answered_in, code_of, ended_completion, output_fault, is_piece, piece_completion, started_completion}, Opening.{line_output}, declared.phases.Wait.TheVariants.{ForEnd as EndOf, ForPiece as PieceOf, ForStart as StartOf}};
 ghost use Rattle.ados_text.specs.declared.codes.TheConstants.Result2.{NONE};
-ghost use Rattle.ados_machine.specs.declared.phases.Wait.TheVariants.{ForEnd as EndOf, ForPiece as PieceOf, ForStart as StartOf};
 
 use crate::drafts::Draft;
 use crate::scenes::Scene;
@@ -23,8 +20,7 @@ pub enum Answering {
 }
 
 impl Draft {
-    ghost use Rattle.ados_shell.specs.Answerings.{GivesReply, IsReplied, TakesReply};
-    ghost use Rattle.ados_shell.specs.Drafts.{IsApplied, course_of, here_in};
+    ghost use Rattle.ados_shell.specs.{Answerings.{GivesReply, IsReplied, TakesReply}, Drafts.{IsApplied, course_of, here_in}};
 
     /// A launcher's answer for the scene's shell: if it waits for one of this kind, the draft is filled with what is
     /// to be changed. Nothing else is changed, and what the draft held before is forgotten.

@@ -15,8 +15,7 @@ use ados_text::{Result2, Stop, Text};
 use std::alloc::Global;
 
 impl Draft {
-    ghost use Rattle.ados_shell.specs.Completions.{HasEnded};
-    ghost use Rattle.ados_shell.specs.Drafts.{IsUnset, course_of, here_in};
+    ghost use Rattle.ados_shell.specs.{Completions.{HasEnded}, Drafts.{IsUnset, course_of, here_in}};
 
     /// A line whose word leads to a directory: its input is read and its output is opened, and it changes to the directory.
     pub(crate) fn change_directory(

@@ -1,10 +1,7 @@
 // Breaks: what a break is to a shell, and the turn that ends its scripts.
 ghost use Rattle.std.specs.Prelude.{◌≡◌, true, IfOk, OnErr, OnOk};
 ghost use Rattle.ados_flow.specs.Frames.{caller_word};
-ghost use Rattle.ados_machine.specs.Breaks.{broken_shell, flags_own, has_script};
-ghost use Rattle.ados_machine.specs.Apply.{rule_state_of};
-ghost use Rattle.ados_machine.specs.CodeRule.{end_at_break};
-ghost use Rattle.ados_machine.specs.Turning.{turn_at_break};
+ghost use Rattle.ados_machine.specs.{Breaks.{broken_shell, flags_own, has_script}, Apply.{rule_state_of}, CodeRule.{end_at_break}, Turning.{turn_at_break}};
 ghost use Rattle.ados_shell.specs.Reports.{broken_report};
 
 use crate::drafts::Draft;
@@ -39,9 +36,7 @@ impl Shell {
 }
 
 impl Draft {
-    ghost use Rattle.ados_shell.specs.Breaks.{GivesUp, ReportsBreak, broken_turning};
-    ghost use Rattle.ados_shell.specs.Turnings.{GivesTurning, MayLackMemory};
-    ghost use Rattle.ados_shell.specs.Drafts.{IsDrafted, IsRuled, course_of, frames_of, turn_start};
+    ghost use Rattle.ados_shell.specs.{Breaks.{GivesUp, ReportsBreak, broken_turning}, Turnings.{GivesTurning, MayLackMemory}, Drafts.{IsDrafted, IsRuled, course_of, frames_of, turn_start}};
 
     /// A turn of a shell that is flagged, in which a script runs: if it can take one, its scripts end instead of
     /// what it would have done, and its input stays.

@@ -13,13 +13,10 @@ use ados_ram::Place;
 use ados_text::{NoMemory, Stop, Texts};
 
 impl Draft {
-    ghost use Rattle.std.specs.Prelude.{IfOk};
-    ghost use Rattle.std.specs.Option.{option_copied};
-    ghost use Rattle.ados_flow.specs.Actions.{action_effect};
-    ghost use Rattle.ados_flow.specs.Execute.{script_row};
+    ghost use Rattle.std.specs.{Prelude.{IfOk}, Option.{option_copied}};
+    ghost use Rattle.ados_flow.specs.{Actions.{action_effect}, Execute.{script_row}};
     ghost use Rattle.ados_machine.specs.Lines.{nameless_view};
-    ghost use Rattle.ados_shell.specs.Completions.{HasEnded};
-    ghost use Rattle.ados_shell.specs.Drafts.{IsUnset, course_of, here_in};
+    ghost use Rattle.ados_shell.specs.{Completions.{HasEnded}, Drafts.{IsUnset, course_of, here_in}};
 
     /// A line whose word is a script: its input is read and its output is opened, and the script is called.
     pub(crate) fn run_script(

@@ -1,10 +1,7 @@
 // The code rule: when a frame ends, and what its end is to the command that made it.
 ghost use Rattle.std.specs.Prelude.{◌≡◌, IfOk, OnOk};
-ghost use Rattle.ados_shell.specs.Completions.{line_after};
-ghost use Rattle.ados_machine.specs.CodeRule.{finish};
-ghost use Rattle.ados_machine.specs.Completions.{Answers, Calls, Jumps, Passes, refusal_completion};
-ghost use Rattle.ados_machine.specs.Apply.{enter_script, rule_state_of};
-ghost use Rattle.ados_shell.specs.Reports.{report_of};
+ghost use Rattle.ados_shell.specs.{Completions.{line_after}, Reports.{report_of}};
+ghost use Rattle.ados_machine.specs.{CodeRule.{finish}, Completions.{Answers, Calls, Jumps, Passes, refusal_completion}, Apply.{enter_script, rule_state_of}};
 
 use crate::console::{push_failed, push_fault};
 use crate::drafts::Draft;

@@ -1,14 +1,9 @@
 // The commands and their templates.
-ghost use Rattle.std.specs.Prelude.{◌≡◌, ◌++◌, IfErr, IfOk, Ok, OnOk};
-ghost use Rattle.std.specs.List.{flat_map};
-ghost use Rattle.ados_readargs.specs.Faults.{IsFaultOf};
-ghost use Rattle.ados_readargs.specs.Fill.{fill_of};
+ghost use Rattle.std.specs.{Prelude.{◌≡◌, ◌++◌, IfErr, IfOk, Ok, OnOk}, List.{flat_map}, Option.{option_copied}};
+ghost use Rattle.ados_readargs.specs.{Faults.{IsFaultOf}, Fill.{fill_of}};
 ghost use Rattle.ados_assign.specs.Uses.{reached_devices};
-ghost use Rattle.ados_machine.specs.Uses.{argument_devices, devices_of};
-ghost use Rattle.ados_machine.specs.Commands.{action_of, row_of, template_of};
-ghost use Rattle.std.specs.Option.{option_copied};
-ghost use Rattle.ados_flow.specs.Actions.{action_effect};
-ghost use Rattle.ados_flow.specs.Frames.{script_line_of};
+ghost use Rattle.ados_machine.specs.{Uses.{argument_devices, devices_of}, Commands.{action_of, row_of, template_of}};
+ghost use Rattle.ados_flow.specs.{Actions.{action_effect}, Frames.{script_line_of}};
 
 use ados_find::{Codes, Shared, ShellView};
 use ados_flow::{Action, Frame};

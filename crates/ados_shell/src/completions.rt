@@ -35,9 +35,8 @@ pub struct Call {
 
 impl Completion {
     ghost use Rattle.std.specs.Prelude.{ℕ, List, Option};
-    ghost use Rattle.ados_machine.specs.Course.{Course};
+    ghost use Rattle.ados_machine.specs.{Course.{Course}, Completions.{FrameLines}};
     ghost use Rattle.ados_machine.specs.Completions as machine;
-    ghost use Rattle.ados_machine.specs.Completions.{FrameLines};
     ghost use Rattle.ados_shell.specs.Completions.{completion_of};
 
     /// The shell waits for this.

@@ -1,6 +1,5 @@
 // What is printed on the console.
-ghost use Rattle.std.specs.Prelude.{◌≡◌, ◌++◌, OnOk};
-ghost use Rattle.std.specs.Fmt.{signed_decimal};
+ghost use Rattle.std.specs.{Prelude.{◌≡◌, ◌++◌, OnOk}, Fmt.{signed_decimal}};
 ghost use Rattle.ados_machine.specs.FaultLines.{fault_line, failure, failed_line};
 
 use ados_flow::is_reached;

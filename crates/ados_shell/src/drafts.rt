@@ -1,7 +1,6 @@
 // What a turn has changed so far, to be committed.
 ghost use Rattle.std.specs.Prelude.{◌≡◌, [], None, false, OnOk, option_map};
-ghost use Rattle.ados_find.specs.Renames.{renames_in};
-ghost use Rattle.ados_find.specs.Shared.{version};
+ghost use Rattle.ados_find.specs.{Renames.{renames_in}, Shared.{version}};
 ghost use Rattle.ados_machine.specs.Step.{event_out};
 
 use crate::begun::Begun;

@@ -1,10 +1,7 @@
 // A line whose command is a program: a disk command, or a program of the host, which is to be started.
-ghost use Rattle.std.specs.Prelude.{◌≡◌, ℕ, List, Option, Some, IfOk};
-ghost use Rattle.std.specs.Option.{option_copied};
-ghost use Rattle.ados_machine.specs.Hosted.{host_completion, start_completion, tested_completion};
+ghost use Rattle.std.specs.{Prelude.{◌≡◌, ℕ, List, Option, Some, IfOk}, Option.{option_copied}};
+ghost use Rattle.ados_machine.specs.{Hosted.{host_completion, start_completion, tested_completion}, Lines.{program_completion}, Opening.{line_output}};
 ghost use Rattle.ados_items.specs.Items.{words_of};
-ghost use Rattle.ados_machine.specs.Lines.{program_completion};
-ghost use Rattle.ados_machine.specs.Opening.{line_output};
 
 use crate::completions::Completion;
 use crate::drafts::Draft;
@@ -16,8 +13,7 @@ use ados_resident::Program;
 use ados_text::{NoMemory, Result2, Stop, Text, Texts};
 
 impl Draft {
-    ghost use Rattle.ados_shell.specs.Completions.{HasEnded};
-    ghost use Rattle.ados_shell.specs.Drafts.{IsUnset, course_of, here_in};
+    ghost use Rattle.ados_shell.specs.{Completions.{HasEnded}, Drafts.{IsUnset, course_of, here_in}};
 
     /// Runs a line whose command is a program, which runs from an entry of the resident list, or from a file.
     pub(crate) fn run_program(

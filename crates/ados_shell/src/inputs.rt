@@ -1,7 +1,6 @@
 // The input of a command, and the arguments that it is asked for.
 ghost use Rattle.std.specs.Prelude.{◌≡◌, IfOk};
-ghost use Rattle.ados_items.specs.Items.{IsWithin};
-ghost use Rattle.ados_items.specs.declared.items.Item.TheVariants.{Word};
+ghost use Rattle.ados_items.specs.{Items.{IsWithin}, declared.items.Item.TheVariants.{Word}};
 ghost use Rattle.ados_machine.specs.Prompts.{asks_behind_words, completed_args, completed_line, follows_equal_sign, is_last_query, is_question, is_too_long, last_query, lines_in, query_of};
 ghost use Rattle.ados_flow.specs.Gathering.{is_end};
 ghost use Rattle.ados_find.specs.Targets.{read_by, target_of};

@@ -1,10 +1,7 @@
 // Taking a raw line.
 ghost use Rattle.std.specs.Prelude.{◌≡◌, IfOk, IfSome, OnOk, OnSome};
-ghost use Rattle.ados_find.specs.declared.search.Found.TheVariants.{Internal};
-ghost use Rattle.ados_find.specs.Routes.{route_devices};
-ghost use Rattle.ados_machine.specs.Course.{with_devices_used};
-ghost use Rattle.ados_machine.specs.Completions.{line_fault};
-ghost use Rattle.ados_machine.specs.Lines.{expanded_completion, found_completion, found_in, line_completion, with_search_used};
+ghost use Rattle.ados_find.specs.{declared.search.Found.TheVariants.{Internal}, Routes.{route_devices}};
+ghost use Rattle.ados_machine.specs.{Course.{with_devices_used}, Completions.{line_fault}, Lines.{expanded_completion, found_completion, found_in, line_completion, with_search_used}};
 
 use crate::completions::Completion;
 use crate::drafts::Draft;
@@ -15,14 +12,9 @@ use ados_resident::InternalCommand;
 use ados_text::{NoMemory, Result2, Stop, Text};
 
 impl Draft {
-    ghost use Rattle.ados_shell.specs.Completions.{HasEnded};
-    ghost use Rattle.ados_shell.specs.Drafts.{IsUnset, IsApplied, course_of, here_in};
-    ghost use Rattle.ados_line.specs.Answers.{Gives};
-    ghost use Rattle.ados_line.specs.declared.faults.LineFault.{LineFault};
-    ghost use Rattle.ados_line.specs.declared.lines.Expanded.{Expanded};
+    ghost use Rattle.ados_shell.specs.{Completions.{HasEnded}, Drafts.{IsUnset, IsApplied, course_of, here_in}};
+    ghost use Rattle.ados_line.specs.{Answers.{Gives}, declared.faults.LineFault.{LineFault}, declared.lines.Expanded.{Expanded}, Expansion.{expand_raw_line}, Values.{visible_variables}};
     ghost use Rattle.std.specs.Prelude.{Result};
-    ghost use Rattle.ados_line.specs.Expansion.{expand_raw_line};
-    ghost use Rattle.ados_line.specs.Values.{visible_variables};
     ghost use Rattle.ados_machine.specs.Lines.{course_variables};
     ghost use Rattle.ados_find.specs.Parts.{locals_of};
     ghost use Rattle.ados_vars.specs.Locals.{shown_pairs};

@@ -1,14 +1,9 @@
 // The output of a command: its opening, and what is put there.
-ghost use Rattle.std.specs.Prelude.{◌≡◌, Ok, Some, IfOk, OnOk};
-ghost use Rattle.std.specs.Option.{option_copied};
-ghost use Rattle.ados_machine.specs.Opening.{output_at_target, line_output, output_of_redirection};
-ghost use Rattle.ados_machine.specs.Course.{put};
-ghost use Rattle.ados_machine.specs.Sinks.{To, sink_or};
-ghost use Rattle.ados_find.specs.declared.targets.Target.TheVariants.{At};
-ghost use Rattle.ados_ram.specs.FileOperations.{put_open_fault, put_open_of};
-ghost use Rattle.ados_find.specs.Shared.{limits_of};
+ghost use Rattle.std.specs.{Prelude.{◌≡◌, Ok, Some, IfOk, OnOk}, Option.{option_copied}};
+ghost use Rattle.ados_machine.specs.{Opening.{output_at_target, line_output, output_of_redirection}, Course.{put}, Sinks.{To, sink_or}};
+ghost use Rattle.ados_find.specs.{declared.targets.Target.TheVariants.{At}, Shared.{limits_of}};
+ghost use Rattle.ados_ram.specs.{FileOperations.{put_open_fault, put_open_of}, Place.{key_of, last_name}};
 ghost use Rattle.ados_text.specs.Stop.{Answers};
-ghost use Rattle.ados_ram.specs.Place.{key_of, last_name};
 
 use crate::console::push_output;
 use crate::drafts::Draft;
@@ -67,8 +62,7 @@ impl Opened {
 }
 
 impl Draft {
-    ghost use Rattle.ados_shell.specs.Outputs.{HasHeld, HasOpened, HoldsFiles, IsOpened, IsPut};
-    ghost use Rattle.ados_shell.specs.Drafts.{course_of, here_in};
+    ghost use Rattle.ados_shell.specs.{Outputs.{HasHeld, HasOpened, HoldsFiles, IsOpened, IsPut}, Drafts.{course_of, here_in}};
 
     /// Opens what a redirection names, with the shell and the shared state as it is now.
     #[inline(always)]

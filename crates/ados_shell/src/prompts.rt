@@ -1,11 +1,8 @@
 // Prompts: a command that asks for its arguments.
-ghost use Rattle.std.specs.Prelude.{◌≡◌, ◌++◌, [], None, if◌then◌else◌, IfOk, OnOk, drop};
-ghost use Rattle.std.specs.Option.{option_copied, option_map};
+ghost use Rattle.std.specs.{Prelude.{◌≡◌, ◌++◌, [], None, if◌then◌else◌, IfOk, OnOk, drop}, Option.{option_copied, option_map}};
 ghost use Rattle.ados_find.specs.Targets.{target_of};
-ghost use Rattle.ados_machine.specs.Completions.{Waits};
-ghost use Rattle.ados_machine.specs.Lines.{answer_completion, asks_silently, builtin_completion, is_nil, is_nil_sink, prints_to_nil, prompt_completion, resumed_completion};
+ghost use Rattle.ados_machine.specs.{Completions.{Waits}, Lines.{answer_completion, asks_silently, builtin_completion, is_nil, is_nil_sink, prints_to_nil, prompt_completion, resumed_completion}, Prompts.{first_of, input_lines, prompt}};
 ghost use Rattle.ados_shell.specs.Stacks.{sink_of};
-ghost use Rattle.ados_machine.specs.Prompts.{first_of, input_lines, prompt};
 ghost use Rattle.ados_text.specs.Stop.{Gives};
 
 use crate::completions::Completion;
@@ -24,9 +21,7 @@ use ados_text::{NoMemory, Stop, Text, Texts};
 use std::alloc::Global;
 
 impl Draft {
-    ghost use Rattle.ados_shell.specs.Drafts.{IsUnset, IsApplied, course_of, here_in};
-    ghost use Rattle.ados_shell.specs.Completions.{HasEnded};
-    ghost use Rattle.ados_shell.specs.Inputs.{HasRead};
+    ghost use Rattle.ados_shell.specs.{Drafts.{IsUnset, IsApplied, course_of, here_in}, Completions.{HasEnded}, Inputs.{HasRead}};
 
     /// Runs a command: its input is read, if it has one, and its arguments are asked for if there is a `?` that asks.
     #[inline(always)]

@@ -1,6 +1,5 @@
 // Questions: what Ask does, and what a reply does.
-ghost use Rattle.std.specs.Prelude.{◌≡◌, ◌++◌, IfOk, OnOk};
-ghost use Rattle.std.specs.Option.{option_map};
+ghost use Rattle.std.specs.{Prelude.{◌≡◌, ◌++◌, IfOk, OnOk}, Option.{option_map}};
 ghost use Rattle.ados_machine.specs.Questions.{ask_completion, inquiry, question_completion, question_text, reply_completion};
 
 use crate::completions::Completion;
@@ -12,8 +11,7 @@ use ados_machine::{Asking, Question, Wait};
 use ados_text::{NoMemory, Stop, Text};
 
 impl Draft {
-    ghost use Rattle.ados_shell.specs.Completions.{HasEnded};
-    ghost use Rattle.ados_shell.specs.Drafts.{course_of};
+    ghost use Rattle.ados_shell.specs.{Completions.{HasEnded}, Drafts.{course_of}};
 
     /// Ask asks its input, and if it has none its shell waits.
     pub(crate) fn inquire(

@@ -1,6 +1,5 @@
 // What a command does: its output is opened, its row runs, and the draft holds what it made.
-ghost use Rattle.std.specs.Prelude.{◌≡◌, None, IfOk, OnOk};
-ghost use Rattle.std.specs.Option.{option_copied, option_map};
+ghost use Rattle.std.specs.{Prelude.{◌≡◌, None, IfOk, OnOk}, Option.{option_copied, option_map}};
 ghost use Rattle.ados_find.specs.Effects.{effect_of};
 ghost use Rattle.ados_flow.specs.Actions.{action_effect};
 ghost use Rattle.ados_machine.specs.Lines.{action_completion, action_in, busy_files, command_completion, shell_names, view_of, with_argument_devices};
@@ -19,12 +18,8 @@ use ados_resident::FlowCommand;
 use ados_text::{Name, NoMemory, Stop, Text, Texts};
 
 impl Draft {
-    ghost use Rattle.ados_shell.specs.Completions.{HasEnded};
-    ghost use Rattle.ados_shell.specs.Drafts.{IsUnset, course_of, here_in, parts_of};
-    ghost use Rattle.ados_shell.specs.Outputs.{IsPut, effect_put};
-    ghost use Rattle.ados_shell.specs.Views.{Serves, ServesInUse, ServesNames, ServesUses, shell_view};
+    ghost use Rattle.ados_shell.specs.{Completions.{HasEnded}, Drafts.{IsUnset, course_of, here_in, parts_of}, Outputs.{IsPut, effect_put}, Views.{Serves, ServesInUse, ServesNames, ServesUses, shell_view}, Uses.{HasUsed}};
     ghost use Rattle.ados_machine.specs.Course.{uses_of};
-    ghost use Rattle.ados_shell.specs.Uses.{HasUsed};
 
     /// Runs a command whose arguments are there: its output is opened, and its row runs. Its input has these lines, if there is one.
     #[inline(always)]
@@ -222,16 +217,11 @@ impl Draft {
 }
 
 impl ShellDraft {
-    ghost use Rattle.std.specs.Prelude.{◌++◌};
-    ghost use Rattle.std.specs.List.{flat_map};
+    ghost use Rattle.std.specs.{Prelude.{◌++◌}, List.{flat_map}};
     ghost use Rattle.ados_assign.specs.Uses.{reached_devices};
-    ghost use Rattle.ados_machine.specs.Uses.{devices_of};
+    ghost use Rattle.ados_machine.specs.{Uses.{devices_of}, Commands.{action_of}, Apply.{newest}};
     ghost use Rattle.ados_flow.specs.Frames.{script_line_of};
-    ghost use Rattle.ados_machine.specs.Commands.{action_of};
-    ghost use Rattle.ados_machine.specs.Apply.{newest};
-    ghost use Rattle.ados_shell.specs.Drafts.{drafted_shell};
-    ghost use Rattle.ados_shell.specs.Stacks.{drafted_frames};
-    ghost use Rattle.ados_shell.specs.Views.{shell_view};
+    ghost use Rattle.ados_shell.specs.{Drafts.{drafted_shell}, Stacks.{drafted_frames}, Views.{shell_view}};
 
     /// What is done by a command of the newest frame that sees this of the shells that run; its arguments are filled into those
     /// that are lent, and the devices that they use are pushed.

@@ -1,6 +1,5 @@
 // Run: it makes a shell for the commands of its text.
-ghost use Rattle.std.specs.Prelude.{◌≡◌, ◌≤◌, ◌-◌, ◌++◌, ◌∷◌, [], drop, IfOk, IfSome, OnOk};
-ghost use Rattle.std.specs.Option.{option_copied, option_map};
+ghost use Rattle.std.specs.{Prelude.{◌≡◌, ◌≤◌, ◌-◌, ◌++◌, ◌∷◌, [], drop, IfOk, IfSome, OnOk}, Option.{option_copied, option_map}};
 ghost use Rattle.ados_flow.specs.Gathering.{before_plus, run_gathering, run_limit};
 ghost use Rattle.ados_machine.specs.NewShells.{answered_put, console_run, gathered_completion, joined_completion, new_shell, run_at, run_completion, running_completion};
 ghost use Rattle.ados_shell.specs.Completions.{lines_left};
@@ -20,9 +19,7 @@ use ados_text::{NoMemory, Result2, Stop, Text, Texts};
 use std::alloc::Global;
 
 impl Draft {
-    ghost use Rattle.ados_shell.specs.Drafts.{HasBegun, IsUnset, IsApplied, course_of, here_in};
-    ghost use Rattle.ados_shell.specs.Completions.{HasEnded};
-    ghost use Rattle.ados_shell.specs.Outputs.{IsPut};
+    ghost use Rattle.ados_shell.specs.{Drafts.{HasBegun, IsUnset, IsApplied, course_of, here_in}, Completions.{HasEnded}, Outputs.{IsPut}};
 
     /// A Run: its input is read, although nothing takes it, and its text is run.
     pub(crate) fn run(&mut self, scene: &Scene, line: &Line) -> Result<Completion, Stop>

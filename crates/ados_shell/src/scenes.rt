@@ -1,7 +1,6 @@
 // What a turn sees, and what it may take.
 
-ghost use Rattle.std.specs.Prelude.{◌≡◌, ℕ, List};
-ghost use Rattle.std.specs.Option.{option_copied};
+ghost use Rattle.std.specs.{Prelude.{◌≡◌, ℕ, List}, Option.{option_copied}};
 ghost use Rattle.ados_machine.specs.World.{has_input};
 ghost use Rattle.ados_shell.specs.Turnings.{IsFirst, waiting_input};
 

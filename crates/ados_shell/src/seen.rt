@@ -1,16 +1,8 @@
 // What a turn knows of all shells.
-ghost use Rattle.std.specs.Prelude.{◌≡◌, ◌≤◌, ◌+◌, length, ◌++◌, ◌-◌, [], Some, map, reverse, IfOk, OnOk};
-ghost use Rattle.std.specs.List.{slice_set};
-ghost use Rattle.std.specs.Option.{option_copied};
+ghost use Rattle.std.specs.{Prelude.{◌≡◌, ◌≤◌, ◌+◌, length, ◌++◌, ◌-◌, [], Some, map, reverse, IfOk, OnOk}, List.{slice_set}, Option.{option_copied}};
 ghost use Rattle.ados_assign.specs.InUse.{busy_of};
-ghost use Rattle.ados_machine.specs.Course.{current_directories, outputs_of, uses_of, with_use};
-ghost use Rattle.ados_machine.specs.Shells.{seen_of};
-ghost use Rattle.ados_machine.specs.Sinks.{held_while, frame_outputs};
-ghost use Rattle.ados_machine.specs.Lines.{name_seen};
-ghost use Rattle.ados_machine.specs.Names.{innermost_name, waiting_word};
-ghost use Rattle.ados_machine.specs.Numbers.{first_free_number, free_number};
+ghost use Rattle.ados_machine.specs.{Course.{current_directories, outputs_of, uses_of, with_use}, Shells.{seen_of}, Sinks.{held_while, frame_outputs}, Lines.{name_seen}, Names.{innermost_name, waiting_word}, Numbers.{first_free_number, free_number}, World.{seen_shells}};
 ghost use Rattle.ados_find.specs.Targets.{open_places};
-ghost use Rattle.ados_machine.specs.World.{seen_shells};
 
 use crate::shells::Shell;
 use crate::suspensions::Suspension;

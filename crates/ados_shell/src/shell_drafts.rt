@@ -12,10 +12,8 @@ use ados_text::NoMemory;
 
 impl ShellDraft {
     ghost use Rattle.ados_find.specs.Changes.{parts_after_command, parts_by_change};
-    ghost use Rattle.ados_machine.specs.Shells.{ShellState};
-    ghost use Rattle.ados_shell.specs.Drafts.{IsUnchanged, drafted_shell, drafted_phase, with_codes};
-    ghost use Rattle.ados_machine.specs.Requests.{request_of};
-    ghost use Rattle.ados_shell.specs.Views.{shell_view};
+    ghost use Rattle.ados_machine.specs.{Shells.{ShellState}, Requests.{request_of}};
+    ghost use Rattle.ados_shell.specs.{Drafts.{IsUnchanged, drafted_shell, drafted_phase, with_codes}, Views.{shell_view}};
 
     /// A turn of a shell begins: nothing is changed yet, except that its flag is cleared.
     #[inline(always)]

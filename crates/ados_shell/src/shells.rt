@@ -1,9 +1,7 @@
 // A shell: its frames, what it waits for, its parts.
-ghost use Rattle.std.specs.Prelude.{◌≡◌, ◌∷◌, [], reverse, IfOk};
-ghost use Rattle.std.specs.Option.{option_copied};
+ghost use Rattle.std.specs.{Prelude.{◌≡◌, ◌∷◌, [], reverse, IfOk}, Option.{option_copied}};
 ghost use Rattle.ados_machine.specs.Shells.{begun_shell, phase_entry, fresh_shell};
-ghost use Rattle.ados_flow.specs.Frames.{new_frame, first_limit};
-ghost use Rattle.ados_flow.specs.declared.kinds.FrameKind.TheVariants.{RunCommands};
+ghost use Rattle.ados_flow.specs.{Frames.{new_frame, first_limit}, declared.kinds.FrameKind.TheVariants.{RunCommands}};
 
 use crate::begun::Begun;
 use crate::suspensions::Suspension;
@@ -54,11 +52,9 @@ impl Drop for Shell {
 }
 
 impl Model for Shell {
-    ghost use Rattle.std.specs.Prelude.{option_map, reverse};
-    ghost use Rattle.ados_machine.specs.Shells.{ShellState};
+    ghost use Rattle.std.specs.Prelude.{option_map, reverse, ◌≡◌};
+    ghost use Rattle.ados_machine.specs.{Shells.{ShellState}, Requests.{request_of}};
     ghost use Rattle.ados_shell.specs.Suspensions.{phase_of};
-    ghost use Rattle.ados_machine.specs.Requests.{request_of};
-    ghost use Rattle.std.specs.Prelude.{◌≡◌};
 
     ghost Value = { ShellState };
 
@@ -75,9 +71,7 @@ impl Model for Shell {
 }
 
 impl Shell {
-    ghost use Rattle.ados_machine.specs.Turning.{Input};
-    ghost use Rattle.ados_machine.specs.Requests.{request_of};
-    ghost use Rattle.ados_machine.specs.World.{can_take, has_frame, has_input, takes_input};
+    ghost use Rattle.ados_machine.specs.{Turning.{Input}, Requests.{request_of}, World.{can_take, has_frame, has_input, takes_input}};
     ghost use Rattle.ados_shell.specs.Asking.{asks_for_line};
 
     /// The shell with this number in which no command has returned yet, in the root.

@@ -1,11 +1,8 @@
 // The frames of a shell, as a turn changes them.
-ghost use Rattle.std.specs.Prelude.{◌≡◌, ◌∷◌, ◌++◌, List, length, nat_le, reverse, IfOk, OnOk};
-ghost use Rattle.std.specs.Option.{option_copied};
+ghost use Rattle.std.specs.{Prelude.{◌≡◌, ◌∷◌, ◌++◌, List, length, nat_le, reverse, IfOk, OnOk}, Option.{option_copied}};
 ghost use Rattle.ados_flow.specs.Frames.{FrameState, frame_limit, limit_above_frames};
-ghost use Rattle.ados_machine.specs.Shells.{ShellState};
-ghost use Rattle.ados_machine.specs.Sinks.{Console, newest_sink};
+ghost use Rattle.ados_machine.specs.{Shells.{ShellState}, Sinks.{Console, newest_sink}, Breaks.{has_script}};
 ghost use Rattle.ados_machine.specs.Sinks as machine;
-ghost use Rattle.ados_machine.specs.Breaks.{has_script};
 ghost use Rattle.ados_shell.specs.Stacks.{sink_above, sink_by_way, sink_of};
 
 use crate::shells::Shell;

@@ -1,7 +1,6 @@
 // What keeps a shell from taking its next line.
 ghost use Rattle.std.specs.Prelude.{◌≡◌, Some, IfOk};
-ghost use Rattle.ados_machine.specs.Breaks.{marked_in};
-ghost use Rattle.ados_machine.specs.Requests.{request_of};
+ghost use Rattle.ados_machine.specs.{Breaks.{marked_in}, Requests.{request_of}};
 ghost use Rattle.ados_shell.specs.Suspensions.{phase_of};
 
 use ados_machine::{Parted, Request, Wait};

@@ -1,12 +1,7 @@
 // Ticks: a line that has one waits for it, and goes on with its output.
-ghost use Rattle.std.specs.Prelude.{◌≡◌, ◌++◌, ◌∷◌, [], reverse, take, IfOk, OnOk};
-ghost use Rattle.ados_machine.specs.Course.{put, tick_limit};
-ghost use Rattle.std.specs.Prelude.{if◌then◌else◌};
+ghost use Rattle.std.specs.Prelude.{◌≡◌, ◌++◌, ◌∷◌, [], reverse, take, IfOk, OnOk, if◌then◌else◌};
+ghost use Rattle.ados_machine.specs.{Course.{put, tick_limit}, Completions.{Ticks, line_fault}, Lines.{parted_completion}, Apply.{rule_state_of, enter_tick}, Sinks.{Kept}};
 ghost use Rattle.ados_text.specs.declared.codes.TheConstants.Result2.{TOO_MANY_LEVELS};
-ghost use Rattle.ados_machine.specs.Completions.{Ticks, line_fault};
-ghost use Rattle.ados_machine.specs.Lines.{parted_completion};
-ghost use Rattle.ados_machine.specs.Apply.{rule_state_of, enter_tick};
-ghost use Rattle.ados_machine.specs.Sinks.{Kept};
 
 use crate::drafts::{Draft, ShellDraft};
 use crate::scenes::Scene;
@@ -23,8 +18,7 @@ use std::alloc::Global;
 const TICK_LIMIT: usize = 1024;
 
 impl Draft {
-    ghost use Rattle.ados_shell.specs.Drafts.{IsRuled, IsTicked, IsUnset, IsApplied, course_of, frames_of, here_in};
-    ghost use Rattle.ados_shell.specs.Outputs.{IsPut};
+    ghost use Rattle.ados_shell.specs.{Drafts.{IsRuled, IsTicked, IsUnset, IsApplied, course_of, frames_of, here_in}, Outputs.{IsPut}};
 
     /// A command substitution of a line begins: if there are as many frames as a shell may have, that is the line's fault.
     pub(crate) fn tick(&mut self, scene: &Scene, tick: Tick) -> Result<(), NoMemory>

@@ -1,11 +1,7 @@
 // A turn of a shell.
-ghost use Rattle.std.specs.Prelude.{◌≡◌, [], IfOk, OnErr, OnOk, OnSome};
-ghost use Rattle.std.specs.Option.{option_copied};
-ghost use Rattle.ados_machine.specs.Lines.{answer_completion, line_completion, parted_completion};
-ghost use Rattle.ados_machine.specs.NewShells.{gathered_completion, joined_completion};
-ghost use Rattle.ados_machine.specs.Apply.{here_of, turn_of_completion};
-ghost use Rattle.ados_shell.specs.Stacks.{NextLineFits};
-ghost use Rattle.ados_shell.specs.Turnings.{next_frame_line};
+ghost use Rattle.std.specs.{Prelude.{◌≡◌, [], IfOk, OnErr, OnOk, OnSome}, Option.{option_copied}};
+ghost use Rattle.ados_machine.specs.{Lines.{answer_completion, line_completion, parted_completion}, NewShells.{gathered_completion, joined_completion}, Apply.{here_of, turn_of_completion}};
+ghost use Rattle.ados_shell.specs.{Stacks.{NextLineFits}, Turnings.{next_frame_line}};
 
 use crate::drafts::Draft;
 use crate::scenes::{Input, Scene};
@@ -28,10 +24,8 @@ pub enum TurnKind {
 }
 
 impl Draft {
-    ghost use Rattle.ados_shell.specs.Drafts.{IsDrafted, turn_start};
-    ghost use Rattle.ados_machine.specs.Phases.{Ready, Waiting};
-    ghost use Rattle.ados_machine.specs.declared.phases.Wait.TheVariants.{ForAnswer, ForLines};
-    ghost use Rattle.ados_shell.specs.Turnings.{console_turning, GivesTurning, IsScriptDrafted, MayLackMemory, plain_turning, scene_turning};
+    ghost use Rattle.ados_shell.specs.{Drafts.{IsDrafted, turn_start}, Turnings.{console_turning, GivesTurning, IsScriptDrafted, MayLackMemory, plain_turning, scene_turning}};
+    ghost use Rattle.ados_machine.specs.{Phases.{Ready, Waiting}, declared.phases.Wait.TheVariants.{ForAnswer, ForLines}};
 
     /// A turn of the scene's shell: if it goes on, the draft is filled with what is to be changed. Nothing else is
     /// changed, and what the draft held before is forgotten.

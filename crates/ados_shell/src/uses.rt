@@ -1,9 +1,7 @@
 // The devices that an event uses; at its end the assigns of Defer among them are bound.
 ghost use Rattle.std.specs.Prelude.{◌≡◌, ◌∷◌, [], OnOk, codes};
-ghost use Rattle.ados_find.specs.Routes.{route_devices};
-ghost use Rattle.ados_find.specs.Devices.{device_named};
-ghost use Rattle.ados_machine.specs.Course.{with_devices_used, with_no_device_used};
-ghost use Rattle.ados_machine.specs.Lines.{with_variables};
+ghost use Rattle.ados_find.specs.{Routes.{route_devices}, Devices.{device_named}};
+ghost use Rattle.ados_machine.specs.{Course.{with_devices_used, with_no_device_used}, Lines.{with_variables}};
 
 use crate::drafts::Draft;
 use crate::scenes::Scene;
@@ -15,8 +13,7 @@ impl Draft {
     ghost use Rattle.std.specs.Prelude.{IfOk};
     ghost use Rattle.ados_find.specs.Parts.{locals_of};
     ghost use Rattle.ados_line.specs.Globals.{asks_global};
-    ghost use Rattle.ados_shell.specs.Drafts.{IsUnset, course_of, parts_of};
-    ghost use Rattle.ados_shell.specs.Uses.{HasBound, HasUsed, HasUsedBound};
+    ghost use Rattle.ados_shell.specs.{Drafts.{IsUnset, course_of, parts_of}, Uses.{HasBound, HasUsed, HasUsedBound}};
 
     /// The device of a path's text is used.
     #[tactic(auto, unfolding(ados_machine::specs::Uses::devices_reached))]

@@ -1,6 +1,5 @@
 // What the directives above a line say.
-ghost use Rattle.std.specs.Prelude.{◌≡◌};
-ghost use Rattle.std.specs.Option.{option_copied};
+ghost use Rattle.std.specs.{Prelude.{◌≡◌}, Option.{option_copied}};
 
 use crate::marks::Marks;
 use crate::slots::{Slot, Slots};

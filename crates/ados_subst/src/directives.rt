@@ -1,8 +1,7 @@
 // The directives of a script, and its comments.
 ghost use Rattle.std.specs.Prelude.{◌≡◌, IfOk};
 ghost use Rattle.ados_text.specs.Text.{IsText};
-ghost use Rattle.ados_subst.specs.Faults.{Gives};
-ghost use Rattle.ados_subst.specs.Directives.{default_of, default_result, directive_result, directive_named, is_remark, key_result, mark_named, mark_result, slots_of_template};
+ghost use Rattle.ados_subst.specs.{Faults.{Gives}, Directives.{default_of, default_result, directive_result, directive_named, is_remark, key_result, mark_named, mark_result, slots_of_template}};
 
 use crate::above::Above;
 use crate::faults::SubstFault;

@@ -1,7 +1,6 @@
 // Why a script has no lines, and the number of each fault.
 ghost use Rattle.std.specs.Prelude.{◌≡◌};
-ghost use Rattle.ados_subst.specs.Faults.{result2_of, args_fault};
-ghost use Rattle.ados_subst.specs.declared.faults.SubstFault.TheVariants.{NoMemory as OutOfMemory};
+ghost use Rattle.ados_subst.specs.{Faults.{result2_of, args_fault}, declared.faults.SubstFault.TheVariants.{NoMemory as OutOfMemory}};
 
 use ados_readargs::ArgFault;
 use ados_text::{NoMemory, Result2};

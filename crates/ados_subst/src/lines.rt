@@ -1,9 +1,7 @@
 // A line with its references replaced.
-ghost use Rattle.std.specs.Prelude.{◌≡◌, ◌<◌, ◌++◌, IfOk};
-ghost use Rattle.std.specs.List.{position_or_len};
+ghost use Rattle.std.specs.{Prelude.{◌≡◌, ◌<◌, ◌++◌, IfOk}, List.{position_or_len}};
 ghost use Rattle.ados_text.specs.Text.{IsText};
-ghost use Rattle.ados_subst.specs.References.{is_byte, reference_value};
-ghost use Rattle.ados_subst.specs.Lines.{first_segment, segment_tail_len, segment_text, substituted_line};
+ghost use Rattle.ados_subst.specs.{References.{is_byte, reference_value}, Lines.{first_segment, segment_tail_len, segment_text, substituted_line}};
 
 use crate::above::Above;
 use crate::next::{next_place, place_or_len};

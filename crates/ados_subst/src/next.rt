@@ -1,8 +1,6 @@
 // The next of certain bytes in a line.
-ghost use Rattle.std.specs.Prelude.{◌≡◌, ◌+◌, ◌<◌, ◌≤◌, length};
-ghost use Rattle.std.specs.List.{position_or_len};
-ghost use Rattle.ados_subst.specs.Next.{next_place};
-ghost use Rattle.ados_subst.specs.References.{is_byte};
+ghost use Rattle.std.specs.{Prelude.{◌≡◌, ◌+◌, ◌<◌, ◌≤◌, length}, List.{position_or_len}};
+ghost use Rattle.ados_subst.specs.{Next.{next_place}, References.{is_byte}};
 
 /// The place of the first such byte; if there is none, the text's length.
 pub fn place_or_len(byte: u8, text: &[u8]) -> usize

@@ -1,7 +1,5 @@
 // What a reference stands for.
-ghost use Rattle.std.specs.Prelude.{◌≡◌, IfSome};
-ghost use Rattle.std.specs.List.{position_or_len};
-ghost use Rattle.std.specs.Option.{option_copied};
+ghost use Rattle.std.specs.{Prelude.{◌≡◌, IfSome}, List.{position_or_len}, Option.{option_copied}};
 ghost use Rattle.ados_text.specs.Text.{IsText};
 ghost use Rattle.ados_subst.specs.References.{is_byte, reference_value};
 

@@ -1,12 +1,7 @@
 // The lines of a script, with its arguments substituted.
-ghost use Rattle.std.specs.Prelude.{◌≡◌, IfOk, IfSome};
-ghost use Rattle.std.specs.Fmt.{decimal};
-ghost use Rattle.std.specs.Option.{option_copied};
-ghost use Rattle.ados_text.specs.Lines.{lines_of};
-ghost use Rattle.ados_text.specs.Text.{IsText};
-ghost use Rattle.ados_subst.specs.Above.{initial_above};
-ghost use Rattle.ados_subst.specs.Faults.{Gives};
-ghost use Rattle.ados_subst.specs.Scripts.{ScriptBecomes, directive_text, is_dotted, substituted_lines, script_of};
+ghost use Rattle.std.specs.{Prelude.{◌≡◌, IfOk, IfSome}, Fmt.{decimal}, Option.{option_copied}};
+ghost use Rattle.ados_text.specs.{Lines.{lines_of}, Text.{IsText}};
+ghost use Rattle.ados_subst.specs.{Above.{initial_above}, Faults.{Gives}, Scripts.{ScriptBecomes, directive_text, is_dotted, substituted_lines, script_of}};
 
 use crate::above::Above;
 use crate::directives::directed;

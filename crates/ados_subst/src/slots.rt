@@ -1,7 +1,5 @@
 // The options of a script's template, and their values.
-ghost use Rattle.std.specs.Prelude.{◌≡◌, position, IfOk};
-ghost use Rattle.std.specs.List.{join_with_byte};
-ghost use Rattle.std.specs.Option.{option_copied};
+ghost use Rattle.std.specs.{Prelude.{◌≡◌, position, IfOk}, List.{join_with_byte}, Option.{option_copied}};
 ghost use Rattle.ados_text.specs.Text.{IsText};
 ghost use Rattle.ados_readargs.specs.Template.{options_of};
 ghost use Rattle.ados_subst.specs.Slots.{with_default, given_text, is_named, new_slot, slots_of};

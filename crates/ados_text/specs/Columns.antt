@@ -9,3 +9,7 @@ left_aligned_text width text = text ++ replicate (width - length text) 32
 
 abbrev pub right_aligned_text : ℕ → Bytes → Bytes
 right_aligned_text width text = replicate (width - length text) 32 ++ text
+
+-- digits at the right, with zeros before them
+abbrev pub zero_padded_text : ℕ → Bytes → Bytes
+zero_padded_text width text = replicate (width - length text) 48 ++ text

@@ -1,6 +1,5 @@
 // A list that contracts see as its elements.
-ghost use Rattle.std.specs.Prelude.{◌≡◌, ◌++◌, [], ◌∷◌, length, slice_get, OnOk, OnErr};
-ghost use Rattle.std.specs.Option.{option_copied};
+ghost use Rattle.std.specs.{Prelude.{◌≡◌, ◌++◌, [], ◌∷◌, length, slice_get, OnOk, OnErr}, Option.{option_copied}};
 
 use crate::errors::NoMemory;
 use std::alloc::Global;
@@ -13,8 +12,7 @@ pub struct Items<T> {
 }
 
 impl<T> Model for Items<T> {
-    ghost use Rattle.std.specs.Prelude.{List};
-    ghost use Rattle.std.specs.Coded.{coded_list};
+    ghost use Rattle.std.specs.{Prelude.{List}, Coded.{coded_list}};
 
     ghost Value = { List T };
 

@@ -1,11 +1,9 @@
 -- A list of names begins with those of a directory just where the place is at or below it.
-use Rattle.std.proofs.Common.{ℕ, ◌≡◌, ◌∙◌, List, [], ◌∷◌, Bool, true, false, cond, ◌&&◌, take, length, ap, refl, Option, None}
+use Rattle.std.proofs.Common.{ℕ, ◌≡◌, List, [], ◌∷◌, Bool, true, false, cond, ◌&&◌, refl, Option, None}
 use Rattle.std.specs.List.{starts_with}
-use Rattle.std.specs.Ordering.{is_eq}
 use Rattle.std.specs.Option.{is_some}
-use Rattle.ados_text.specs.Text.{folded_text, is_same}
-use Rattle.ados_text.specs.Name.{name_cmp}
-use Rattle.ados_ram.specs.Place.{Key, is_at_or_below, key_of, key_suffix}
+use Rattle.ados_text.specs.Text.{is_same}
+use Rattle.ados_ram.specs.Place.{Key, is_at_or_below, key_of}
 use Rattle.ados_text.proofs.NameLemmas.{alike}
 
 step : (same : Bool) (begins : Bool) (way : Option Key) → begins ≡ is_some way → (same && begins) ≡ is_some (cond same way None)

@@ -1,6 +1,5 @@
 //! Which of the names of a folder are shared.
-ghost use Rattle.std.specs.Prelude.{◌≡◌};
-ghost use Rattle.std.specs.Option.{option_copied};
+ghost use Rattle.std.specs.{Prelude.{◌≡◌}, Option.{option_copied}};
 ghost use Rattle.ados_transfer.specs.Choice.{is_alike, is_chosen, is_known};
 
 use crate::records::{Record, Records};

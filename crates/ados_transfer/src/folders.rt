@@ -1,7 +1,5 @@
 //! What is in the folders of a share.
-ghost use Rattle.std.specs.Prelude.{◌≡◌};
-ghost use Rattle.std.specs.List.{list_any};
-ghost use Rattle.std.specs.Option.{option_copied};
+ghost use Rattle.std.specs.{Prelude.{◌≡◌}, List.{list_any}, Option.{option_copied}};
 ghost use Rattle.ados_transfer.specs.Folders.{hides, is_descendant, is_some_slash};
 
 use crate::below::Below;

@@ -1,8 +1,6 @@
 //! What of the folders of a share is left alone, and why.
-ghost use Rattle.std.specs.Prelude.{◌≡◌};
-ghost use Rattle.std.specs.List.{list_any};
-ghost use Rattle.ados_transfer.specs.Folders.{is_whole};
-ghost use Rattle.ados_transfer.specs.LeftAlone.{is_left_out, obstacle_of};
+ghost use Rattle.std.specs.{Prelude.{◌≡◌}, List.{list_any}};
+ghost use Rattle.ados_transfer.specs.{Folders.{is_whole}, LeftAlone.{is_left_out, obstacle_of}};
 
 use crate::folders::Look;
 

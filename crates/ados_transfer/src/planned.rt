@@ -1,7 +1,5 @@
 //! Files and directories that are to be in the Shell's files when the script begins.
-ghost use Rattle.std.specs.Prelude.{◌≡◌};
-ghost use Rattle.std.specs.List.{list_all};
-ghost use Rattle.std.specs.Option.{option_copied};
+ghost use Rattle.std.specs.{Prelude.{◌≡◌}, List.{list_all}, Option.{option_copied}};
 ghost use Rattle.ados_transfer.specs.Planned.{is_as_planned, holds_content, holds_file};
 
 use ados_ram::{Body, Entry, FileBytes, Place, Ram};

@@ -1,9 +1,6 @@
 //! What was alike on both sides of a share at the last comparison.
-ghost use Rattle.std.specs.Prelude.{◌≡◌, not};
-ghost use Rattle.std.specs.Option.{is_some, option_copied};
-ghost use Rattle.ados_transfer.specs.Decisions.{is_absent};
-ghost use Rattle.ados_transfer.specs.Records.{is_kept};
-ghost use Rattle.ados_transfer.specs.StandIns.{own_entry};
+ghost use Rattle.std.specs.{Prelude.{◌≡◌, not}, Option.{is_some, option_copied}};
+ghost use Rattle.ados_transfer.specs.{Decisions.{is_absent}, Records.{is_kept}, StandIns.{own_entry}};
 
 use crate::decision::State;
 use crate::stamps::Stamp;

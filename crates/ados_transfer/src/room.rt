@@ -1,9 +1,7 @@
 //! What there is still room for in the Shell's files.
-ghost use Rattle.std.specs.Prelude.{◌≡◌, ◌+◌, ◌-◌, ◌^◌, [], IfOk, if◌then◌else◌, length, min, nat_lt};
+ghost use Rattle.std.specs.{Prelude.{◌≡◌, ◌+◌, ◌-◌, ◌^◌, [], IfOk, if◌then◌else◌, length, min, nat_lt}, Option.{is_some, option_copied}};
 ghost use Rattle.std.specs.FinMap as map;
-ghost use Rattle.std.specs.Option.{is_some, option_copied};
-ghost use Rattle.ados_ram.specs.Contents.{contents};
-ghost use Rattle.ados_ram.specs.Limits.{objects_limit};
+ghost use Rattle.ados_ram.specs.{Contents.{contents}, Limits.{objects_limit}};
 ghost use Rattle.ados_transfer.specs.Room.{has_room_for, size_there};
 
 use ados_ram::{Entry, Limits, Place, Ram};

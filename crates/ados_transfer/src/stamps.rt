@@ -1,8 +1,6 @@
 //! Stamps of files of this machine, by which a change of one is noticed.
-ghost use Rattle.std.specs.Prelude.{◌≡◌, nat_le};
-ghost use Rattle.std.specs.Time.{system_time_nanos};
-ghost use Rattle.ados_transfer.specs.Decisions.{is_same_time, is_same_stamp};
-ghost use Rattle.ados_transfer.specs.Stamps.{is_same_file, last_nanos, time_nanos};
+ghost use Rattle.std.specs.{Prelude.{◌≡◌, nat_le}, Time.{system_time_nanos}};
+ghost use Rattle.ados_transfer.specs.{Decisions.{is_same_time, is_same_stamp}, Stamps.{is_same_file, last_nanos, time_nanos}};
 
 use std::fs::Metadata;
 use std::os::unix::fs::MetadataExt;

@@ -1,6 +1,5 @@
 //! Stand-ins: empty files of the Shell in place of files of this machine that are too large for it.
-ghost use Rattle.std.specs.Prelude.{◌≡◌, ◌&&◌, not};
-ghost use Rattle.std.specs.Option.{option_copied};
+ghost use Rattle.std.specs.{Prelude.{◌≡◌}, Option.{option_copied}};
 ghost use Rattle.ados_transfer.specs.StandIns.{is_empty_file, is_stand_in, is_stand_in_of, own_entry};
 
 use crate::within::is_substring;

@@ -3,8 +3,7 @@
 //!
 //! One path names an object among all of them. If there are several volumes its first step is the label of one, as in `1:/src/x`, and
 //! otherwise there is no such step; what follows leads down from the folder. A key is such a path in lower case.
-ghost use Rattle.std.specs.Prelude.{◌≡◌, IfOk, IfSome, string_bytes};
-ghost use Rattle.std.specs.List.{Contains};
+ghost use Rattle.std.specs.{Prelude.{◌≡◌, IfOk, IfSome, string_bytes}, List.{Contains}};
 ghost use Rattle.ados_ram.specs.Place.{is_at_or_below, key_of};
 ghost use Rattle.ados_transfer.specs.Volumes.{Follows, real_path};
 

@@ -1,6 +1,5 @@
 //! Texts as words of a typed line.
-ghost use Rattle.std.specs.Prelude.{◌≡◌, ◌<◌, ◌++◌, ◌∷◌, [], List, ℕ, length, true, false, OnOk, if◌then◌else◌};
-ghost use Rattle.std.specs.List.{list_all};
+ghost use Rattle.std.specs.{Prelude.{◌≡◌, ◌<◌, ◌++◌, ◌∷◌, [], List, ℕ, length, true, false, OnOk, if◌then◌else◌}, List.{list_all}};
 ghost use Rattle.ados_text.specs.Text.{IsText};
 ghost use Rattle.ados_transfer.specs.Words.{equal_signs, escaped_byte, has_plain_ends, quoted_body, needs_no_quotes, is_first_sign, is_literal_byte, needs_star, quoted_word, word_of, IsApart, ReadsAs};
 

@@ -1,6 +1,5 @@
 // Global variables: each is a file of ENV:.
-ghost use Rattle.std.specs.Prelude.{◌≡◌, IfOk};
-ghost use Rattle.std.specs.Option.{option_copied};
+ghost use Rattle.std.specs.{Prelude.{◌≡◌, IfOk}, Option.{option_copied}};
 ghost use Rattle.ados_ram.specs.Entry.{bytes_or_none};
 ghost use Rattle.ados_text.specs.Lines.{first_line};
 ghost use Rattle.ados_vars.specs.Global.{value_of, global_of};

@@ -1,9 +1,7 @@
 // The local variables of a shell.
-ghost use Rattle.std.specs.Prelude.{◌≡◌, true, None, IfOk, OnOk, OnErr};
-ghost use Rattle.std.specs.List.{filter};
+ghost use Rattle.std.specs.{Prelude.{◌≡◌, true, None, IfOk, OnOk, OnErr}, List.{filter}};
 ghost use Rattle.ados_text.specs.Text.{IsText};
-ghost use Rattle.ados_vars.specs.Vars.{AreDistinct, set_all, set_pair, value_in};
-ghost use Rattle.ados_vars.specs.Locals.{copied_pairs, is_of_codes, is_other, is_own, own_pairs, shown_pairs, unset_pair, with_codes};
+ghost use Rattle.ados_vars.specs.{Vars.{AreDistinct, set_all, set_pair, value_in}, Locals.{copied_pairs, is_of_codes, is_other, is_own, own_pairs, shown_pairs, unset_pair, with_codes}};
 
 use crate::vars::Vars;
 use ados_text::{Code, Name, NoMemory, Result2, Text};

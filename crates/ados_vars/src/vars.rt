@@ -1,6 +1,5 @@
 // Names with their values, in the order in which they were first set.
-ghost use Rattle.std.specs.Prelude.{◌≡◌, [], None, option_map, IfOk, OnOk, OnErr};
-ghost use Rattle.std.specs.Option.{option_copied};
+ghost use Rattle.std.specs.{Prelude.{◌≡◌, [], None, option_map, IfOk, OnOk, OnErr}, Option.{option_copied}};
 ghost use Rattle.ados_vars.specs.Vars.{AreDistinct, first_spelling, set_pair, value_in, remove_pair};
 
 use ados_text::{Name, NoMemory, Text};

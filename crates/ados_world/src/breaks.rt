@@ -1,8 +1,6 @@
 // Breaks of shells.
-ghost use Rattle.std.specs.Prelude.{◌≡◌, ◌<◌, ◌≤◌};
-ghost use Rattle.std.specs.List.{slice_get, slice_set};
-ghost use Rattle.ados_machine.specs.Breaks.{kind_breaks, broken_number, broken_place};
-ghost use Rattle.ados_machine.specs.World.{option_flatten};
+ghost use Rattle.std.specs.{Prelude.{◌≡◌, ◌<◌, ◌≤◌}, List.{slice_get, slice_set}};
+ghost use Rattle.ados_machine.specs.{Breaks.{kind_breaks, broken_number, broken_place}, World.{option_flatten}};
 ghost use Rattle.ados_world.specs.Breaks.{shells_with_broken};
 
 use crate::table::ShellTable;

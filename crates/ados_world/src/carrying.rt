@@ -1,8 +1,6 @@
 // Carrying: the current directories of all shells move with the objects that were moved.
-ghost use Rattle.std.specs.Prelude.{◌≡◌, IfOk, None, option_map, replicate};
-ghost use Rattle.std.specs.Option.{option_copied};
-ghost use Rattle.ados_find.specs.Renames.{renames_in};
-ghost use Rattle.ados_find.specs.Shared.{version};
+ghost use Rattle.std.specs.{Prelude.{◌≡◌, IfOk, None, option_map, replicate}, Option.{option_copied}};
+ghost use Rattle.ados_find.specs.{Renames.{renames_in}, Shared.{version}};
 ghost use Rattle.ados_machine.specs.Carrying.{carried_directory, has_moved, moved_objects};
 ghost use Rattle.ados_world.specs.Shells.{placed_shells, carried_directories, placed_shell};
 

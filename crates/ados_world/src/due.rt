@@ -1,9 +1,7 @@
 // Which shells are due, as two words with a bit for each number.
-ghost use Rattle.std.specs.Prelude.{◌≡◌, ◌≢◌, ◌≤◌, ℕ, false, IfSome};
-ghost use Rattle.std.specs.Option.{option_copied};
+ghost use Rattle.std.specs.{Prelude.{◌≡◌, ◌≢◌, ◌≤◌, ℕ, false, IfSome}, Option.{option_copied}};
 ghost use Rattle.ados_machine.specs.World.{at_number, option_flatten};
-ghost use Rattle.ados_world.specs.Due.{asks_now, first_number, is_set, takes_turns};
-ghost use Rattle.ados_world.specs.Shells.{IsShellNumber};
+ghost use Rattle.ados_world.specs.{Due.{asks_now, first_number, is_set, takes_turns}, Shells.{IsShellNumber}};
 
 use crate::shells::find_shell;
 use ados_shell::Shell;

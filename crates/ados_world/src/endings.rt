@@ -1,9 +1,7 @@
 // The ends of shells.
-ghost use Rattle.std.specs.Prelude.{◌≡◌, ◌-◌, None};
-ghost use Rattle.std.specs.List.{slice_set};
+ghost use Rattle.std.specs.{Prelude.{◌≡◌, ◌-◌, None}, List.{slice_set}};
 ghost use Rattle.ados_machine.specs.World.{option_flatten, at_number};
-ghost use Rattle.ados_world.specs.Endings.{final_codes, recorded_codes, remaining_shells};
-ghost use Rattle.ados_world.specs.Shells.{IsShellNumber};
+ghost use Rattle.ados_world.specs.{Endings.{final_codes, recorded_codes, remaining_shells}, Shells.{IsShellNumber}};
 
 use crate::shells::find_shell;
 use crate::table::ShellTable;

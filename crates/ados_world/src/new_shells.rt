@@ -1,8 +1,7 @@
 // The shell that a turn makes, and its number.
 ghost use Rattle.std.specs.Prelude.{◌≡◌, IfOk, IfSome, option_map};
 ghost use Rattle.ados_machine.specs.Numbers.{free_number};
-ghost use Rattle.ados_world.specs.NewShells.{joined_shells, new_shell};
-ghost use Rattle.ados_world.specs.Shells.{IsShellNumber};
+ghost use Rattle.ados_world.specs.{NewShells.{joined_shells, new_shell}, Shells.{IsShellNumber}};
 
 use crate::table::ShellTable;
 use ados_shell::{Begun, Shell, free_number};

@@ -1,13 +1,7 @@
 // Shells that are opened for a line of their own.
-ghost use Rattle.std.specs.Prelude.{◌≡◌, ◌≤◌, ◌∷◌, ◌-◌, ℕ, List, [], length, IfOk, IfSome, Some};
-ghost use Rattle.std.specs.List.{slice_set};
-ghost use Rattle.ados_machine.specs.FrameEnds.{IsSane};
-ghost use Rattle.ados_machine.specs.Numbers.{free_number};
-ghost use Rattle.ados_machine.specs.declared.answers.Answer.{Answer};
-ghost use Rattle.ados_machine.specs.LoneReports.{TellsReports, collect_reports};
-ghost use Rattle.ados_machine.specs.LoneShell.{opened_shell, whole};
-ghost use Rattle.ados_world.specs.Opened.{Refuses, world_after_opening, opening_fault};
-ghost use Rattle.ados_world.specs.Shells.{IsShellNumber};
+ghost use Rattle.std.specs.{Prelude.{◌≡◌, ◌≤◌, ◌∷◌, ◌-◌, ℕ, List, [], length, IfOk, IfSome, Some}, List.{slice_set}};
+ghost use Rattle.ados_machine.specs.{FrameEnds.{IsSane}, Numbers.{free_number}, declared.answers.Answer.{Answer}, LoneReports.{TellsReports, collect_reports}, LoneShell.{opened_shell, whole}};
+ghost use Rattle.ados_world.specs.{Opened.{Refuses, world_after_opening, opening_fault}, Shells.{IsShellNumber}};
 
 use crate::new_shells::next_number;
 use crate::worlds::World;

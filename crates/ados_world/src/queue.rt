@@ -1,10 +1,6 @@
 // The typed lines that wait for shell 1.
-ghost use Rattle.std.specs.Prelude.{◌≡◌, [], IfErr, OnErr, OnOk};
-ghost use Rattle.std.specs.Option.{option_copied};
-ghost use Rattle.ados_machine.specs.World.{has_input, input_of};
-ghost use Rattle.ados_machine.specs.Step.{Accepted, Refused, typing_response, end_of_input, event_out};
-ghost use Rattle.ados_machine.specs.Runs.{IsResponse, resulting_world};
-ghost use Rattle.ados_machine.specs.declared.refusals.Refusal.TheVariants.{NoMemory};
+ghost use Rattle.std.specs.{Prelude.{◌≡◌, [], IfErr, OnErr, OnOk}, Option.{option_copied}};
+ghost use Rattle.ados_machine.specs.{World.{has_input, input_of}, Step.{Accepted, Refused, typing_response, end_of_input, event_out}, Runs.{IsResponse, resulting_world}, declared.refusals.Refusal.TheVariants.{NoMemory}};
 ghost use Rattle.ados_shell.specs.Turnings.{IsFirst};
 ghost use Rattle.ados_world.specs.Steps.{step_result, with_queued_line};
 

@@ -1,15 +1,6 @@
 // Runs: a list of events, one after another.
 ghost use Rattle.std.specs.Prelude.{◌≡◌, ℕ, ◌++◌, IfOk, IfErr};
-ghost use Rattle.ados_machine.specs.Early.{EndsEarlyAtFirst, GivesBack, OfEachFrameIn};
-ghost use Rattle.ados_machine.specs.Given.{all_lines_taken, all_lines_typed};
-ghost use Rattle.ados_machine.specs.Kept.{codes_after_trace};
-ghost use Rattle.ados_machine.specs.Runs.{Runs};
-ghost use Rattle.ados_machine.specs.FrameEnds.{LimitsHold, ReportsHold};
-ghost use Rattle.ados_machine.specs.Reports.{reports_of_trace, shell_stack};
-ghost use Rattle.ados_machine.specs.Stacks.{FramesHold};
-ghost use Rattle.ados_machine.specs.Trace.{own, all_reports, trace};
-ghost use Rattle.ados_machine.specs.World.{codes_at};
-ghost use Rattle.ados_machine.specs.Starts.{FailedStartsLeaveNothingIn};
+ghost use Rattle.ados_machine.specs.{Early.{EndsEarlyAtFirst, GivesBack, OfEachFrameIn}, Given.{all_lines_taken, all_lines_typed}, Kept.{codes_after_trace}, Runs.{Runs}, FrameEnds.{LimitsHold, ReportsHold}, Reports.{reports_of_trace, shell_stack}, Stacks.{FramesHold}, Trace.{own, all_reports, trace}, World.{codes_at}, Starts.{FailedStartsLeaveNothingIn}};
 ghost use Rattle.ados_world.specs.Laws.{BreaksEndScriptsIn, QuietShellsAreInvisibleIn};
 
 use crate::worlds::World;

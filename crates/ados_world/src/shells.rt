@@ -1,7 +1,5 @@
 // The shells of a world, by their numbers.
-ghost use Rattle.std.specs.Prelude.{◌≡◌, None, map, length, replicate, is_some, OnErr, OnOk, OnSome, true};
-ghost use Rattle.std.specs.List.{filter, list_any};
-ghost use Rattle.std.specs.Option.{option_copied};
+ghost use Rattle.std.specs.{Prelude.{◌≡◌, None, map, length, replicate, is_some, OnErr, OnOk, OnSome, true}, List.{filter, list_any}, Option.{option_copied}};
 ghost use Rattle.ados_machine.specs.World.{option_flatten, at_number};
 ghost use Rattle.ados_world.specs.Shells.{IsShellNumber, updated_carried_shells, is_entry, runs_from, shells_after_draft};
 

@@ -1,20 +1,9 @@
 // The step: what an event makes of a world.
 ghost use Rattle.std.specs.Prelude.{◌≡◌, ℕ, [], drop, false, IfErr, IfOk, OnErr, OnOk, is_some, true};
-ghost use Rattle.ados_machine.specs.Given.{request_after_event};
-ghost use Rattle.ados_machine.specs.InUse.{has_request, resident_name_of, outputs_held, runs_program};
-ghost use Rattle.ados_machine.specs.Laws.{finds_flag};
-ghost use Rattle.ados_machine.specs.FrameEnds.{IsSane};
-ghost use Rattle.ados_machine.specs.World.{at_number, is_over, numbered_shell, option_flatten};
-ghost use Rattle.ados_machine.specs.Step.{step_of, turn_response, answer_response, break_response, event_out, queue_after_event};
-ghost use Rattle.ados_machine.specs.Runs.{IsResponse, resulting_world};
-ghost use Rattle.ados_machine.specs.declared.refusals.Refusal.TheVariants.{NoMemory as OutOfMemory};
+ghost use Rattle.ados_machine.specs.{Given.{request_after_event}, InUse.{has_request, resident_name_of, outputs_held, runs_program}, Laws.{finds_flag}, FrameEnds.{IsSane}, World.{at_number, is_over, numbered_shell, option_flatten}, Step.{step_of, turn_response, answer_response, break_response, event_out, queue_after_event}, Runs.{IsResponse, resulting_world}, declared.refusals.Refusal.TheVariants.{NoMemory as OutOfMemory}, Starts.{FailedStart}};
 ghost use Rattle.ados_find.specs.Shared.{version};
 ghost use Rattle.ados_shell.specs.Drafts.{out_of};
-ghost use Rattle.ados_world.specs.Binding.{BindsOnlyWhatItUsed};
-ghost use Rattle.ados_machine.specs.Starts.{FailedStart};
-ghost use Rattle.ados_world.specs.Laws.{reports_break};
-ghost use Rattle.ados_world.specs.Shells.{IsShellNumber};
-ghost use Rattle.ados_world.specs.Steps.{begun_shells, step_result, draft_out, ended_world, world_after_turn};
+ghost use Rattle.ados_world.specs.{Binding.{BindsOnlyWhatItUsed}, Laws.{reports_break}, Shells.{IsShellNumber}, Steps.{begun_shells, step_result, draft_out, ended_world, world_after_turn}};
 
 use crate::breaks::{break_other, kind_breaks};
 use crate::carrying::moved_by;

@@ -1,10 +1,7 @@
 // The table of the shells, and the machine words that say which of them are due.
-ghost use Rattle.std.specs.Prelude.{◌≡◌, ◌∷◌, ◌-◌, ◌≤◌, None, Some, replicate, IfSome, OnErr, OnOk};
-ghost use Rattle.std.specs.List.{slice_set};
-ghost use Rattle.ados_machine.specs.Breaks.{broken_number};
-ghost use Rattle.ados_machine.specs.World.{at_number, option_flatten};
-ghost use Rattle.ados_world.specs.Due.{asks_now, first_number, takes_turns};
-ghost use Rattle.ados_world.specs.Shells.{IsShellNumber, placed_shells, updated_shells};
+ghost use Rattle.std.specs.{Prelude.{◌≡◌, ◌∷◌, ◌-◌, ◌≤◌, None, Some, replicate, IfSome, OnErr, OnOk}, List.{slice_set}};
+ghost use Rattle.ados_machine.specs.{Breaks.{broken_number}, World.{at_number, option_flatten}};
+ghost use Rattle.ados_world.specs.{Due.{asks_now, first_number, takes_turns}, Shells.{IsShellNumber, placed_shells, updated_shells}};
 
 use crate::breaks::break_number;
 use crate::carrying::place_all;

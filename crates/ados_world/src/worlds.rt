@@ -1,16 +1,8 @@
 // A world, and what it shows.
-ghost use Rattle.std.specs.Prelude.{◌≡◌, ◌≤◌, Some, IfOk, IfSome, OnSome};
-ghost use Rattle.std.specs.Option.{option_copied};
-ghost use Rattle.ados_world.specs.Due.{first_number};
-ghost use Rattle.ados_world.specs.Hosts.{IsMadeUnless, hosts_fault};
-ghost use Rattle.ados_world.specs.Scenes.{Shows};
-ghost use Rattle.ados_world.specs.Shells.{IsShellNumber};
+ghost use Rattle.std.specs.{Prelude.{◌≡◌, ◌≤◌, Some, IfOk, IfSome, OnSome}, Option.{option_copied}};
+ghost use Rattle.ados_world.specs.{Due.{first_number}, Hosts.{IsMadeUnless, hosts_fault}, Scenes.{Shows}, Shells.{IsShellNumber}};
 ghost use Rattle.ados_resident.specs.declared.dialects.Dialect.TheVariants.{Core};
-ghost use Rattle.ados_machine.specs.Children.{child_in};
-ghost use Rattle.ados_machine.specs.InUse.{has_request};
-ghost use Rattle.ados_machine.specs.FrameEnds.{IsSane};
-ghost use Rattle.ados_machine.specs.Starts.{use_count};
-ghost use Rattle.ados_machine.specs.World.{fresh_world, numbered_shell, is_over, is_ready, wants_line, codes_at, left_codes, running_numbers, pending_of};
+ghost use Rattle.ados_machine.specs.{Children.{child_in}, InUse.{has_request}, FrameEnds.{IsSane}, Starts.{use_count}, World.{fresh_world, numbered_shell, is_over, is_ready, wants_line, codes_at, left_codes, running_numbers, pending_of}};
 
 use crate::hosts::{NewFault, hosts_fault};
 use crate::shells::{any_runs, count_uses, find_shell, taken};
@@ -39,8 +31,7 @@ pub struct World {
 }
 
 impl Model for World {
-    ghost use Rattle.ados_machine.specs.World.{WorldState};
-    ghost use Rattle.ados_machine.specs.FrameEnds.{IsSane};
+    ghost use Rattle.ados_machine.specs.{World.{WorldState}, FrameEnds.{IsSane}};
     ghost use Rattle.std.specs.Coded.{codes};
     ghost use Rattle.ados_ram.specs.Files.{coded_files};
     ghost use Rattle.ados_assign.specs.Assigns.{coded_assigns};

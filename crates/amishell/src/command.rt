@@ -1,10 +1,6 @@
 //! The program's command line, in `clap`'s words.
 ghost use Rattle.std.specs.Prelude.{◌≡◌, map, false, IfOk};
-ghost use Rattle.clap.specs.Walk.{rule_of};
-ghost use Rattle.clap.specs.Simple.{app_of, subcommand_of, subcommand_rows_of};
-ghost use Rattle.clap.specs.Kinds.{FailsBy};
-ghost use Rattle.clap.specs.Faults.{fault_of};
-ghost use Rattle.clap.specs.declared.builder.command.Command.TheViews.{out-Command as fields_of};
+ghost use Rattle.clap.specs.{Walk.{rule_of}, Simple.{app_of, subcommand_of, subcommand_rows_of}, Kinds.{FailsBy}, Faults.{fault_of}, declared.builder.command.Command.TheViews.{out-Command as fields_of}};
 ghost use Rattle.amishell.specs.Command.{run_app, replay_app, bare_app, amishell, option_rule, flag_rule};
 
 use ados_session::VERSION;

@@ -1,11 +1,7 @@
 //! What the words after the program's name ask for.
 ghost use Rattle.std.specs.Prelude.{◌≡◌, [], map, IfOk, IfErr, IfSome, IfNone, MatchResult, option_map, Some, None, ℕ, codes, false};
-ghost use Rattle.clap.specs.Walk.{first_of, rows_of};
-ghost use Rattle.clap.specs.Matches.{found_of};
-ghost use Rattle.clap.specs.Simple.{subcommand_rows_of};
-ghost use Rattle.clap.specs.Values.{kind_of};
+ghost use Rattle.clap.specs.{Walk.{first_of, rows_of}, Matches.{found_of}, Simple.{subcommand_rows_of}, Values.{kind_of}, declared.error.kind.ErrorKind.{ErrorKind}};
 ghost use Rattle.ados_resident.specs.declared.dialects.Dialect.TheVariants.{Core};
-ghost use Rattle.clap.specs.declared.error.kind.ErrorKind.{ErrorKind};
 ghost use Rattle.amishell.specs.Asked.{AreTurns, AsksFor, AsksNothing, IsAsked, IsInRange, IsRefusal, IsRefusalOf, IsRequest, dialect_by, is_given};
 
 use crate::command::matches_of_words;

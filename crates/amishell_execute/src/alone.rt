@@ -1,7 +1,6 @@
 //! Lines that run alone: those that bring in what is in a shared folder.
 ghost use Rattle.std.specs.Prelude.{◌≡◌, IsOk, OnOk};
-ghost use Rattle.ados_launch.specs.Agreement.{Agrees, IsOpenTable};
-ghost use Rattle.ados_launch.specs.Deeds.{RunsLines};
+ghost use Rattle.ados_launch.specs.{Agreement.{Agrees, IsOpenTable}, Deeds.{RunsLines}};
 
 use crate::faults::Fault;
 use ados_launch::{Launcher, Session, SystemEnd, SystemFault, system};

@@ -1,10 +1,8 @@
 //! Between two events of a run: what comes before the next, and what follows the last.
 
 ghost use Rattle.std.specs.Prelude.{◌≡◌, ◌<◌, ◌^◌, ◌-◌, true, None, is_none, IfErr, OnOk};
-ghost use Rattle.ados_launch.specs.Agreement.{Agrees, IsOpenTable};
-ghost use Rattle.ados_launch.specs.Deeds.{RunsLines};
-ghost use Rattle.amishell_execute.specs.Between.{EndsGathering, GathersOn, writer_view};
-ghost use Rattle.amishell_execute.specs.Playing.{drive_fault_of};
+ghost use Rattle.ados_launch.specs.{Agreement.{Agrees, IsOpenTable}, Deeds.{RunsLines}};
+ghost use Rattle.amishell_execute.specs.{Between.{EndsGathering, GathersOn, writer_view}, Playing.{drive_fault_of}};
 
 use crate::faults::Fault;
 use crate::play::Run;

@@ -1,8 +1,6 @@
 //! `--seconds`: after them no further event is taken.
 ghost use Rattle.std.specs.Prelude.{◌≡◌, IfErr, IfSome, None, Some, nat_le};
-ghost use Rattle.amishell_execute.specs.Deadline.{seconds_between, seconds_of};
-ghost use Rattle.amishell_execute.specs.Playing.{drive_fault_of};
-ghost use Rattle.amishell_execute.specs.declared.faults.Fault.TheVariants.{Seconds};
+ghost use Rattle.amishell_execute.specs.{Deadline.{seconds_between, seconds_of}, Playing.{drive_fault_of}, declared.faults.Fault.TheVariants.{Seconds}};
 
 use crate::faults::Fault;
 use std::time::{Clock, Instant};

@@ -1,8 +1,7 @@
 //! Why the program ends with a line on standard error.
 ghost use Rattle.std.specs.Prelude.{◌≡◌};
 ghost use Rattle.ados_launch.specs.declared.faults.DriveFault.TheVariants.{Write};
-ghost use Rattle.amishell_execute.specs.Status.{number_of, status_of_fault};
-ghost use Rattle.amishell_execute.specs.declared.faults.Fault.TheVariants.{Drive, Memory};
+ghost use Rattle.amishell_execute.specs.{Status.{number_of, status_of_fault}, declared.faults.Fault.TheVariants.{Drive, Memory}};
 
 use crate::status::Status;
 use ados_launch::{DriveFault, WriteFault};

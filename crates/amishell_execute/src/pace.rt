@@ -1,7 +1,6 @@
 //! How often a shared folder is brought up to date while the script goes on.
 ghost use Rattle.std.specs.Prelude.{◌≡◌, ◌+◌, ◌-◌, ◌^◌, false, min, true};
-ghost use Rattle.amishell_execute.specs.Pace.{is_due_at_once, is_long_after, may_be_due, may_differ};
-ghost use Rattle.amishell_execute.specs.declared.due.Due.TheVariants.{Turn};
+ghost use Rattle.amishell_execute.specs.{Pace.{is_due_at_once, is_long_after, may_be_due, may_differ}, declared.due.Due.TheVariants.{Turn}};
 
 use crate::due::Due;
 use std::time::{Clock, Instant};

@@ -1,10 +1,7 @@
 //! The run of a script.
 
 ghost use Rattle.std.specs.Prelude.{◌≡◌, ◌<◌, ◌^◌, ◌-◌, [], true, false, None, is_none, OnOk};
-ghost use Rattle.ados_launch.specs.Agreement.{Agrees, AreOver, IsOpenTable};
-ghost use Rattle.ados_launch.specs.Deeds.{Does, DoesByRule};
-ghost use Rattle.ados_launch.specs.Drives.{Drives, HasDriveResult};
-ghost use Rattle.ados_launch.specs.Schedule.{first_schedule_state};
+ghost use Rattle.ados_launch.specs.{Agreement.{Agrees, AreOver, IsOpenTable}, Deeds.{Does, DoesByRule}, Drives.{Drives, HasDriveResult}, Schedule.{first_schedule_state}};
 ghost use Rattle.amishell_execute.specs.Playing.{IfDriven, PlaysAlone, may_be_cut, playing_moment};
 
 use crate::checks::Checks;

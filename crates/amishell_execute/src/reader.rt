@@ -1,6 +1,5 @@
 //! The reader of a run: the prepared lines, a line of standard input each time that the Shell asks, and then the end.
-ghost use Rattle.std.specs.Prelude.{◌≡◌, ◌≤◌, length, true, false, None};
-ghost use Rattle.std.specs.Io.{ReadsAtMost};
+ghost use Rattle.std.specs.{Prelude.{◌≡◌, ◌≤◌, length, true, false, None}, Io.{ReadsAtMost}};
 ghost use Rattle.amishell_execute.specs.Prompting.{IsBrought};
 
 use ados_launch::Source;

@@ -1,7 +1,6 @@
 //! The exit status of a run, and the lines on where the scripts stand when it has to stop.
 ghost use Rattle.std.specs.Prelude.{◌≡◌, ◌≢◌, IfErr, IfOk};
-ghost use Rattle.amishell_execute.specs.Status.{number_of, status_of_fault, status_of_run};
-ghost use Rattle.amishell_execute.specs.declared.faults.Fault.TheVariants.{Memory};
+ghost use Rattle.amishell_execute.specs.{Status.{number_of, status_of_fault, status_of_run}, declared.faults.Fault.TheVariants.{Memory}};
 
 use crate::ends::with_text;
 use crate::faults::{Fault, report};

@@ -1,6 +1,5 @@
 //! The scripts of each shell, whose lines are kept from their beginning until their end is reported.
-ghost use Rattle.std.specs.Prelude.{◌≡◌, ◌++◌, IfOk, OnOk, length, nat_lt};
-ghost use Rattle.std.specs.Option.{option_map};
+ghost use Rattle.std.specs.{Prelude.{◌≡◌, ◌++◌, IfOk, OnOk, length, nat_lt}, Option.{option_map}};
 ghost use Rattle.amishell_execute.specs.Ends.{kept_after, script_at, script_of};
 
 use ados_flow::Frame;

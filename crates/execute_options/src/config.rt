@@ -1,13 +1,8 @@
 //! The file of options: which one is read, and what is wrong with its lines.
-ghost use Rattle.std.specs.Prelude.{◌≡◌, [], IfOk, IfSome, OnOk, codes, is_ok, option_map, string_bytes, true};
-ghost use Rattle.std.specs.List.{list_all};
+ghost use Rattle.std.specs.{Prelude.{◌≡◌, [], IfOk, IfSome, OnOk, codes, is_ok, option_map, string_bytes, true}, List.{list_all}};
 ghost use Rattle.clap.specs.Matches.{first_value, found_of};
 ghost use Rattle.ados_transfer.specs.Paths.{path_in};
-ghost use Rattle.execute_options.specs.Config.{file_of, lines_of};
-ghost use Rattle.execute_options.specs.Given.{IsFlagOf, IsLeftOutOf};
-ghost use Rattle.execute_options.specs.Names.{is_typed_alone, may_stand_in_file};
-ghost use Rattle.execute_options.specs.Numbers.{AreInRange, numbers_of};
-ghost use Rattle.execute_options.specs.OptionLines.{absolute, default_path};
+ghost use Rattle.execute_options.specs.{Config.{file_of, lines_of}, Given.{IsFlagOf, IsLeftOutOf}, Names.{is_typed_alone, may_stand_in_file}, Numbers.{AreInRange, numbers_of}, OptionLines.{absolute, default_path}};
 
 use crate::command::matches_of_options;
 use crate::error_names::check_errors;

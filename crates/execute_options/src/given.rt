@@ -1,6 +1,5 @@
 //! What the command line and a file of options give together.
-ghost use Rattle.std.specs.Prelude.{◌≡◌, ◌++◌, IfOk, codes, false, filter, map, not, true};
-ghost use Rattle.std.specs.Option.{option_map, option_or};
+ghost use Rattle.std.specs.{Prelude.{◌≡◌, ◌++◌, IfOk, codes, false, filter, map, not, true}, Option.{option_map, option_or}};
 ghost use Rattle.clap.specs.Matches.{first_value, found_of};
 ghost use Rattle.execute_options.specs.Given.{IsFlagOf, IsLeftOutOf, host_name, hosts_of, is_host_among, shares_of, values_of};
 

@@ -1,6 +1,5 @@
 //! The options whose values are numbers.
-ghost use Rattle.std.specs.Prelude.{◌≡◌, ◌≤◌, IfOk, IfSome, is_some};
-ghost use Rattle.std.specs.Option.{option_or};
+ghost use Rattle.std.specs.{Prelude.{◌≡◌, ◌≤◌, IfOk, IfSome, is_some}, Option.{option_or}};
 ghost use Rattle.clap.specs.Matches.{first_value, found_of};
 ghost use Rattle.execute_options.specs.Numbers.{AreInRange, number_given, number_written, numbers_of};
 

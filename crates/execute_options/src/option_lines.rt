@@ -1,8 +1,5 @@
 //! The lines of a file of options, each an option as it would be typed.
-ghost use Rattle.std.specs.Prelude.{◌≡◌, ◌==◌, ◌++◌, [], true, IfErr, IfOk, None, OnOk, Some, if◌then◌else◌, map};
-ghost use Rattle.std.specs.List.{cons_option, slice_split};
-ghost use Rattle.std.specs.Option.{option_map};
-ghost use Rattle.std.specs.Str.Lines.{strip_carriage_return};
+ghost use Rattle.std.specs.{Prelude.{◌≡◌, ◌==◌, ◌++◌, [], true, IfErr, IfOk, None, OnOk, Some, if◌then◌else◌, map}, List.{cons_option, slice_split}, Option.{option_map}, Str.Lines.{strip_carriage_return}};
 ghost use Rattle.execute_options.specs.OptionLines.{IsOptionFault, first_bad_line, numbered_option, one_word, option_of, options_of, words_of_line};
 
 use ados_items::{first_word, rest_of, trimmed};

@@ -1,10 +1,7 @@
 //! What the words after the program's name ask for.
-ghost use Rattle.std.specs.Prelude.{◌≡◌, IfOk, None, codes, false, find, if◌then◌else◌, is_none, is_ok, map, option_map};
-ghost use Rattle.std.specs.List.{list_any};
-ghost use Rattle.std.specs.Str.{bytes_eq};
+ghost use Rattle.std.specs.{Prelude.{◌≡◌, IfOk, None, codes, false, find, if◌then◌else◌, is_none, is_ok, map, option_map}, List.{list_any}, Str.{bytes_eq}};
 ghost use Rattle.clap.specs.Matches.{found_of};
-ghost use Rattle.execute_options.specs.Given.{values_of};
-ghost use Rattle.execute_options.specs.Names.{is_option, late_option};
+ghost use Rattle.execute_options.specs.{Given.{values_of}, Names.{is_option, late_option}};
 ghost use Rattle.ados_resident.specs.declared.dialects.Dialect.TheVariants.{Core, Full};
 
 use crate::command::matches_of_words;

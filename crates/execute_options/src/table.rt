@@ -1,7 +1,5 @@
 //! The options: their names and values, and the texts of the help.
-ghost use Rattle.std.specs.Prelude.{◌≡◌, drop};
-ghost use Rattle.std.specs.List.{list_any};
-ghost use Rattle.std.specs.Str.{bytes_eq};
+ghost use Rattle.std.specs.{Prelude.{◌≡◌, drop}, List.{list_any}, Str.{bytes_eq}};
 ghost use Rattle.execute_options.specs.Names.{is_option, name_of, options};
 
 use clap::{Arg, ArgAction};

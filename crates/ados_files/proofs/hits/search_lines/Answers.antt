@@ -1,4 +1,4 @@
-use Rattle.std.proofs.Common.{◌≡◌, ◌∙◌, ℕ, ◌+◌, ◌<◌, ◌≤◌, List, length, take, drop, ap, rules, arith}
+use Rattle.std.proofs.Common.{◌≡◌, ◌∙◌, ◌+◌, ◌<◌, length, take, drop, ap, rules, arith}
 use Rattle.std.proofs.lemmas.List.{length-drop}
 use Rattle.ados_text.specs.Text.{Bytes}
 use Rattle.ados_files.specs.Hits.{hit_lines, hits_of, numbered_lines, with_hits}

@@ -1,6 +1,0 @@
-use Rattle.std.proofs.Common.{◌≡◌, ◌++◌}
-use Rattle.std.proofs.Math.ListN.{replicate}
-use Rattle.ados_files.proofs.dumps.push_zeros.Given as goal
-
-abbrev pub invariant-loop : goal.invariant-loop
-invariant-loop l = l.output.items ≡ l.initial.output.items ++ replicate l.counter 48
