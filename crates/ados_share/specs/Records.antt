@@ -35,6 +35,16 @@ has_content Directory = false
 has_content (File bytes) = not (length bytes == 0)
 has_content (StandIn comment) = false
 
+-- the bytes of the file that an object was at the last comparison
+abbrev pub file_of_last : Last → Option Bytes
+file_of_last Directory = None
+file_of_last (File bytes) = Some bytes
+file_of_last (StandIn comment) = None
+
+abbrev pub file_of_record : Option Record → Option Bytes
+file_of_record None = None
+file_of_record (Some object) = file_of_last object.last
+
 -- the Shell has in its place what an object was at the last comparison
 abbrev pub is_kept_there : Files → Option Record → Bool
 is_kept_there files None = false

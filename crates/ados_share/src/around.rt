@@ -1,6 +1,6 @@
 //! Files of the directory of a share in which the bytes of another one stand among others.
-ghost use Rattle.std.specs.Prelude.{◌≡◌, true, IfOk, IfSome};
-ghost use Rattle.ados_share.specs.Around.{StandsIn};
+ghost use Rattle.std.specs.{Prelude.{◌≡◌, IfOk}, Option.{option_copied, option_map}};
+ghost use Rattle.ados_share.specs.Around.{file_around, is_within};
 
 use crate::mirror::Mirror;
 use crate::sought::LEAST;
@@ -23,7 +23,7 @@ pub struct Around {
 impl Around {
     /// The file at a place that holds these bytes.
     pub fn of(place: &Place, bytes: &FileBytes) -> Result<Around, NoMemory>
-        ensures { IfOk result (λ around. around.bytes ≡ bytes.now) }
+        ensures { IfOk result (λ around. around ≡ record { place = place.now; bytes = bytes.now }) }
     {
         Ok(Around {
             place: place.copy()?,
@@ -39,7 +39,7 @@ impl Around {
         all: Option<&FileBytes>,
         bytes: &FileBytes,
     ) -> Result<Option<Around>, NoMemory>
-        ensures { IfOk result (λ found. IfSome found (λ around. StandsIn bytes.now around.bytes)) }
+        ensures { IfOk result (λ found. option_map (λ around. around.bytes) found ≡ file_around bytes.now (option_copied all.entry)) }
     {
         match all {
             Some(all) if is_within(alloc, all, bytes)? => Ok(Some(Around::of(place, all)?)),
@@ -48,7 +48,9 @@ impl Around {
     }
 
     /// An equal value.
-    pub fn copy(&self) -> Result<Around, NoMemory> {
+    pub fn copy(&self) -> Result<Around, NoMemory>
+        ensures { IfOk result (λ around. around ≡ self.now) }
+    {
         Around::of(&self.place, &self.bytes)
     }
 }
@@ -72,9 +74,9 @@ impl Mirror {
     }
 }
 
-// Bytes stand in others. Those that are few stand in others by chance, and have to begin them.
+// Bytes are kept within others. Those that are few stand in others by chance, and have to begin them.
 pub(crate) fn is_within(alloc: Global, all: &FileBytes, bytes: &FileBytes) -> Result<bool, NoMemory>
-    ensures { IfOk result (λ found. found ≡ true → StandsIn bytes.now all.now) }
+    ensures { IfOk result (λ found. found ≡ is_within bytes.now all.now) }
 {
     let bytes = bytes.to_vec(alloc)?;
     if all.starts_with(&bytes) {

@@ -81,9 +81,10 @@ impl Backups {
         let mut replaced = files.contents(place)?;
         replaced.push(place.copy()?)?;
         for backup in self.by_path.values_mut() {
-            if replaced.iter().any(|place| backup.is_at(files, place)) {
-                backup.moved = Some(Destination::Replaced);
-            }
+            backup.note_replaced(files, &replaced);
+        }
+        for backup in &mut self.deleted {
+            backup.note_replaced(files, &replaced);
         }
         Ok(())
     }
@@ -126,6 +127,13 @@ impl Backup {
             .is_some_and(|moved| moved.is_deleted(files))
         {
             self.moved = None;
+        }
+    }
+
+    // What is at these places gives way.
+    fn note_replaced(&mut self, files: &Ram, places: &[Place]) {
+        if places.iter().any(|place| self.is_at(files, place)) {
+            self.moved = Some(Destination::Replaced);
         }
     }
 

@@ -201,8 +201,7 @@ impl Mirror {
         if holds(rt, backup.original.as_str(), &backup.bytes) {
             return Ok(true);
         }
-        let key = lower(self.alloc, backup.original.as_str())?;
-        let place = self.place_of(key.as_str())?;
+        let place = self.place_of(backup.original.as_str())?;
         if let Some(around) = holders.around(&place, &backup.bytes)
             && self.is_written(rt, around)?
         {

@@ -8,6 +8,7 @@ use crate::around::Around;
 use crate::elsewhere::Elsewhere;
 use crate::modes::set_folder_mode;
 use ados_ram::Entry;
+use ados_text::NoMemory;
 use ados_transfer::{
     Below, Draft, Here, Last, Owner, Record, Rights, Stamp, TransferFault, enter, is_descendant,
     open_beside, path_of, place_whole,
@@ -124,8 +125,22 @@ impl<'a> Departures<'a> {
             key.as_str(),
             departure.changes_kind,
         )?;
+        Ok(self.put(key, departure)?)
+    }
+
+    /// Adds one that was among them before.
+    pub fn put(&mut self, key: String, departure: Departure<'a>) -> Result<(), NoMemory>
+        ensures { OnOk result ((q : Bytes) → has_key self.new.by_key q ≡ (bytes_eq (string_bytes key) q || has_key self.old.by_key q)) }
+    {
         self.by_key.insert(key, departure)?;
         Ok(())
+    }
+
+    /// The object with this key is deleted or written over, and the Shell has what it was nowhere else.
+    pub fn has_leaving(&self, key: &str) -> bool {
+        self.by_key
+            .get(key)
+            .is_some_and(|departure| departure.elsewhere.is_none())
     }
 
     /// Leaves out those in the volumes with these labels.

@@ -33,9 +33,11 @@ impl Mirror {
         let finished = self.finish_backups(rt, files, &mut account);
         self.note_refused(&mut account);
         self.unsynced = mem::replace(&mut account.unsynced, Vec::new(self.alloc));
+        let noted = self.note_fresh(&mut account);
         self.reports.report_further()?;
         self.report_temporaries(rt, &account)?;
         updated?;
+        noted?;
         finished
     }
 

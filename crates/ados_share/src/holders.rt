@@ -118,6 +118,22 @@ impl<'a> Holders<'a> {
         self.outside.first_with(bytes).is_some()
     }
 
+    /// One file outside of the directory has two contents, as a whole or, of those that were looked for, among others.
+    pub fn are_together(&self, one: &FileBytes, other: &FileBytes) -> bool {
+        match (self.place_outside(one), self.place_outside(other)) {
+            (Some(one), Some(other)) => one == other,
+            _ => false,
+        }
+    }
+
+    // The file outside of the directory that has bytes, as a whole or among others.
+    fn place_outside(&self, bytes: &FileBytes) -> Option<&Place> {
+        match self.outside.first_with(bytes) {
+            Some(holder) => Some(&holder.place),
+            None => self.place_of_part(bytes),
+        }
+    }
+
     /// The file outside of the directory in which bytes stand among others, of those that were looked for.
     pub fn place_of_part(&self, bytes: &FileBytes) -> Option<&Place> {
         self.parts.place_of(bytes)

@@ -1,6 +1,6 @@
 //! Bytes that this machine has in one file alone while the Shell has them outside of the directory: the file is not deleted.
 ghost use Rattle.std.specs.{Prelude.{◌≡◌, true, IfSome}, Option.{option_copied}, BTreeMap.{get_by_text}};
-ghost use Rattle.ados_share.specs.Contents.{if_file_of, is_file_of};
+ghost use Rattle.ados_share.specs.{Contents.{if_file_of, is_file_of}, Records.{file_of_record}};
 
 use crate::departure::{Departure, Departures};
 use crate::elsewhere::Elsewhere;
@@ -203,7 +203,7 @@ impl Mirror {
     }
 
     // The record of a key, if it is that of a file of these bytes.
-    fn file_of(&self, key: &str, bytes: &FileBytes) -> Option<&Record>
+    pub(crate) fn file_of(&self, key: &str, bytes: &FileBytes) -> Option<&Record>
         ensures { option_copied result ≡ if_file_of bytes.now (get_by_text self.now.records key.now) }
     {
         let record = self.records.get(key)?;
@@ -244,7 +244,9 @@ impl Mirror {
 }
 
 // The bytes of the record of a file.
-pub(crate) fn bytes_of<'a>(records: &'a Records, key: &str) -> Option<&'a FileBytes> {
+pub(crate) fn bytes_of<'a>(records: &'a Records, key: &str) -> Option<&'a FileBytes>
+    ensures { option_copied result ≡ file_of_record (get_by_text records.now key.now) }
+{
     match records.get(key).map(|record| &record.last) {
         Some(Last::File(bytes)) => Some(bytes),
         _ => None,

@@ -9,7 +9,7 @@ use crate::last_copies::Waiting;
 use crate::moves::Moves;
 use crate::reports::Reports;
 use crate::syncs::NamedFile;
-use ados_ram::Ram;
+use ados_ram::{FileBytes, Ram};
 use ados_transfer::{
     Last, MirrorOptions, Record, Records, Stamp, StandIns, TransferFault, Volume, Volumes, Watch,
 };
@@ -37,6 +37,8 @@ pub struct Mirror {
     pub(crate) temporaries: Vec<String>,
     // What could not be brought to the disk at the last update.
     pub(crate) unsynced: Vec<NamedFile>,
+    // What the updates before wrote, and what a power cut may empty: the bytes by the paths.
+    pub(crate) fresh: BTreeMap<String, FileBytes>,
     pub(crate) reports: Reports,
     // The keys of names that were taken twice in the folders at the last look.
     pub(crate) twice: Vec<String>,
@@ -72,6 +74,7 @@ impl Mirror {
             backups: Backups::new(alloc),
             temporaries: Vec::new(alloc),
             unsynced: Vec::new(alloc),
+            fresh: BTreeMap::new(alloc),
             twice: Vec::new(alloc),
             reports: Reports::new(alloc, volumes.copy()?),
             volumes,

@@ -28,12 +28,12 @@ impl Backups {
 
 impl Backups {
     // What is noted of a file that was added to goes, unless the Shell has those bytes as a whole or has moved them: more was noted of that
-    // file, which begins with them.
+    // file, which begins with them, and the Shell has both in one file.
     pub(crate) fn forget_beginnings(&mut self, holders: &Holders<'_>) -> Result<(), NoMemory> {
         let mut beginnings = Vec::new(self.alloc);
         for backup in &self.deleted {
             let is_whole = backup.moved.is_some() || holders.has_outside(&backup.bytes);
-            beginnings.push(!is_whole && self.has_longer(backup)?)?;
+            beginnings.push(!is_whole && self.has_longer(holders, backup)?)?;
         }
         let deleted = mem::replace(&mut self.deleted, Vec::new(self.alloc));
         for (backup, is_beginning) in deleted.into_iter().zip(beginnings) {
@@ -44,11 +44,12 @@ impl Backups {
         Ok(())
     }
 
-    // More is noted of the same file, which begins with these bytes.
-    fn has_longer(&self, backup: &Backup) -> Result<bool, NoMemory> {
+    // More is noted of the same file, which begins with these bytes, and the Shell has both in one file outside of the directory.
+    fn has_longer(&self, holders: &Holders<'_>, backup: &Backup) -> Result<bool, NoMemory> {
         for other in &self.deleted {
             if other.original.as_str() == backup.original.as_str()
                 && other.bytes.len() > backup.bytes.len()
+                && holders.are_together(&other.bytes, &backup.bytes)
                 && other.bytes.starts_with(&backup.bytes.to_vec(self.alloc)?)
             {
                 return Ok(true);

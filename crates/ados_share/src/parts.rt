@@ -10,7 +10,7 @@ use crate::holders::{Holder, Holders};
 use crate::mirror::Mirror;
 use crate::sought::{Content, Sought};
 use ados_ram::{Entry, FileBytes, Ram};
-use ados_transfer::{Last, TransferFault, lower};
+use ados_transfer::{Last, TransferFault};
 
 impl Mirror {
     // Of each file that is to be deleted or written over it is noted if its bytes stand among others in a file outside of the directory, if
@@ -75,8 +75,7 @@ impl Mirror {
         let mut contents = Vec::new(self.alloc);
         let backups = self.backups.by_path.values();
         for backup in backups.chain(self.backups.deleted.iter()) {
-            let key = lower(self.alloc, backup.original.as_str())?;
-            let place = self.place_of(key.as_str())?;
+            let place = self.place_of(backup.original.as_str())?;
             let later = files.look(&place).and_then(Entry::bytes);
             let moved = self.unwritten_elsewhere(files, backup.moved.as_ref())?;
             contents.push(Content {

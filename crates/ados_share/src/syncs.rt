@@ -1,4 +1,4 @@
-//! What an update wrote is on the disk before the update deletes or replaces anything whose bytes stand only there: a power cut would
+//! What the updates wrote is on the disk before one of them deletes or replaces anything whose bytes stand only there: a power cut would
 //! otherwise leave an empty file while the old one is gone.
 ghost use Rattle.std.specs.{Prelude.{◌≡◌, ◌++◌, [], true, false, IfOk, OnOk, string_bytes}, Option.{is_some, option_map}};
 ghost use Rattle.ados_share.specs.Account.{contents_of, failed_files, files_of};
@@ -10,6 +10,7 @@ use ados_ram::FileBytes;
 use ados_text::NoMemory;
 use ados_transfer::{Here, Manner, TransferFault, lower, no_memory, write_beside};
 use std::alloc::Global;
+use std::collections::BTreeMap;
 use std::fs::OpenFile;
 use std::io::ErrorKind;
 use std::rt::Files;
@@ -61,7 +62,8 @@ impl Mirror {
         self.is_synced(rt, account)
     }
 
-    // Brings to the disk what the update wrote; `false` if that failed now or before in this update, so that nothing is to be deleted.
+    // Brings to the disk what this update and those before wrote; `false` if that failed now or before in this update, so that nothing is to
+    // be deleted.
     #[tactic(auto, using(crate::proofs::AccountLemmas::first_is_some))]
     pub(crate) fn is_synced<R: AllocGlobal + Files>(
         &mut self,
@@ -75,7 +77,8 @@ impl Mirror {
         // What failed before in this update is not forgotten.
         ensures again { IfOk result (λ is. is ≡ true → account.old.unsynced.items ≡ []) }
     {
-        let attempts = sync_all(rt, account.take_fresh())?;
+        let files = self.take_fresh(account)?;
+        let attempts = sync_all(rt, files)?;
         let reported = self.report_attempts(attempts.as_slice());
         let failed = failed_files(self.alloc, attempts)?;
         let Some(first) = account.unsynced.first().or(failed.first()) else {
@@ -90,12 +93,58 @@ impl Mirror {
         Ok(false)
     }
 
+    // What this update wrote, and those before it, and what is not on the disk yet.
+    fn take_fresh(&mut self, account: &mut Account) -> Result<Vec<NamedFile>, NoMemory>
+        ensures taken { account.new.fresh.items ≡ [] }
+        ensures rest { account.new ≡ record account.old { fresh = account.new.fresh } }
+    {
+        let mut files = account.take_fresh();
+        for (path, bytes) in mem::replace(&mut self.fresh, BTreeMap::new(self.alloc)) {
+            files.push(NamedFile { path, bytes })?;
+        }
+        Ok(files)
+    }
+
+    // Notes for the updates after this one what it wrote, and what is not on the disk yet.
+    pub(crate) fn note_fresh(&mut self, account: &mut Account) -> Result<(), TransferFault> {
+        for file in account.take_fresh() {
+            self.fresh.insert(file.path, file.bytes)?;
+        }
+        Ok(())
+    }
+
+    // Brings to the disk those files with these bytes that this update wrote, or those before it.
+    pub(crate) fn sync_copies<R: AllocGlobal + Files>(
+        &mut self,
+        rt: &R,
+        bytes: &FileBytes,
+        account: &mut Account,
+    ) -> io::Result<()> {
+        let mut paths = Vec::new(self.alloc);
+        for (path, held) in &self.fresh {
+            if *held == *bytes {
+                paths.push(path.clone()?)?;
+            }
+        }
+        for path in &paths {
+            if let Some((path, bytes)) = self.fresh.remove_entry(path.as_str())
+                && account.add_fresh(NamedFile { path, bytes }).is_err()
+            {
+                return Err(no_memory());
+            }
+        }
+        account.sync_copies(rt, bytes)
+    }
+
     // What could not be brought to the disk at the update before is tried again.
     pub(crate) fn sync_again<R: AllocGlobal + Files>(
         &mut self,
         rt: &R,
         account: &mut Account,
     ) -> Result<(), TransferFault> {
+        if self.unsynced.is_empty() {
+            return Ok(());
+        }
         for file in mem::replace(&mut self.unsynced, Vec::new(self.alloc)) {
             account.add_fresh(file)?;
         }

@@ -4,6 +4,7 @@ ghost use Rattle.ados_ram.specs.Entry.{bytes_of};
 ghost use Rattle.ados_share.specs.Account.{contents_of, is_moved_away};
 
 use crate::account::Account;
+use crate::around::Around;
 use crate::backups::needs_backup;
 use crate::departure::{Departure, Departures, write_entry};
 use crate::mirror::Mirror;
@@ -57,7 +58,7 @@ impl Mirror {
                 let is_last = self.is_lost_below(rt, files, key, departure)?;
                 let draft = Draft::new(entry, &here, manner, is_last);
                 self.note_written_over(key, departure, &draft)?;
-                self.write(rt, (key, path), &draft, account)
+                self.write(rt, (key, path), &draft, departure.inside.as_ref(), account)
             }
         }
     }
@@ -68,6 +69,7 @@ impl Mirror {
         rt: &R,
         object: (&str, &str),
         draft: &Draft<'_>,
+        around: Option<&Around>,
         account: &mut Account,
     ) -> Result<(), TransferFault> {
         let (key, path) = object;
@@ -76,7 +78,7 @@ impl Mirror {
             account.refuse(path)?;
             return self.hold(key, path, account);
         }
-        match self.replace(rt, object, draft, account) {
+        match self.replace(rt, object, draft, around, account) {
             Ok(Some(stamp)) => {
                 if let Some(bytes) = draft.entry.bytes() {
                     let path = String::from_str(self.alloc, path)?;
@@ -97,13 +99,14 @@ impl Mirror {
         }
     }
 
-    // Writes an object to this machine, after a backup of what it takes the place of, if that needs one. What this update wrote with the
-    // bytes of that is on the disk before.
+    // Writes an object to this machine, after a backup of what it takes the place of, if that needs one. What was written with the bytes of
+    // that, as a whole or among others, is on the disk before.
     fn replace<R: AllocGlobal + Files>(
         &mut self,
         rt: &R,
         object: (&str, &str),
         draft: &Draft<'_>,
+        around: Option<&Around>,
         account: &mut Account,
     ) -> io::Result<Option<Stamp>> {
         let Ok(needs_backup) = needs_backup(rt.alloc(), draft) else {
@@ -113,7 +116,10 @@ impl Mirror {
             self.back_up(rt, object, draft.here)?;
         }
         if let Here::File { bytes, .. } = draft.here {
-            account.sync_copies(rt, bytes)?;
+            self.sync_copies(rt, bytes, account)?;
+        }
+        if let Some(around) = around {
+            self.sync_copies(rt, &around.bytes, account)?;
         }
         write_entry(rt, object.1, draft)
     }
