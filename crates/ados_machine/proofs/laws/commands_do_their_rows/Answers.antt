@@ -3,6 +3,10 @@ use Rattle.ados_machine.proofs.laws.commands_do_their_rows.Goals as goal
 
 pub returns : goal.returns
 returns c = record {
-    found = enabled-found; recorded = effects-recorded; printed = effects-printed; limit = fail-at-sets; kept = substitutions-keep;
-    carried = directories-carried
-  }
+  found = enabled-found;
+  recorded = effects-recorded;
+  printed = effects-printed;
+  limit = fail-at-sets;
+  kept = substitutions-keep;
+  carried = directories-carried;
+}

@@ -3,5 +3,10 @@ use Rattle.ados_machine.proofs.laws.commands_return_their_codes.Goals as goal
 
 pub returns : goal.returns
 returns c = record {
-    unknown = unknown-fail; told = unknown-told; faulty = faulty-fail; exits = exits-return; faults = faults-return; starts = starts-return
-  }
+  unknown = unknown-fail;
+  told = unknown-told;
+  faulty = faulty-fail;
+  exits = exits-return;
+  faults = faults-return;
+  starts = starts-return;
+}
