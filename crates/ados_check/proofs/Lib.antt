@@ -1,6 +1,7 @@
 mod AliasLemmas
 mod AlikeLemmas
 mod ArgumentLemmas
+mod ChangeLemmas
 mod DirectiveLemmas
 mod ErrorLemmas
 mod LeftOutLemmas

@@ -9,6 +9,7 @@ use Rattle.ados_check.specs.LeftOut.{is_between}
 use Rattle.ados_check.specs.Marks.{IsMarked, is_in_printed, is_printed_in, marked, marked_if, prints_sign}
 use Rattle.ados_check.specs.Renames.{renames_printers}
 use Rattle.ados_check.specs.Signs.{is_dotted, sign_of}
+use Rattle.ados_check.proofs.ChangeLemmas.{ChangesOnce, and_none}
 use Rattle.ados_check.proofs.StrikeLemmas.{Alike, alike_more, alike_sum, drop_at}
 
 -- the bytes from a place on are still to be marked
@@ -28,11 +29,6 @@ one_marked [] place value d inside is = absurd (omega (arith, inside))
 one_marked (byte ∷ bytes) zero value d inside is = ap (λ b. b ∷ map marked bytes) is
 one_marked (byte ∷ bytes) (suc place) value d inside is = ap (λ bs. byte ∷ bs) (one_marked bytes place value d (omega (arith, inside)) is)
 
--- what is left to be marked of a script gives what all gives of the first
-abbrev pub LeavesMarked : (ℕ → Bool) → (ℕ → Bool) → Bytes → Bytes → Type 0
-LeavesMarked rest all old now =
-    (length now ≡ length old) × ((k : ℕ) → k < length old → marked_if (rest k) (slice_index now k) ≡ marked_if (all k) (slice_index old k))
-
 marked-twice : (c : ℕ) → marked (marked c) ≡ marked c
 marked-twice c = by (is_past_ascii c) refl
   where
@@ -40,28 +36,10 @@ marked-twice c = by (is_past_ascii c) refl
     by true e = refl
     by false e = rw e refl
 
-marked-again : (p q : Bool) (c : ℕ) → marked_if q (marked_if p c) ≡ marked_if (p || q) c
-marked-again true true c = marked-twice c
-marked-again true false c = refl
-marked-again false q c = refl
-
--- some more is marked
-pub marks_less : (some less rest all : ℕ → Bool) (old now new : Bytes) → ((k : ℕ) → k < length old → rest k ≡ (some k || less k))
-    → LeavesMarked rest all old now → IsMarked some now new → LeavesMarked less all old new
-marks_less some less rest all old now new parts leaves is = (
-  is.0 ∙ leaves.0,
-  λ k within.
-      ap (marked_if (less k)) (is.1 k (omega (arith, within, leaves.0))) ∙ marked-again (some k) (less k) (slice_index now k)
-      ∙ sym (ap (λ b. marked_if b (slice_index now k)) (parts k within)) ∙ leaves.1 k within,
-)
-
--- of the same places
-pub marks_same : (less rest all : ℕ → Bool) (old now : Bytes) → ((k : ℕ) → k < length old → rest k ≡ less k)
-    → LeavesMarked rest all old now → LeavesMarked less all old now
-marks_same less rest all old now same leaves = (
-  leaves.0,
-  λ k within. sym (ap (λ b. marked_if b (slice_index now k)) (same k within)) ∙ leaves.1 k within,
-)
+pub marked_again : ChangesOnce marked_if
+marked_again true true c = marked-twice c
+marked_again true false c = refl
+marked_again false q c = refl
 
 ascii-kept : (p : Bool) (c : ℕ) → c < 128 → marked_if p c ≡ c
 ascii-kept true c low = (let not-past : is_past_ascii c ≡ false = grind (arith, nat_tests) in rw not-past refl)
@@ -89,10 +67,6 @@ marked_lines script new keeps is = (
       ∙ sym (ap (λ b. marked_if (not b && is_in_printed (is_dotted script) 0 0 (slice_split is_newline script) k) (slice_index script k)) keeps),
 )
 
-and-none : (b : Bool) → (b && false) ≡ false
-and-none true = refl
-and-none false = refl
-
 between-far : (k r length : ℕ) → k < r → is_between r (r + length) k ≡ false
 between-far k r length far = grind (arith, nat_tests)
 
@@ -100,7 +74,7 @@ printed-far : (dotted : Bool) (number k r : ℕ) (lines : List Bytes) → k < r 
 printed-far dotted number k r [] far = refl
 printed-far dotted number k r (line ∷ lines) far =
     ap (λ b. (prints_sign number line (sign_of dotted line) && b) || is_in_printed dotted (number + 1) (r + length line + 1) lines k) (between-far k r (length line) far)
-    ∙ ap (λ b. b || is_in_printed dotted (number + 1) (r + length line + 1) lines k) (and-none (prints_sign number line (sign_of dotted line)))
+    ∙ ap (λ b. b || is_in_printed dotted (number + 1) (r + length line + 1) lines k) (and_none (prints_sign number line (sign_of dotted line)))
     ∙ printed-far dotted (number + 1) k (r + length line + 1) lines (omega (arith, far))
 
 printed-alike : (dotted : Bool) (number k r s : ℕ) (lines : List Bytes) → Alike k r s → is_in_printed dotted number r lines k ≡ is_in_printed dotted number s lines k
@@ -122,13 +96,6 @@ line_left dotted number from to next k line lines e f within =
     ∙ ap (λ b. (prints_sign number line (sign_of dotted line) && is_between from to k) || b)
     (sym (printed-alike dotted (number + 1) k next (to + 1) lines (alike_sum k next (to + 1) f within)
     ∙ printed-alike dotted (number + 1) k (to + 1) (from + length line + 1) lines (alike_more k to (from + length line) 1 ends)))
-
--- nothing is left
-pub marks_none : (rest all : ℕ → Bool) (old now : Bytes) → ((k : ℕ) → k < length old → rest k ≡ false) → LeavesMarked rest all old now → IsMarked all old now
-marks_none rest all old now none leaves = (
-  leaves.0,
-  λ k within. sym (ap (λ b. marked_if b (slice_index now k)) (none k within)) ∙ leaves.1 k within,
-)
 
 get-any : {A : Type 0} (xs : List A) (i : ℕ) (d e : A) → i < length xs → get_or xs i d ≡ get_or xs i e
 get-any [] i d e h = absurd (omega (arith, h))

@@ -8,45 +8,15 @@ use Rattle.ados_check.specs.LeftOut.{IsBlanked, IsStruck, is_between, is_idle_in
 use Rattle.ados_check.specs.declared.left_out.LeftOut.{LeftOut}
 use Rattle.ados_check.specs.declared.phrases.Given.{Given}
 use Rattle.ados_check.specs.declared.release_two.Command.{Command}
-
--- what is left to be struck of a script gives what all gives of the first
-abbrev pub Leaves : (ℕ → Bool) → (ℕ → Bool) → Bytes → Bytes → Type 0
-Leaves rest all old now = (length now ≡ length old) × ((k : ℕ) → k < length old → struck (rest k) (slice_index now k) ≡ struck (all k) (slice_index old k))
+use Rattle.ados_check.proofs.ChangeLemmas.{ChangesOnce, and_none}
 
 abbrev pub is_in_parts : ℕ → List (ℕ × List Given) → ℕ → Bool
 is_in_parts from parts k = list_any (λ part. is_in_idle (from + part.0) part.1 k) parts
 
-pub leaves_all : (all : ℕ → Bool) (old : Bytes) → Leaves all all old old
-leaves_all all old = (refl, λ k within. refl)
-
-struck-again : (p q : Bool) (c : ℕ) → struck q (struck p c) ≡ struck (p || q) c
-struck-again true true c = refl
-struck-again true false c = refl
-struck-again false q c = refl
-
--- some more is struck
-pub leaves_less : (some less rest all : ℕ → Bool) (old now new : Bytes) → ((k : ℕ) → k < length old → rest k ≡ (some k || less k))
-    → Leaves rest all old now → IsStruck some now new → Leaves less all old new
-leaves_less some less rest all old now new parts leaves is = (
-  is.0 ∙ leaves.0,
-  λ k within.
-      ap (struck (less k)) (is.1 k (omega (arith, within, leaves.0))) ∙ struck-again (some k) (less k) (slice_index now k)
-      ∙ sym (ap (λ b. struck b (slice_index now k)) (parts k within)) ∙ leaves.1 k within,
-)
-
--- of the same places
-pub leaves_same : (less rest all : ℕ → Bool) (old now : Bytes) → ((k : ℕ) → k < length old → rest k ≡ less k) → Leaves rest all old now → Leaves less all old now
-leaves_same less rest all old now same leaves = (
-  leaves.0,
-  λ k within. sym (ap (λ b. struck b (slice_index now k)) (same k within)) ∙ leaves.1 k within,
-)
-
--- nothing is left
-pub leaves_none : (rest all : ℕ → Bool) (old now : Bytes) → ((k : ℕ) → k < length old → rest k ≡ false) → Leaves rest all old now → IsStruck all old now
-leaves_none rest all old now none leaves = (
-  leaves.0,
-  λ k within. sym (ap (λ b. struck b (slice_index now k)) (none k within)) ∙ leaves.1 k within,
-)
+pub struck_again : ChangesOnce struck
+struck_again true true c = refl
+struck_again true false c = refl
+struck_again false q c = refl
 
 one-blanked : (p : Bool) (c : ℕ) → ((struck p c == c) || (struck p c == 32)) ≡ true
 one-blanked true c = grind (arith, nat_tests)
@@ -76,10 +46,6 @@ pub alike_more : (k r s p : ℕ) → Alike k r s → Alike k (r + p) (s + p)
 alike_more k r s p (inl e) = inl (ap (λ n. n + p) e)
 alike_more k r s p (inr far) = inr (omega (arith, far.0), omega (arith, far.1))
 
-and-none : (b : Bool) → (b && false) ≡ false
-and-none true = refl
-and-none false = refl
-
 not-from : (k r from to : ℕ) → k < r → is_between (r + from) (r + to) k ≡ false
 not-from k r from to far = grind (arith, nat_tests)
 
@@ -87,7 +53,7 @@ idle-far : (k r : ℕ) (options : List Given) → k < r → is_in_idle r options
 idle-far k r [] far = refl
 idle-far k r (given ∷ options) far =
     ap (λ b. (given.option.is_idle && b) || is_in_idle r options k) (not-from k r given.from given.to far)
-    ∙ ap (λ b. b || is_in_idle r options k) (and-none given.option.is_idle) ∙ idle-far k r options far
+    ∙ ap (λ b. b || is_in_idle r options k) (and_none given.option.is_idle) ∙ idle-far k r options far
 
 parts-far : (k r : ℕ) (parts : List (ℕ × List Given)) → k < r → is_in_parts r parts k ≡ false
 parts-far k r [] far = refl

@@ -82,27 +82,13 @@ fn push_idle_directives(
     ensures told { OnOk result (StayTold found.old.items found.new.items) }
     ensures so { OnOk result (StaySo found.old.items found.new.items) }
 {
-    for (place, line) in written.iter().enumerate() {
-        push_idle_directive(line.as_bytes(), is_dotted, place.saturating_add(1), found)?;
-    }
-    Ok(())
-}
-
-// Adds a line that is a directive of such a script.
-#[tactic(auto, using(crate::proofs::LeftOutLemmas::stays_itself, crate::proofs::LeftOutLemmas::told_stays))]
-fn push_idle_directive(
-    line: &[u8],
-    is_dotted: bool,
-    number: usize,
-    found: &mut Vec<Finding>,
-) -> Result<(), NoMemory>
-    ensures same { OnOk result (SaysTheSame found.old.items found.new.items) }
-    ensures told { OnOk result (StayTold found.old.items found.new.items) }
-    ensures so { OnOk result (StaySo found.old.items found.new.items) }
-{
-    if is_dotted || !is_directive(line) {
+    if is_dotted {
         return Ok(());
     }
-    push_note(found, number, Problem::IdleDirective)?;
+    for (place, line) in written.iter().enumerate() {
+        if is_directive(line.as_bytes()) {
+            push_note(found, place.saturating_add(1), Problem::IdleDirective)?;
+        }
+    }
     Ok(())
 }

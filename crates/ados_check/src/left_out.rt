@@ -29,10 +29,12 @@ pub struct LeftOut {
 /// What the lines of a script are read with.
 #[derive(Clone, Copy)]
 pub struct Reader<'a> {
-    alloc: Global,
-    dialect: Dialect,
-    // Those of its shell.
-    aliases: &'a Aliases,
+    /// Where the memory comes from.
+    pub alloc: Global,
+    /// The dialect of the world.
+    pub dialect: Dialect,
+    /// Those of its shell.
+    pub aliases: &'a Aliases,
     // The commands that have more options in Release 2.
     commands: &'static [Command],
 }

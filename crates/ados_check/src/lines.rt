@@ -31,8 +31,8 @@ pub fn check(
     // No error of another kind is told.
     ensures so { IfOk result (λ found. AreAlwaysSo found.items) }
 {
-    let mut found = signs_found(alloc, dialect, aliases, lines, bytes)?;
     let reader = Reader::new(alloc, dialect, aliases);
+    let mut found = signs_found(reader, lines, bytes)?;
     for place in 0..lines.len() {
         push_options(reader, place + 1, &lines[place], &mut found)?;
     }
@@ -52,22 +52,17 @@ pub fn sort(found: &mut Vec<Finding>) -> Result<(), NoMemory>
 
 // The problems of a file's signs. Nearly all files have none.
 #[tactic(auto, using(crate::proofs::SignLemmas::plain_none, crate::proofs::SignLemmas::none_yet, crate::proofs::SignLemmas::none_more, crate::proofs::SignLemmas::one_more, crate::proofs::SignLemmas::told_all))]
-fn signs_found(
-    alloc: Global,
-    dialect: Dialect,
-    aliases: &Aliases,
-    lines: &[Text],
-    bytes: &[u8],
-) -> Result<Vec<Finding>, NoMemory>
+fn signs_found(reader: Reader, lines: &[Text], bytes: &[u8]) -> Result<Vec<Finding>, NoMemory>
     ensures signs { IfOk result (λ found. (number : ℕ) → signs_told number found.items ≡ signs_at bytes.now number) }
     ensures told { IfOk result (λ found. TellsNone found.items) }
     ensures so { IfOk result (λ found. AreAlwaysSo found.items) }
 {
+    let alloc = reader.alloc;
     if are_plain(bytes) {
         return Ok(Vec::new(alloc));
     }
-    let is_told_only = !renames_printers(alloc, aliases, lines)?
-        && !may_call(alloc, dialect, lines)?;
+    let is_told_only = !renames_printers(alloc, reader.aliases, lines)?
+        && !may_call(alloc, reader.dialect, lines)?;
     let is_dotted = is_dotted(bytes);
     let in_file = lines_in(alloc, bytes)?;
     let others = other_returns(is_dotted, &in_file);

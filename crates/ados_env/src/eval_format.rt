@@ -1,6 +1,6 @@
 // What Eval prints of a value with LFORMAT.
 ghost use Rattle.std.specs.Prelude.{◌≡◌, ◌++◌, OnOk, IfOk};
-ghost use Rattle.ados_env.specs.EvalFormat.{field_bytes, field_len, formatted_from, formatted_value, piece_bytes, piece_len, width_digits, width_in};
+ghost use Rattle.ados_env.specs.EvalFormat.{field_len, formatted_from, formatted_value, piece_bytes, piece_len, width_digits, width_in};
 
 use crate::numerals::Base;
 use ados_text::{NoMemory, at_most, fold, push_number, push_zero_padded};
@@ -22,13 +22,12 @@ pub fn formatted_value(alloc: Global, value: i32, format: &[u8]) -> Result<Vec<u
     ensures { IfOk result (λ output. output.items ≡ formatted_value value format.now) }
 {
     let mut output = Vec::new(alloc);
-    push_formatted(alloc, &mut output, value, 0, format)?;
+    push_formatted(&mut output, value, 0, format)?;
     Ok(output)
 }
 
 // Adds a value by a format, of which so many first bytes are those of the field before.
 fn push_formatted(
-    alloc: Global,
     output: &mut Vec<u8>,
     value: i32,
     taken: usize,
@@ -40,20 +39,20 @@ fn push_formatted(
         [] => Ok(()),
         [byte, rest @ ..] => {
             if taken > 0 {
-                return push_formatted(alloc, output, value, taken - 1, rest);
+                return push_formatted(output, value, taken - 1, rest);
             }
             if *byte != b'%' {
                 output.push(*byte)?;
-                return push_formatted(alloc, output, value, 0, rest);
+                return push_formatted(output, value, 0, rest);
             }
-            push_piece(alloc, output, value, rest)?;
-            push_formatted(alloc, output, value, piece_len(rest), rest)
+            push_piece(output, value, rest)?;
+            push_formatted(output, value, piece_len(rest), rest)
         }
     }
 }
 
 impl Field {
-    ghost use Rattle.ados_env.specs.EvalFormat.{field_of};
+    ghost use Rattle.ados_env.specs.EvalFormat.{field_bytes, field_of};
 
     // The field that a letter stands for; case is ignored.
     fn of(letter: u8) -> Option<Field>
@@ -68,11 +67,38 @@ impl Field {
             _ => None,
         }
     }
+
+    // Adds what is put in for it, before the rest.
+    fn push(self, output: &mut Vec<u8>, value: i32, rest: &[u8]) -> Result<(), NoMemory>
+        ensures { OnOk result (output.new.items ≡ output.old.items ++ field_bytes value self rest.now) }
+    {
+        let alloc = *output.allocator();
+        let bits = value.cast_unsigned();
+        match self {
+            Field::Hexadecimal => {
+                let digits = format!(in alloc; "{bits:X}")?;
+                push_zero_padded(output, width_in(rest), digits.as_bytes())
+            }
+            Field::Octal => {
+                let digits = format!(in alloc; "{bits:o}")?;
+                push_zero_padded(output, width_in(rest), digits.as_bytes())
+            }
+            Field::Decimal => push_number(output, value),
+            Field::Character => {
+                output.push((bits % 128) as u8)?;
+                Ok(())
+            }
+            Field::Percent => {
+                output.push(b'%')?;
+                Ok(())
+            }
+        }
+    }
 }
 
 // Adds what a `%` stands for before the rest.
 #[tactic(auto, unfolding(crate::specs::EvalFormat::piece_bytes))]
-fn push_piece(alloc: Global, output: &mut Vec<u8>, value: i32, rest: &[u8]) -> Result<(), NoMemory>
+fn push_piece(output: &mut Vec<u8>, value: i32, rest: &[u8]) -> Result<(), NoMemory>
     ensures { OnOk result (output.new.items ≡ output.old.items ++ piece_bytes value rest.now) }
 {
     match rest {
@@ -85,7 +111,7 @@ fn push_piece(alloc: Global, output: &mut Vec<u8>, value: i32, rest: &[u8]) -> R
                 output.push(b'%')?;
                 Ok(())
             }
-            Some(field) => push_field(alloc, output, value, field, rest),
+            Some(field) => field.push(output, value, rest),
         },
     }
 }
@@ -111,37 +137,6 @@ fn field_len(field: Field, rest: &[u8]) -> usize
     match field {
         Field::Hexadecimal | Field::Octal => width_digits(rest).len(),
         Field::Decimal | Field::Character | Field::Percent => 0,
-    }
-}
-
-fn push_field(
-    alloc: Global,
-    output: &mut Vec<u8>,
-    value: i32,
-    field: Field,
-    rest: &[u8],
-) -> Result<(), NoMemory>
-    ensures { OnOk result (output.new.items ≡ output.old.items ++ field_bytes value field rest.now) }
-{
-    let bits = value.cast_unsigned();
-    match field {
-        Field::Hexadecimal => {
-            let digits = format!(in alloc; "{bits:X}")?;
-            push_zero_padded(output, width_in(rest), digits.as_bytes())
-        }
-        Field::Octal => {
-            let digits = format!(in alloc; "{bits:o}")?;
-            push_zero_padded(output, width_in(rest), digits.as_bytes())
-        }
-        Field::Decimal => push_number(output, value),
-        Field::Character => {
-            output.push((bits % 128) as u8)?;
-            Ok(())
-        }
-        Field::Percent => {
-            output.push(b'%')?;
-            Ok(())
-        }
     }
 }
 

@@ -42,4 +42,4 @@ mod why;
 pub use devices::push_devices;
 pub use laws::{faults_have_their_texts, internal_commands_are_found, options_have_their_places};
 pub use reads::{reads_in_use, reads_shells};
-pub use rows::{COMMANDS, run, template};
+pub use rows::{run, template};

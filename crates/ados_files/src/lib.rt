@@ -35,4 +35,4 @@ pub use devices::push_devices;
 pub use laws::{
     hits_are_parts, options_have_their_places, others_stay, searched_files_are_those_of_copy,
 };
-pub use rows::{COMMANDS, run, template};
+pub use rows::{run, template};

@@ -1,7 +1,7 @@
 // The outcome of each command.
 ghost use Rattle.std.specs.Prelude.{◌≡◌, IfOk};
 ghost use Rattle.ados_find.specs.Effects.{effect_of};
-ghost use Rattle.ados_files.specs.Rows.{row_of, core_template_of, full_template_of, template_of};
+ghost use Rattle.ados_files.specs.Rows.{row_of, template_of};
 
 use crate::copy::copy_files;
 use crate::delete::delete;
@@ -17,72 +17,37 @@ use crate::sort::sort;
 use crate::type_files::type_files;
 use ados_find::{CommandResult, Shared, ShellView};
 use ados_readargs::Args;
-use ados_resident::{Builtin, Dialect, FilesCommand};
+use ados_resident::{Dialect, FilesCommand};
 use std::alloc::Global;
 
-/// The commands of this crate, in the order in which they are declared.
-pub const COMMANDS: [Builtin; 12] = [
-    Builtin::Files(FilesCommand::Copy),
-    Builtin::Files(FilesCommand::Delete),
-    Builtin::Files(FilesCommand::Dir),
-    Builtin::Files(FilesCommand::Filenote),
-    Builtin::Files(FilesCommand::Join),
-    Builtin::Files(FilesCommand::List),
-    Builtin::Files(FilesCommand::MakeDir),
-    Builtin::Files(FilesCommand::Protect),
-    Builtin::Files(FilesCommand::Rename),
-    Builtin::Files(FilesCommand::Search),
-    Builtin::Files(FilesCommand::Sort),
-    Builtin::Files(FilesCommand::Type),
-];
-
-/// The text of a command's template in a dialect.
+/// The text of a command's template in a dialect. Search and Sort are commands of Full alone.
 pub fn template(dialect: Dialect, command: FilesCommand) -> &'static str
     ensures { result.now ≡ template_of dialect command }
 {
-    match dialect {
-        Dialect::Core => core_template(command),
-        Dialect::Full => full_template(command),
-    }
-}
-
-/// The text of a command's template in Core, and those of Search and Sort, which Full alone has.
-fn core_template(command: FilesCommand) -> &'static str
-    ensures { result.now ≡ core_template_of command }
-{
-    match command {
-        FilesCommand::Copy => "FROM/M,TO/A,ALL/S,QUIET/S",
-        FilesCommand::Delete => "FILE/M/A,ALL/S,QUIET/S",
-        FilesCommand::Dir => "DIR,DIRS/S,FILES/S",
-        FilesCommand::Filenote => "FILE/A,COMMENT",
-        FilesCommand::Join => "FILE/M/A,AS=TO/K/A",
-        FilesCommand::List => "DIR/M,P=PAT/K,QUICK/S,FILES/S,DIRS/S",
-        FilesCommand::MakeDir => "NAME/M",
-        FilesCommand::Protect => "FILE/A,FLAGS,ADD/S,SUB/S",
-        FilesCommand::Rename => "FROM/A,TO=AS/A",
-        FilesCommand::Search => "FROM/M,SEARCH/A,ALL/S,NONUM/S,QUIET/S,QUICK/S,FILE/S,PATTERN/S",
-        FilesCommand::Sort => "FROM/A,TO/A,COLSTART/K/N,CASE/S,NUMERIC/S",
-        FilesCommand::Type => "FROM/A/M",
-    }
-}
-
-/// The text of a command's template in Full.
-fn full_template(command: FilesCommand) -> &'static str
-    ensures { result.now ≡ full_template_of command }
-{
-    match command {
-        FilesCommand::Copy =>
+    match (command, dialect) {
+        (FilesCommand::Copy, Dialect::Core) => "FROM/M,TO/A,ALL/S,QUIET/S",
+        (FilesCommand::Copy, Dialect::Full) =>
             "FROM/M,TO/A,ALL/S,QUIET/S,CLONE/S,COM/S,NOPRO/S,DATES/S,NOREQ/S,BUF=BUFFER/K/N",
-        FilesCommand::Delete => "FILE/M/A,ALL/S,QUIET/S,FORCE/S",
-        FilesCommand::Dir => "DIR,DIRS/S,FILES/S,ALL/S,OPT/K,INTER/S",
-        FilesCommand::Filenote => "FILE/A,COMMENT,ALL/S,QUIET/S",
-        FilesCommand::List =>
+        (FilesCommand::Delete, Dialect::Core) => "FILE/M/A,ALL/S,QUIET/S",
+        (FilesCommand::Delete, Dialect::Full) => "FILE/M/A,ALL/S,QUIET/S,FORCE/S",
+        (FilesCommand::Dir, Dialect::Core) => "DIR,DIRS/S,FILES/S",
+        (FilesCommand::Dir, Dialect::Full) => "DIR,DIRS/S,FILES/S,ALL/S,OPT/K,INTER/S",
+        (FilesCommand::Filenote, Dialect::Core) => "FILE/A,COMMENT",
+        (FilesCommand::Filenote, Dialect::Full) => "FILE/A,COMMENT,ALL/S,QUIET/S",
+        (FilesCommand::Join, _) => "FILE/M/A,AS=TO/K/A",
+        (FilesCommand::List, Dialect::Core) => "DIR/M,P=PAT/K,QUICK/S,FILES/S,DIRS/S",
+        (FilesCommand::List, Dialect::Full) =>
             "DIR/M,P=PAT/K,QUICK/S,FILES/S,DIRS/S,TO/K,SUB/K,LFORMAT/K,ALL/S,KEYS/S,DATES/S,NODATES/S,BLOCK/S,NOHEAD/S,SINCE/K,UPTO/K",
-        FilesCommand::Protect => "FILE/A,FLAGS,ADD/S,SUB/S,ALL/S,QUIET/S",
-        FilesCommand::Rename => "FROM/A/M,TO=AS/A,QUIET/S",
-        FilesCommand::Type => "FROM/A/M,TO/K,HEX/S,NUMBER/S,OPT/K",
-        FilesCommand::Join | FilesCommand::MakeDir | FilesCommand::Search | FilesCommand::Sort =>
-            core_template(command),
+        (FilesCommand::MakeDir, _) => "NAME/M",
+        (FilesCommand::Protect, Dialect::Core) => "FILE/A,FLAGS,ADD/S,SUB/S",
+        (FilesCommand::Protect, Dialect::Full) => "FILE/A,FLAGS,ADD/S,SUB/S,ALL/S,QUIET/S",
+        (FilesCommand::Rename, Dialect::Core) => "FROM/A,TO=AS/A",
+        (FilesCommand::Rename, Dialect::Full) => "FROM/A/M,TO=AS/A,QUIET/S",
+        (FilesCommand::Search, _) =>
+            "FROM/M,SEARCH/A,ALL/S,NONUM/S,QUIET/S,QUICK/S,FILE/S,PATTERN/S",
+        (FilesCommand::Sort, _) => "FROM/A,TO/A,COLSTART/K/N,CASE/S,NUMERIC/S",
+        (FilesCommand::Type, Dialect::Core) => "FROM/A/M",
+        (FilesCommand::Type, Dialect::Full) => "FROM/A/M,TO/K,HEX/S,NUMBER/S,OPT/K",
     }
 }
 

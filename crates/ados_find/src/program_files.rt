@@ -11,27 +11,29 @@ use ados_resident::{MARK, Program};
 use ados_text::{NoMemory, Result2};
 use std::alloc::Global;
 
-/// What a word stands for that leads to this file.
-pub(crate) fn file_as(
-    alloc: Global,
-    shared: &Shared,
-    place: &Place,
-    entry: &Entry,
-) -> Result<Found, NoMemory>
-    ensures { IfOk result (λ found. found ≡ file_kind shared.now place.now entry.now) }
-{
-    if entry.bits.script {
-        return Ok(Found::Script(place.copy()?));
-    }
-    if !entry.bits.execute {
-        return Ok(Found::NotExecutable(Result2::NOT_EXECUTABLE));
-    }
-    match entry_program(alloc, shared, entry)? {
-        Some(program) => Ok(Found::File(ProgramFile {
-            place: place.copy()?,
-            program,
-        })),
-        None => Ok(Found::NotExecutable(Result2::NO_PROGRAM_FILE)),
+impl Shared {
+    /// What a word stands for that leads to this file.
+    pub(crate) fn file_as(
+        &self,
+        alloc: Global,
+        place: &Place,
+        entry: &Entry,
+    ) -> Result<Found, NoMemory>
+        ensures { IfOk result (λ found. found ≡ file_kind self.now place.now entry.now) }
+    {
+        if entry.bits.script {
+            return Ok(Found::Script(place.copy()?));
+        }
+        if !entry.bits.execute {
+            return Ok(Found::NotExecutable(Result2::NOT_EXECUTABLE));
+        }
+        match entry_program(alloc, self, entry)? {
+            Some(program) => Ok(Found::File(ProgramFile {
+                place: place.copy()?,
+                program,
+            })),
+            None => Ok(Found::NotExecutable(Result2::NO_PROGRAM_FILE)),
+        }
     }
 }
 

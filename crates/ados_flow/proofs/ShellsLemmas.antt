@@ -8,7 +8,6 @@ use Rattle.ados_ram.specs.Place.{Place}
 use Rattle.ados_readargs.specs.declared.args.Arg.{Arg}
 use Rattle.ados_readargs.specs.Args.{has_switch, option_text}
 use Rattle.ados_find.specs.declared.codes.Codes.{Codes}
-use Rattle.ados_find.specs.Paths.{place_of}
 use Rattle.ados_find.specs.Effects.{if_found, if_given}
 use Rattle.ados_find.specs.Shared.{SharedState}
 use Rattle.ados_find.specs.Views.{IgnoresShells}
@@ -18,7 +17,7 @@ use Rattle.ados_flow.specs.declared.conditions.Test.{Test}
 use Rattle.ados_flow.specs.declared.conditions.Test.TheVariants.{Warn, Error, Fail, Equal, Greater, GreaterOrEqual, Exists}
 use Rattle.ados_flow.specs.Actions.{codes_action}
 use Rattle.ados_flow.specs.Branches.{if_action, if_row}
-use Rattle.ados_flow.specs.Execute.{execute_file, script_by_word, script_place, script_read, script_row}
+use Rattle.ados_flow.specs.Execute.{execute_file, found_script, script_read, script_row}
 use Rattle.ados_flow.specs.Frames.{ScriptLine}
 use Rattle.ados_flow.specs.Rows.{row_of}
 use Rattle.ados_flow.specs.Conditions.{exists, holds, test_of}
@@ -57,13 +56,9 @@ at-ignores : (shared : SharedState) (args : Text) (place : Result Place Codes) �
 at-ignores shared args (Err codes) = λ view names uses. refl
 at-ignores shared args (Ok place) = script-ignores shared args place
 
-word-ignores : (shared : SharedState) (word args : Text) (place : Result Place Codes) → IgnoresShells (λ view. if_found (codes_action shared) place (script_by_word shared view word args))
-word-ignores shared word args (Err codes) = λ view names uses. refl
-word-ignores shared word args (Ok place) = λ view names uses. at-ignores shared args (script_place shared view.parts.directory word place) view names uses
-
 file-ignores : (shared : SharedState) (word : Option Text) (args : Text) → IgnoresShells (λ view. if_given (codes_action shared) word (execute_file shared view args))
 file-ignores shared None args = λ view names uses. refl
-file-ignores shared (Some word) args = λ view names uses. word-ignores shared word args (place_of shared view.parts.directory word) view names uses
+file-ignores shared (Some word) args = λ view names uses. at-ignores shared args (found_script shared view.parts.directory word) view names uses
 
 -- the last clause is checked at each other command
 pub ignores_shells : (command : FlowCommand) (shared : SharedState) (script_line : Option ScriptLine) (args : List Arg) → IgnoresShells (λ view. row_of command shared script_line view args)

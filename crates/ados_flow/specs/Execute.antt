@@ -30,6 +30,10 @@ abbrev pub script_place : SharedState → Place → Text → Place → Result Pl
 script_place shared directory word place =
     if not (is_path word) && is_none (map.get shared.files (key_of place)) then place_of shared directory (codes "S:" ++ word) else Ok place
 
+-- where Execute finds the script of a word, if the word leads to a place
+abbrev pub found_script : SharedState → Place → Text → Result Place Codes
+found_script shared directory word = if_found Err (place_of shared directory word) (script_place shared directory word)
+
 -- the action for a fault of arguments or of substitution: the command returns 20 with the fault's number. The definitions never run out of
 -- memory: the case of it only makes the function total, and gives 103.
 abbrev pub fault_answer : SharedState → Result Result2 NoMemory → Action
@@ -50,14 +54,9 @@ script_read shared view place args (Ok bytes) = call_of_lines shared (full_path 
 unfoldable pub script_row : SharedState → View → Text → Place → Action
 script_row shared view args place = script_read shared view place args (read_result shared.files view.busy.outputs place)
 
--- the call with these arguments of the script of a word, whose place is the last parameter
-abbrev pub script_by_word : SharedState → View → Text → Text → Place → Action
-script_by_word shared view word args place =
-    if_found (codes_action shared) (script_place shared view.parts.directory word place) (script_row shared view args)
-
 -- Execute of the script that a word names with these arguments
 abbrev pub execute_file : SharedState → View → Text → Text → Action
-execute_file shared view args word = if_found (codes_action shared) (place_of shared view.parts.directory word) (script_by_word shared view word args)
+execute_file shared view args word = if_found (codes_action shared) (found_script shared view.parts.directory word) (script_row shared view args)
 
 -- Execute, given its arguments: it calls the script FILE with ARGS
 abbrev pub execute_row : SharedState → View → List Arg → Action

@@ -3,7 +3,7 @@ ghost use Rattle.std.specs.{Prelude.{◌≡◌, ◌++◌, IfOk, codes}, Fmt.{dec
 ghost use Rattle.ados_text.specs.Lines.{lines_of};
 ghost use Rattle.ados_find.specs.{Paths.{place_of, Gives}, Shared.{SharedState}};
 ghost use Rattle.ados_subst.specs.Scripts.{script_of};
-ghost use Rattle.ados_flow.specs.{Actions.{action_effect}, Execute.{call_of_lines, execute_file, execute_row, script_by_word, script_place, script_row}};
+ghost use Rattle.ados_flow.specs.{Actions.{action_effect}, Execute.{call_of_lines, execute_row, found_script, script_row}};
 
 use crate::actions::Action;
 use crate::called::Called;
@@ -27,56 +27,21 @@ pub fn execute(
 ) -> Result<Action, NoMemory>
     ensures { IfOk result (λ action. action_effect shared.now action ≡ execute_row shared.now view.now args.now) }
 {
-    match args.made_text(alloc, 0)? {
-        None => Ok(Action::answering(alloc, Codes::failed(Result2::ARGUMENT_MISSING))),
-        Some(word) => call(alloc, shared, view, &word, args.text(1).unwrap_or(&[])),
-    }
-}
-
-fn call(
-    alloc: Global,
-    shared: &Shared,
-    view: &ShellView,
-    word: &Text,
-    args: &[u8],
-) -> Result<Action, NoMemory>
-    ensures { IfOk result (λ action. action_effect shared.now action ≡ execute_file shared.now view.now args.now word.now) }
-{
-    match place_of(alloc, shared, view.directory, word) {
+    let Some(word) = args.made_text(alloc, 0)? else {
+        return Ok(Action::answering(alloc, Codes::failed(Result2::ARGUMENT_MISSING)));
+    };
+    match found_script(alloc, shared, view.directory, &word) {
         Err(Refusal::NoMemory) => Err(NoMemory),
         Err(Refusal::Stopped(codes)) => Ok(Action::answering(alloc, codes)),
-        Ok(place) => call_found(alloc, shared, view, word, place, args),
+        Ok(place) => call_script(alloc, shared, view, &place, args.text(1).unwrap_or(&[])),
     }
 }
 
-/// Calls the script of a word that leads to this place.
-fn call_found(
-    alloc: Global,
-    shared: &Shared,
-    view: &ShellView,
-    word: &Text,
-    place: Place,
-    args: &[u8],
-) -> Result<Action, NoMemory>
-    ensures { IfOk result (λ action. action_effect shared.now action ≡ script_by_word shared.now view.now word.now args.now place) }
+/// Where the script of a word is: at the place to which it leads, or in S: if the word is not a path and no object is there.
+fn found_script(alloc: Global, shared: &Shared, directory: &Place, word: &Text) -> Lookup<Place>
+    ensures { Gives result (found_script shared.now directory.now word.now) }
 {
-    match script_place(alloc, shared, view.directory, word, place) {
-        Err(Refusal::NoMemory) => Err(NoMemory),
-        Err(Refusal::Stopped(codes)) => Ok(Action::answering(alloc, codes)),
-        Ok(found) => call_script(alloc, shared, view, &found, args),
-    }
-}
-
-/// Where a script is looked for: at the place of its word, or in S: if the word is not a path and no object is there.
-fn script_place(
-    alloc: Global,
-    shared: &Shared,
-    directory: &Place,
-    word: &Text,
-    place: Place,
-) -> Lookup<Place>
-    ensures { Gives result (script_place shared.now directory.now word.now place) }
-{
+    let place = place_of(alloc, shared, directory, word)?;
     if !is_path(word) && shared.ram.look(&place).is_none() {
         place_in_scripts(alloc, shared, directory, word)
     } else {

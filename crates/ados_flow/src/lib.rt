@@ -33,4 +33,4 @@ pub use kinds::FrameKind;
 pub use laws::options_have_their_places;
 pub use reads::reads_in_use;
 pub use records::Record;
-pub use rows::{COMMANDS, run, template};
+pub use rows::{run, template};

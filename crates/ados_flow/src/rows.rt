@@ -1,7 +1,7 @@
 // What each command does.
 ghost use Rattle.std.specs.{Prelude.{◌≡◌, IfOk}, Option.{option_copied}};
 ghost use Rattle.ados_find.specs.Views.{IgnoresShells};
-ghost use Rattle.ados_flow.specs.{Actions.{action_effect}, Frames.{script_line_of}, Rows.{row_of, core_template_of, full_template_of, template_of}};
+ghost use Rattle.ados_flow.specs.{Actions.{action_effect}, Frames.{script_line_of}, Rows.{row_of, template_of}};
 
 use crate::actions::Action;
 use crate::ask::ask;
@@ -11,62 +11,23 @@ use crate::frames::Frame;
 use crate::quit::quit;
 use ados_find::{Codes, Shared, ShellView};
 use ados_readargs::Args;
-use ados_resident::{Builtin, Dialect, FlowCommand};
+use ados_resident::{Dialect, FlowCommand};
 use ados_text::NoMemory;
 use std::alloc::Global;
-
-/// The commands of this crate, in the order in which they are declared.
-pub const COMMANDS: [Builtin; 9] = [
-    Builtin::Flow(FlowCommand::Ask),
-    Builtin::Flow(FlowCommand::Else),
-    Builtin::Flow(FlowCommand::EndIf),
-    Builtin::Flow(FlowCommand::EndSkip),
-    Builtin::Flow(FlowCommand::Execute),
-    Builtin::Flow(FlowCommand::If),
-    Builtin::Flow(FlowCommand::Lab),
-    Builtin::Flow(FlowCommand::Quit),
-    Builtin::Flow(FlowCommand::Skip),
-];
 
 /// The text of a command's template in a dialect.
 pub fn template(dialect: Dialect, command: FlowCommand) -> &'static str
     ensures { result.now ≡ template_of dialect command }
 {
-    match dialect {
-        Dialect::Core => core_template(command),
-        Dialect::Full => full_template(command),
-    }
-}
-
-/// The text of a command's template in Core.
-fn core_template(command: FlowCommand) -> &'static str
-    ensures { result.now ≡ core_template_of command }
-{
-    match command {
-        FlowCommand::Ask => "PROMPT/A",
-        FlowCommand::Else | FlowCommand::EndIf | FlowCommand::EndSkip => "",
-        FlowCommand::Execute => "FILE/A,ARGS/F",
-        FlowCommand::If => "NOT/S,WARN/S,ERROR/S,FAIL/S,,EQ/K,GT/K,GE/K,VAL/S,EXISTS/K",
-        FlowCommand::Lab => "LABEL/F",
-        FlowCommand::Quit => "RC/N",
-        FlowCommand::Skip => "LABEL,BACK/S",
-    }
-}
-
-/// The text of a command's template in Full.
-fn full_template(command: FlowCommand) -> &'static str
-    ensures { result.now ≡ full_template_of command }
-{
-    match command {
-        FlowCommand::Ask
-        | FlowCommand::Else
-        | FlowCommand::EndIf
-        | FlowCommand::EndSkip
-        | FlowCommand::Execute
-        | FlowCommand::If
-        | FlowCommand::Lab
-        | FlowCommand::Quit => core_template(command),
-        FlowCommand::Skip => "LABEL/M,BACK/S",
+    match (command, dialect) {
+        (FlowCommand::Ask, _) => "PROMPT/A",
+        (FlowCommand::Else | FlowCommand::EndIf | FlowCommand::EndSkip, _) => "",
+        (FlowCommand::Execute, _) => "FILE/A,ARGS/F",
+        (FlowCommand::If, _) => "NOT/S,WARN/S,ERROR/S,FAIL/S,,EQ/K,GT/K,GE/K,VAL/S,EXISTS/K",
+        (FlowCommand::Lab, _) => "LABEL/F",
+        (FlowCommand::Quit, _) => "RC/N",
+        (FlowCommand::Skip, Dialect::Core) => "LABEL,BACK/S",
+        (FlowCommand::Skip, Dialect::Full) => "LABEL/M,BACK/S",
     }
 }
 

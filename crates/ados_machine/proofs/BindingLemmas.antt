@@ -1,6 +1,7 @@
 -- The end of an event binds only Defers that it used, and only to directories that are there.
 use Rattle.std.proofs.Common.{◌≡◌, ◌⊎◌, ◌<◌, get_or, ◌∙◌, ℕ, zero, suc, List, [], ◌∷◌, Bool, true, false, cond, Option, Some, None, option_map, Ok, Err, if◌then◌else◌, inl, inr, refl, sym, ap, subst, arith}
 use Rattle.std.proofs.lemmas.Bool.{cases_Bool}
+use Rattle.std.specs.List.{Contains}
 use Rattle.std.specs.FinMap as map
 use Rattle.std.specs.FinMap.{get-insert}
 use Rattle.std.specs.declared.cmp.Ordering.{Ordering}
@@ -98,25 +99,12 @@ row-at used files m a name = of (is_used used a.name) refl
     of true u = placed-at used files m a name (deferred_place files m a.binding) u refl
     of false u = inl refl
 
--- one of more assigns
-among-more : (used : List Text) (files : Files) (a : Assign) (rest : List Assign) (name : Text) (now : Option Assign)
-    → IsBound used files rest name now → IsBound used files (a ∷ rest) name now
-among-more used files a rest name now b = record {
+-- what was bound of some assigns was bound of others among which its assign is, and by the same binding
+bound-among : (used : List Text) (files : Files) (rows others : List Assign) (name : Text) (now now' : Option Assign)
+    → now' ≡ now → (b : IsBound used files rows name now) → Contains others b.assign → IsBound used files others name now'
+bound-among used files rows others name now now' e b was = record {
   assign = b.assign;
-  was = (suc b.was.0, omega (arith, b.was.1), b.was.2);
-  name_is = b.name_is;
-  defers = b.defers;
-  used_is = b.used_is;
-  place = b.place;
-  stands_for = b.stands_for;
-  directory = b.directory;
-}
-
-first-of : (used : List Text) (files : Files) (a : Assign) (rest : List Assign) (name : Text) (now now' : Option Assign)
-    → now' ≡ now → IsBound used files (a ∷ []) name now → IsBound used files (a ∷ rest) name now'
-first-of used files a rest name now now' e b = record {
-  assign = b.assign;
-  was = (0, omega arith, only b.was.0 b.was.1 b.was.2);
+  was = was;
   name_is = b.name_is;
   defers = b.defers;
   used_is = b.used_is;
@@ -124,20 +112,27 @@ first-of used files a rest name now now' e b = record {
   stands_for = ap (option_map (λ x. x.binding)) e ∙ b.stands_for;
   directory = b.directory;
 }
+
+-- the first of these assigns, or one of those after it
+contains-first : (a assign : Assign) (rest : List Assign) → Contains (a ∷ []) assign → Contains (a ∷ rest) assign
+contains-first a assign rest was = (0, omega arith, only was.0 was.1 was.2)
   where
-    only : (k : ℕ) → k < 1 → get_or (a ∷ []) k b.assign ≡ b.assign → a ≡ b.assign
+    only : (k : ℕ) → k < 1 → get_or (a ∷ []) k assign ≡ assign → a ≡ assign
     only zero l q = q
     only (suc k) l q = absurd (omega (arith, l))
+
+contains-more : (a assign : Assign) (rest : List Assign) → Contains rest assign → Contains (a ∷ rest) assign
+contains-more a assign rest was = (suc was.0, omega (arith, was.1), was.2)
 
 each-at : (used : List Text) (files : Files) (m : AssignMap) (rows : List Assign) (name : Text)
     → (map.get (with_assigns_bound files used m rows) name ≡ map.get m name) ⊎ IsBound used files rows name (map.get (with_assigns_bound files used m rows) name)
 each-at used files m [] name = inl refl
 each-at used files m (a ∷ rest) name =
     elim (each-at used files (with_assign_bound files used m a) rest name) [
-      | inr b ↦ inr (among-more used files a rest name _ b)
+      | inr b ↦ inr (bound-among used files rest (a ∷ rest) name _ _ refl b (contains-more a b.assign rest b.was))
       | inl still ↦ elim (row-at used files m a name) [
         | inl same ↦ inl (still ∙ same)
-        | inr b ↦ inr (first-of used files a rest name _ _ still b)
+        | inr b ↦ inr (bound-among used files (a ∷ []) (a ∷ rest) name _ _ still b (contains-first a b.assign rest b.was))
       ]
     ]
 

@@ -1,5 +1,5 @@
 -- The Defers that a plain command used are bound.
-use Rattle.std.proofs.Common.{◌++◌, ◌≡◌, ◌⊎◌, ◌∙◌, sym, ℕ, List, [], ◌∷◌, Option, Some, None, refl, ap, inl, inr}
+use Rattle.std.proofs.Common.{◌≡◌, ◌⊎◌, ◌∙◌, sym, List, [], ◌∷◌, refl, ap, inl, inr}
 use Rattle.std.specs.FinMap as map
 use Rattle.ados_text.specs.Text.{Text, Bytes}
 use Rattle.ados_ram.specs.Files.{Files}
@@ -10,43 +10,14 @@ use Rattle.ados_find.specs.declared.codes.Codes.{Codes}
 use Rattle.ados_find.specs.Shared.{SharedState}
 use Rattle.ados_find.specs.declared.targets.Target.TheVariants.{Nil, At}
 use Rattle.ados_machine.specs.Apply.{turn_of_completion}
-use Rattle.ados_line.specs.declared.lines.Line.{Line}
-use Rattle.ados_find.specs.Devices.{searched_devices}
-use Rattle.ados_resident.specs.declared.commands.Builtin.{Builtin}
-use Rattle.ados_machine.specs.Bound.{with_reached, devices_of_raw, devices_in_phase, devices_of_search, devices_used, UsedDefersAreBound}
-use Rattle.ados_machine.specs.Phases.{Phase, Ready, GoingOn, Waiting}
-use Rattle.ados_machine.specs.Shells.{ShellState}
-use Rattle.ados_machine.specs.World.{WorldState, input_of}
+use Rattle.ados_machine.specs.Bound.{UsedDefersAreBound}
 use Rattle.ados_machine.specs.Course.{Course, put, shared_after_event}
 use Rattle.ados_machine.specs.Lines.{with_effect, put_completion}
-use Rattle.ados_machine.specs.Next.{line_to_take, frames_at}
+use Rattle.ados_machine.specs.Next.{frames_at}
 use Rattle.ados_machine.specs.Sinks.{Sink, Console, Kept, To, newest_sink}
 use Rattle.ados_machine.specs.Step.{Accepted, turn_taken, start, course_without_flag}
-use Rattle.ados_machine.specs.Uses.{devices_reached, variable_devices, devices_of, shared_with_bound}
-use Rattle.ados_machine.proofs.PlainLemmas.{noted_used, effect-turns}
-use Rattle.ados_machine.proofs.NextLemmas.{noted, noted_of_raw, noted_in_phase}
-
--- what is noted as used is what is used
-noted-same : (assigns : AssignMap) (devices : List Text) → noted assigns devices ≡ with_reached assigns devices
-unfolding devices_reached
-noted-same assigns devices = refl
-
-raw-same : (w : WorldState) (shell : ShellState) (raw : Option Text) → noted_of_raw w shell raw ≡ devices_of_raw w shell raw
-raw-same w shell None = refl
-raw-same w shell (Some raw) = noted-same w.shared.assigns (variable_devices shell.parts raw)
-
-phase-same : (w : WorldState) (k : ℕ) (shell : ShellState) (now : Phase) → noted_in_phase w k shell now ≡ devices_in_phase w k shell now
-phase-same w k shell Ready = raw-same w shell (line_to_take shell.frames (input_of w k).queue)
-phase-same w k shell (GoingOn parted) = refl
-phase-same w k shell (Waiting wait) = refl
-
-used-same : (w : WorldState) (k : ℕ) (shell : ShellState) (line : Line) (builtin : Builtin) → noted_used w k shell line builtin ≡ devices_used w k shell line builtin
-used-same w k shell line builtin =
-    let search = searched_devices w.shared shell.parts.directory shell.parts.settings.path line.command in
-    let args = devices_of builtin w.shared shell.parts line.args in
-    ap (λ u. (u ++ noted w.shared.assigns search) ++ noted w.shared.assigns args) (phase-same w k shell shell.phase)
-    ∙ (ap (λ u. (devices_in_phase w k shell shell.phase ++ u) ++ noted w.shared.assigns args) (noted-same w.shared.assigns search)
-    ∙ ap (λ u. (devices_in_phase w k shell shell.phase ++ devices_of_search w shell line.command) ++ u) (noted-same w.shared.assigns args))
+use Rattle.ados_machine.specs.Uses.{shared_with_bound}
+use Rattle.ados_machine.proofs.PlainLemmas.{effect-turns}
 
 -- nothing is bound if nothing was used
 none-bound : (files : Files) (assigns : AssignMap) (rows : List Assign) → with_assigns_bound files [] assigns rows ≡ assigns
@@ -77,4 +48,4 @@ used-defers-bound w k shell line effect world out items takes where_to accepted 
     let same : turn_taken w k turn.queue t ≡ Accepted world out items = sym turn.does ∙ accepted in
     let shared : world.shared ≡ shared_after_event t.course = cc in
     ap (λ s. s.assigns) (shared ∙ put-shared (newest_sink (frames_at shell)) effect.output effect.codes course where_to)
-    ∙ (bound-by turn.used effect.shared ∙ ap (λ used. with_used_defers_bound used effect.shared.files effect.shared.assigns) (turn.used_is ∙ used-same w k shell line takes.builtin))
+    ∙ (bound-by turn.used effect.shared ∙ ap (λ used. with_used_defers_bound used effect.shared.files effect.shared.assigns) turn.used_is)

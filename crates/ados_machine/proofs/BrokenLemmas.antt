@@ -1,16 +1,8 @@
 -- What a break sets, and when it is used up.
-use Rattle.std.proofs.Common.{[], ◌∷◌, ◌≡◌, ◌≢◌, ◌∙◌, sym, ℕ, Bool, true, false, ◌||◌, Option, Some, None, refl, ap, inl, inr, List}
+use Rattle.std.proofs.Common.{◌≡◌, ◌≢◌, ◌∙◌, sym, ℕ, Bool, true, false, ◌||◌, Option, Some, None, refl, ap, inl, inr, List}
 use Rattle.std.proofs.lemmas.Bool.{cases_Bool, eq-eqb, ne_eqb}
-use Rattle.ados_text.specs.Text.{Bytes}
-use Rattle.ados_ram.specs.Files.{Files}
-use Rattle.ados_ram.specs.FileOperations.{put_open_of, put_open_fault}
-use Rattle.ados_find.specs.Shared.{limits_of}
-use Rattle.ados_ram.specs.Place.{key_of, last_name}
-use Rattle.ados_text.specs.declared.codes.Result2.{Result2}
-use Rattle.ados_find.specs.declared.codes.Codes.{Codes}
 use Rattle.ados_find.specs.declared.outcomes.Breaking.{Breaking}
 use Rattle.ados_find.specs.declared.outcomes.Renamed.{Renamed}
-use Rattle.ados_find.specs.declared.targets.Target.TheVariants.{Nil, At}
 use Rattle.ados_machine.specs.declared.events.Event.TheVariants.{Turn, Break}
 use Rattle.ados_machine.specs.declared.events.BreakKind.{BreakKind}
 use Rattle.ados_machine.specs.declared.events.BreakKind.TheVariants.{C, D}
@@ -18,20 +10,20 @@ use Rattle.ados_machine.specs.declared.phases.Wait.TheVariants.{ForAnswer, ForLi
 use Rattle.ados_machine.specs.Apply.{TurnResult, turn_of_completion}
 use Rattle.ados_machine.specs.Breaks.{kind_breaks, broken_place, marked_in, mark_in}
 use Rattle.ados_machine.specs.Broken.{flag_of_shell, may_be_marked, BreaksByCMark, BreaksByDFlag, BreaksUseUpTheFlag, CommandsUseUpTheFlag}
-use Rattle.ados_machine.specs.Carrying.{carried_or_same}
 use Rattle.ados_machine.specs.Children.{mark_of_shell}
-use Rattle.ados_machine.specs.Course.{Course, put, put_unless}
+use Rattle.ados_machine.specs.Course.{Course, put}
 use Rattle.ados_machine.specs.Laws.{is_breakable}
 use Rattle.ados_machine.specs.Lines.{with_effect, put_completion}
 use Rattle.ados_machine.specs.Next.{frames_at}
 use Rattle.ados_machine.specs.Phases.{Phase, Ready, GoingOn, Waiting}
 use Rattle.ados_machine.specs.Shells.{ShellState}
-use Rattle.ados_machine.specs.Sinks.{Sink, Console, Kept, To, newest_sink}
-use Rattle.ados_machine.specs.Step.{Response, Refused, Accepted, shell_of_turn, is_done, shell_after_turn, moved_at_turn, turn_taken, turning_response, turn_response, break_response, start, course_without_flag, step_of}
+use Rattle.ados_machine.specs.Sinks.{newest_sink}
+use Rattle.ados_machine.specs.Step.{Response, Refused, Accepted, shell_after_turn, moved_at_turn, turn_taken, turning_response, turn_response, break_response, start, course_without_flag, step_of}
 use Rattle.ados_machine.specs.Turning.{Turning, Refuses, Ends, Turned, turning_in_phase, turning_at_break, turn_at_break}
 use Rattle.ados_machine.specs.World.{WorldState, numbered_shell, is_over, input_of}
+use Rattle.ados_machine.proofs.Keeps.{put-same}
 use Rattle.ados_machine.proofs.PlainLemmas.{effect-turns}
-use Rattle.ados_machine.proofs.Shells.{found, found-broken, found-left, found-set_same, shells_after}
+use Rattle.ados_machine.proofs.Shells.{found, found-broken, found-left, left-same, found-set_same, shells_after}
 
 -- an event of a break
 abbrev BrokenBy : ℕ → BreakKind → WorldState → Response → Type 0
@@ -94,16 +86,8 @@ breaks-by-d w k world out items is =
     }
 
 -- what a turn leaves of its shell is flagged as its course is
-carried-flag : (moved : List Renamed) (shell now : ShellState) → Some (carried_or_same moved shell) ≡ Some now → now.flagged ≡ shell.flagged
-carried-flag [] shell now e = cc
-carried-flag (renamed ∷ more) shell now e = cc
-
 left-flag : (k : ℕ) (moved : List Renamed) (t : TurnResult) (o : Option ShellState) (now : ShellState) → o ≡ shell_after_turn k moved t → o ≡ Some now → now.flagged ≡ t.course.flagged
-left-flag k moved t o now left is =
-    elim (cases_Bool (is_done k t.frames)) [
-      | inl d ↦ (let none : None ≡ Some now = sym (rw d at left) ∙ is in cc)
-      | inr d ↦ (let some : Some (carried_or_same moved (shell_of_turn t)) ≡ Some now = sym (rw d at left) ∙ is in carried-flag moved (shell_of_turn t) now some)
-    ]
+left-flag k moved t o now left is = left-same (λ s. s.flagged) (λ moved shell. refl) k moved t now (sym left ∙ is)
 
 pub left-flag_of : (k : ℕ) (moved : List Renamed) (t : TurnResult) → t.course.flagged ≡ false → (o : Option ShellState) → o ≡ shell_after_turn k moved t → flag_of_shell o ≡ false
 left-flag_of k moved t clear None left = refl
@@ -140,19 +124,6 @@ pub breaks-use-up : BreaksUseUpTheFlag
 breaks-use-up w k world out items found is = rw is at (step-clears w k found)
 
 -- a plain command
-unless-flag : (fault : Option Result2) (answered : Codes) (files : Files) (course : Course) → (put_unless fault answered files course).course.flagged ≡ course.flagged
-unless-flag None answered files course = refl
-unless-flag (Some fault) answered files course = refl
-
-put-flag : (sink : Sink) (output : Bytes) (answered : Codes) (course : Course) → (put sink output answered course).course.flagged ≡ course.flagged
-put-flag Console output answered course = refl
-put-flag Kept output answered course = refl
-put-flag (To Nil) output answered course = refl
-put-flag (To (At place)) [] answered course = refl
-put-flag (To (At place)) (byte ∷ bytes) answered course =
-    let files = course.shared.files in
-    unless-flag (put_open_fault (limits_of course.shared.dialect) files (key_of place) (last_name place) (byte ∷ bytes)) answered (put_open_of files (key_of place) (last_name place) (byte ∷ bytes)) course
-
 pub commands-use-up : CommandsUseUpTheFlag
 commands-use-up w k shell line effect world out items now takes accepted there =
     let turn = effect-turns w k shell line effect takes in
@@ -162,4 +133,5 @@ commands-use-up w k shell line effect world out items now takes accepted there =
     let shells : world.shells ≡ shells_after w.shells k (moved_at_turn w t) t = cc in
     let left : numbered_shell world k ≡ shell_after_turn k (moved_at_turn w t) t =
     ap (λ s. found s k) shells ∙ found-left w.shells k shell (moved_at_turn w t) t takes.command.takes.runs in
-    left-flag k (moved_at_turn w t) t (numbered_shell world k) now left there ∙ put-flag (newest_sink (frames_at shell)) effect.output effect.codes course
+    left-flag k (moved_at_turn w t) t (numbered_shell world k) now left there
+    ∙ put-same (λ c. c.flagged) (λ printed kept shared c. refl) (newest_sink (frames_at shell)) effect.output effect.codes course

@@ -24,9 +24,9 @@ use Rattle.ados_machine.specs.Lines.{line_completion, parted_completion, answer_
 use Rattle.ados_machine.specs.NewShells.{gathered_completion}
 use Rattle.ados_machine.specs.Items.{broken_codes}
 use Rattle.ados_machine.specs.Breaks.{has_script}
-use Rattle.ados_machine.specs.CodeRule.{RuleState, RuleResult, after_break, end_at_break, with_limit, finish, pass_line, finish_with_fault, with_fault_line, newest_kept}
-use Rattle.ados_machine.specs.Apply.{here_of, frames_at_line, code_rule_of}
-use Rattle.ados_machine.specs.Whole.{record_at, report_of, report_broken, with_report, after_broken, common_without_flag, Broken, Common, common_after_event, Whole, Done, Late, Short, remainder, Configuration, configuration, says, here_at, start_at, after_answer, after_own_answer, after_call, after_tick, after_completion, common_with_tick, common_without_tick, after_reply, completion_meaning, script_at, tick_at}
+use Rattle.ados_machine.specs.CodeRule.{RuleState, RuleResult, after_break, end_at_break, with_limit, finish, pass_line, with_fault_line, newest_kept}
+use Rattle.ados_machine.specs.Apply.{here_of, code_rule_of}
+use Rattle.ados_machine.specs.Whole.{record_at, report_of, report_broken, with_report, after_broken, common_without_flag, Broken, Common, common_after_event, Whole, Done, Late, Short, remainder, Configuration, configuration, says, here_at, start_at, after_answer, after_call, after_tick, after_completion, common_with_tick, common_without_tick, after_reply, completion_meaning, script_at, tick_at}
 use Rattle.ados_machine.specs.LoneShell.{turn_at, waits, at_next_line, lines}
 use Rattle.ados_machine.proofs.Alone.{Go, line_event, start_in, turn_event, Lone, go_by, does, completion_event, exec}
 use Rattle.ados_machine.proofs.DirectStates.{ended, breaking, AgreesBy, AgreesHere, at_of, AgreesAt, here-is, weaker, lines-over, there}
@@ -66,22 +66,9 @@ answer-agrees k gas ih n answers common frame frames word answer quits lt =
     over true = (omega arith, refl)
     over false = (omega arith, refl)
 
-finished-agrees : (k gas : ℕ) → AgreesAt k gas →
-    (n : ℕ) (answers : List Reply) (common : Common) (frame : FrameState) (frames : List FrameState)
-    (word : Text) (answer : Codes) (quits : Bool) → n < gas →
-    AgreesHere k frame frames n (go_by k (exec k n answers) common (finish_with_fault word answer quits (frame ∷ frames) common.rule_state))
-    (after_own_answer (lines gas) (remainder n answers) (configuration common (at_of k frame frames)) word answer quits)
-finished-agrees k gas ih n answers common frame frames word answer quits lt =
-    answer-agrees k gas ih n answers (record common { rule_state = with_fault_line word answer.result2 common.rule_state }) frame frames word answer quits lt
-
--- it continues at another line
-jumped-agrees : (k gas : ℕ) → AgreesAt k gas →
-    (n : ℕ) (answers : List Reply) (common : Common) (frame : FrameState) (frames : List FrameState)
-    (word : Text) (answer : Codes) (line : ℕ) → n < gas →
-    AgreesHere k frame frames n (go_by k (exec k n answers) common (finish_with_fault word answer false (frames_at_line line (frame ∷ frames)) common.rule_state))
-    (after_own_answer (lines gas) (remainder n answers) (configuration common (at_of k (frame_at_line line frame) frames)) word answer false)
-jumped-agrees k gas ih n answers common frame frames word answer line lt =
-    finished-agrees k gas ih n answers common (frame_at_line line frame) frames word answer false lt
+-- what all share when the text of its fault was printed
+abbrev with_fault_printed : Text → Codes → Common → Common
+with_fault_printed word answer common = record common { rule_state = with_fault_line word answer.result2 common.rule_state }
 
 -- the shell's events, if `exec` is another
 abbrev exec_of : ℕ → ℕ → List Reply → Go
@@ -164,12 +151,12 @@ completion-agrees : (k gas : ℕ) → AgreesAt k gas →
 completion-agrees k gas ih n answers common frame frames further (Passes course) lt waits =
     passed-agrees k gas ih n answers common frame frames lt
 completion-agrees k gas ih n answers common frame frames further (Answers word answer quits course) lt waits =
-    finished-agrees k gas ih n answers common frame frames word answer quits lt
+    answer-agrees k gas ih n answers (with_fault_printed word answer common) frame frames word answer quits lt
 completion-agrees k gas ih n answers common frame frames further (Jumps word answer line course) lt waits =
-    jumped-agrees k gas ih n answers common frame frames word answer line lt
+    answer-agrees k gas ih n answers (with_fault_printed word answer common) (frame_at_line line frame) frames word answer false lt
 completion-agrees k gas ih n answers common frame frames further (Calls word output script course) lt waits =
     elim (cases_Bool (nat_le frame_limit (length (frame ∷ frames)))) [
-      | inl e ↦ rw e (finished-agrees k gas ih n answers common frame frames word (fail_codes TOO_MANY_LEVELS) false lt)
+      | inl e ↦ rw e (answer-agrees k gas ih n answers (with_fault_printed word (fail_codes TOO_MANY_LEVELS) common) frame frames word (fail_codes TOO_MANY_LEVELS) false lt)
       | inr e ↦ rw e (call-agrees k gas ih n _
           (lines gas (remainder n answers) (configuration common (script_at (at_of k frame frames) output script)) None) frame frames
           script.name word script.script common.rule_state.parts.limit output lt

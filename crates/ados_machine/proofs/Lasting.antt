@@ -1,24 +1,32 @@
 -- What is seen of a shell lasts from one event to the next, while its phase holds it and no answer changes it.
 use Rattle.std.proofs.Common.{◌≡◌, ◌≢◌, ◌∙◌, sym, ℕ, List, [], ◌∷◌, Bool, true, false, Option, Some, None, refl, ap, arith, inl, inr}
 use Rattle.std.proofs.lemmas.Bool.{cases_Bool, cases_eq}
+use Rattle.ados_text.specs.Text.{Bytes}
+use Rattle.ados_text.specs.declared.codes.Result2.{Result2}
+use Rattle.ados_text.specs.declared.codes.TheConstants.Result2.{PIPE_FAULT}
 use Rattle.ados_find.specs.declared.codes.Codes.{Codes}
 use Rattle.ados_find.specs.declared.outcomes.Breaks.{Breaks}
 use Rattle.ados_find.specs.declared.outcomes.Renamed.{Renamed}
 use Rattle.ados_flow.specs.Frames.{FrameState}
 use Rattle.ados_machine.specs.declared.answers.Answer.{Answer as Reply}
+use Rattle.ados_machine.specs.declared.answers.Answer.TheVariants.{«Bytes» as Piece, End, PipeFault, Exit, Signal, WaitFault}
 use Rattle.ados_machine.specs.declared.events.Event.{Event}
 use Rattle.ados_machine.specs.declared.events.BreakKind.{BreakKind}
 use Rattle.ados_machine.specs.declared.phases.Asking.{Asking}
+use Rattle.ados_machine.specs.declared.phases.Child.{Child}
 use Rattle.ados_machine.specs.declared.phases.Gathering.{Gathering}
+use Rattle.ados_machine.specs.declared.phases.Parted.{Parted}
+use Rattle.ados_machine.specs.declared.phases.Starting.{Starting}
 use Rattle.ados_machine.specs.Phases.{Phase}
 use Rattle.ados_machine.specs.Phases as phase
 use Rattle.ados_machine.specs.declared.phases.Wait.{Wait}
 use Rattle.ados_machine.specs.declared.phases.Wait.TheVariants.{ForAnswer, ForLines, ForStart, ForPiece, ForEnd}
-use Rattle.ados_machine.specs.Answers.{answered_in}
+use Rattle.ados_machine.specs.Answers.{with_fault, child_at_end, piece_completion, is_piece, ended_completion, answered_completion, answered_in}
 use Rattle.ados_machine.specs.Breaks.{kind_breaks, shells_after_break, marked_if}
 use Rattle.ados_machine.specs.Carrying.{carried_shells, carried_or_same}
 use Rattle.ados_machine.specs.Course.{Course}
 use Rattle.ados_machine.specs.Completions.{Completion, Passes, Answers, Jumps, Calls, Ticks, Waits}
+use Rattle.ados_machine.specs.InUse.{StaysWhile}
 use Rattle.ados_machine.specs.Numbers.{free_number}
 use Rattle.ados_machine.specs.Apply.{TurnResult, frames_at_line, rule_state_of, turn_of_completion}
 use Rattle.ados_machine.specs.Shells.{ShellStart, begun_shell, ShellState}
@@ -37,18 +45,28 @@ abbrev pub SeenAfter : {X : Type 0} → (List FrameState → Phase → X) → Li
 SeenAfter look frames value (Some (Waits wait course)) = look frames (phase.Waiting wait) ≡ value
 SeenAfter look frames value completion = Unit {0}
 
+-- the phases of a shell that waits for no launcher do not hold it
+abbrev pub FreeWithout : (Phase → Bool) → Type 0
+FreeWithout holds =
+    (holds phase.Ready ≡ false) × ((parted : Parted) → holds (phase.GoingOn parted) ≡ false)
+    × ((asking : Asking) → holds (phase.Waiting (ForAnswer asking)) ≡ false) × ((gathering : Gathering) → holds (phase.Waiting (ForLines gathering)) ≡ false)
+
 -- what is seen of a shell by its frames and its phase, and nothing if there is none; while its phase holds that, it
--- waits for a launcher, whose answers keep it
+-- waits for a launcher, whose answers keep it: one to a start, a piece of output, the end of the output, and a fault of the pipe
 pub record Watch (X : Type 0) : Type 0 where
   pub nothing : X
   pub look : List FrameState → Phase → X
   pub holds : Phase → Bool
   pub marked : (frames : List FrameState) (marks : Bool) (now : Phase) → look frames (marked_if marks now) ≡ look frames now
-  pub idle : (now : Phase) → IsIdle now → holds now ≡ false
-  pub for_answer : (asking : Asking) → holds (phase.Waiting (ForAnswer asking)) ≡ false
-  pub for_lines : (gathering : Gathering) → holds (phase.Waiting (ForLines gathering)) ≡ false
-  pub answers : (frames : List FrameState) (sink : Sink) (course : Course) (now : Phase) (answer : Reply) → holds now ≡ true →
-      SeenAfter look frames (look frames now) (answered_in sink course now answer)
+  pub free : FreeWithout holds
+  pub starts : (frames : List FrameState) (sink : Sink) (course : Course) (starting : Starting) (answer : Reply) → holds (phase.Waiting (ForStart starting)) ≡ true →
+      SeenAfter look frames (look frames (phase.Waiting (ForStart starting))) (answered_completion sink course (ForStart starting) answer)
+  pub pieces : (frames : List FrameState) (sink : Sink) (course : Course) (child : Child) (bytes : Bytes) → holds (phase.Waiting (ForPiece child)) ≡ true →
+      SeenAfter look frames (look frames (phase.Waiting (ForPiece child))) (Some (piece_completion child bytes sink course child.fault))
+  pub ends : (frames : List FrameState) (child : Child) → holds (phase.Waiting (ForPiece child)) ≡ true →
+      look frames (phase.Waiting (ForEnd (child_at_end child))) ≡ look frames (phase.Waiting (ForPiece child))
+  pub pipe_faults : (frames : List FrameState) (child : Child) → holds (phase.Waiting (ForPiece child)) ≡ true →
+      look frames (phase.Waiting (ForEnd (with_fault (child_at_end child) PIPE_FAULT))) ≡ look frames (phase.Waiting (ForPiece child))
 
 abbrev pub seen_by : {X : Type 0} → Watch X → Option ShellState → X
 seen_by s None = s.nothing
@@ -60,6 +78,38 @@ is_held s (Some shell) = s.holds shell.phase
 
 never : false ≡ true → ⊥
 never e = cc
+
+idle-free : {X : Type 0} (s : Watch X) (now : Phase) → IsIdle now → s.holds now ≡ false
+idle-free s phase.Ready idle = s.free.0
+idle-free s (phase.GoingOn parted) idle = s.free.1 parted
+idle-free s (phase.Waiting wait) idle = absurd idle
+
+-- an answer to what a shell waits for
+ended-seen : {X : Type 0} (look : List FrameState → Phase → X) (frames : List FrameState) (value : X) (child : Child) (codes : Codes) (course : Course) (fault : Option Result2) →
+    SeenAfter look frames value (Some (ended_completion child codes course fault))
+ended-seen look frames value child codes course (Some fault) = tt
+ended-seen look frames value child codes course None = tt
+
+wait-seen : {X : Type 0} (s : Watch X) (frames : List FrameState) (sink : Sink) (course : Course) (wait : Wait) (answer : Reply) → s.holds (phase.Waiting wait) ≡ true →
+    SeenAfter s.look frames (s.look frames (phase.Waiting wait)) (answered_completion sink course wait answer)
+wait-seen s frames sink course (ForStart starting) answer held = s.starts frames sink course starting answer held
+wait-seen s frames sink course (ForPiece child) (Piece bytes) held =
+    elim (cases_Bool (is_piece bytes)) [
+      | inl e ↦ rw e (s.pieces frames sink course child bytes held)
+      | inr e ↦ rw e tt
+    ]
+wait-seen s frames sink course (ForPiece child) End held = s.ends frames child held
+wait-seen s frames sink course (ForPiece child) PipeFault held = s.pipe_faults frames child held
+wait-seen s frames sink course (ForEnd child) (Exit status) held = ended-seen s.look frames _ child _ course child.fault
+wait-seen s frames sink course (ForEnd child) Signal held = ended-seen s.look frames _ child _ course child.fault
+wait-seen s frames sink course (ForEnd child) WaitFault held = ended-seen s.look frames _ child _ course child.fault
+wait-seen s frames sink course wait answer held = tt
+
+answer-seen : {X : Type 0} (s : Watch X) (frames : List FrameState) (sink : Sink) (course : Course) (now : Phase) (answer : Reply) → s.holds now ≡ true →
+    SeenAfter s.look frames (s.look frames now) (answered_in sink course now answer)
+answer-seen s frames sink course phase.Ready answer held = tt
+answer-seen s frames sink course (phase.GoingOn parted) answer held = tt
+answer-seen s frames sink course (phase.Waiting wait) answer held = wait-seen s frames sink course wait answer held
 
 carried-seen : {X : Type 0} (s : Watch X) (renamed : List Renamed) (o : Option ShellState) → seen_by s (carried_found renamed o) ≡ seen_by s o
 carried-seen s = carried-same (seen_by s) (λ moved shell. refl)
@@ -158,13 +208,13 @@ by-phase s w k shell (phase.Waiting (ForPiece child)) is e =
 by-phase s w k shell (phase.Waiting (ForEnd child)) is e =
     rw (flagged-refused shell.flagged (input_of w k) shell.frames (course_without_flag (start w shell)) (ForEnd child) refl) tt
 by-phase s w k shell phase.Ready is e =
-    applied-keeps s w k shell (turn_by w k shell phase.Ready) is (ap s.holds e ∙ s.idle phase.Ready tt)
+    applied-keeps s w k shell (turn_by w k shell phase.Ready) is (ap s.holds e ∙ s.free.0)
 by-phase s w k shell (phase.GoingOn parted) is e =
-    applied-keeps s w k shell (turn_by w k shell (phase.GoingOn parted)) is (ap s.holds e ∙ s.idle (phase.GoingOn parted) tt)
+    applied-keeps s w k shell (turn_by w k shell (phase.GoingOn parted)) is (ap s.holds e ∙ s.free.1 parted)
 by-phase s w k shell (phase.Waiting (ForAnswer asking)) is e =
-    applied-keeps s w k shell (turn_by w k shell (phase.Waiting (ForAnswer asking))) is (ap s.holds e ∙ s.for_answer asking)
+    applied-keeps s w k shell (turn_by w k shell (phase.Waiting (ForAnswer asking))) is (ap s.holds e ∙ s.free.2 asking)
 by-phase s w k shell (phase.Waiting (ForLines gathering)) is e =
-    applied-keeps s w k shell (turn_by w k shell (phase.Waiting (ForLines gathering))) is (ap s.holds e ∙ s.for_lines gathering)
+    applied-keeps s w k shell (turn_by w k shell (phase.Waiting (ForLines gathering))) is (ap s.holds e ∙ s.free.3 gathering)
 
 turned-keeps : {X : Type 0} (s : Watch X) (w : WorldState) (k : ℕ) (o : Option ShellState) → numbered_shell w k ≡ o → Keeps s w (turn_response w k o)
 turned-keeps s w k None is = tt
@@ -178,7 +228,7 @@ idle-keeps : {X : Type 0} (s : Watch X) (k : ℕ) (moved : List Renamed) (value 
 idle-keeps s k moved value t idle =
     elim (cases_Bool (is_done k t.frames)) [
       | inl d ↦ rw d (λ held. absurd (never held))
-      | inr d ↦ rw d (λ held. absurd (never (sym (s.idle t.phase idle) ∙ (sym (own-held s moved (shell_of_turn t)) ∙ held))))
+      | inr d ↦ rw d (λ held. absurd (never (sym (idle-free s t.phase idle) ∙ (sym (own-held s moved (shell_of_turn t)) ∙ held))))
     ]
 
 pub waits-keeps : {X : Type 0} (s : Watch X) (k : ℕ) (moved : List Renamed) (value : X) (wait : Wait) (course : Course) (frames : List FrameState) →
@@ -215,7 +265,7 @@ answered-keeps : {X : Type 0} (s : Watch X) (w : WorldState) (k : ℕ) (reply : 
 answered-keeps s w k reply None is = tt
 answered-keeps s w k reply (Some shell) is =
     replied-keeps s w k shell (answered_in (newest_sink shell.frames) (start w shell) shell.phase reply) is
-    (s.answers shell.frames (newest_sink shell.frames) (start w shell) shell.phase reply)
+    (answer-seen s shell.frames (newest_sink shell.frames) (start w shell) shell.phase reply)
 
 break-keeps : {X : Type 0} (s : Watch X) (w : WorldState) (k : ℕ) (kind : BreakKind) (o : Option ShellState) → Keeps s w (break_response w k kind o)
 break-keeps s w k kind None = tt
@@ -232,3 +282,12 @@ step-keeps s w event = of-step w (λ event response. Keeps s w response) (record
   answered = λ k reply shell is. answered-keeps s w k reply (Some shell) is;
   broken = λ k kind shell is. break-keeps s w k kind (Some shell);
 }) event
+
+-- so what a law sees of a shell stays, if it sees what is watched
+pub watched-stays : {X : Type 0} (s : Watch X) (holds : Option ShellState → Bool) (seen : Option ShellState → X) →
+    ((o : Option ShellState) → holds o ≡ is_held s o) → ((o : Option ShellState) → seen o ≡ seen_by s o) →
+    StaysWhile (λ w k. holds (numbered_shell w k)) (λ w k. seen (numbered_shell w k))
+watched-stays s holds seen held same w event world out items is k before after =
+    let keeps : Keeps s w (Accepted world out items) = rw is at (step-keeps s w event) in
+    same (numbered_shell world k)
+    ∙ (keeps k (sym (held (numbered_shell w k)) ∙ before) (sym (held (numbered_shell world k)) ∙ after) ∙ sym (same (numbered_shell w k)))

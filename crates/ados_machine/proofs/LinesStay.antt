@@ -1,5 +1,5 @@
 -- No event changes the lines of a frame.
-use Rattle.std.proofs.Common.{◌≡◌, ◌≢◌, ◌∙◌, sym, ℕ, zero, suc, List, [], ◌∷◌, drop, Bool, false, ◌&&◌, length, nat_le, Option, Some, None, refl, ap, inl, inr}
+use Rattle.std.proofs.Common.{◌≡◌, ◌≢◌, ◌∙◌, sym, ℕ, zero, suc, List, [], ◌∷◌, drop, Bool, false, length, nat_le, Option, Some, None, refl, ap, inl, inr}
 use Rattle.std.proofs.lemmas.Bool.{cases_Bool, cases_eq}
 use Rattle.ados_text.specs.Text.{Text}
 use Rattle.ados_text.specs.declared.codes.Code.{Code}
@@ -17,23 +17,21 @@ use Rattle.ados_machine.specs.declared.events.Event.{Event}
 use Rattle.ados_machine.specs.declared.events.BreakKind.{BreakKind}
 use Rattle.ados_machine.specs.Answers.{answered_in}
 use Rattle.ados_machine.specs.Apply.{TurnResult, frames_at_line, rule_state_of, turn_of_completion}
-use Rattle.ados_machine.specs.Breaks.{break_text, has_script, kept_after_break, kind_breaks, shells_after_break}
+use Rattle.ados_machine.specs.Breaks.{break_text, kept_after_break, kind_breaks}
 use Rattle.ados_machine.specs.Called.{lines_in, LinesStay, FramesKeepTheirLines}
-use Rattle.ados_machine.specs.Carrying.{carried_shells, carried_or_same}
+use Rattle.ados_machine.specs.Carrying.{carried_or_same}
 use Rattle.ados_machine.specs.CodeRule.{RuleState, RuleResult, with_answer, with_fault_line, with_limit, after_end, after_break, finish, pass_line, end_at_break}
 use Rattle.ados_machine.specs.Completions.{Completion, Passes, Answers, Jumps, Calls, Ticks, Waits}
 use Rattle.ados_machine.specs.Course.{Course, with_bytes_printed}
-use Rattle.ados_machine.specs.Numbers.{free_number}
-use Rattle.ados_machine.specs.Phases.{Phase}
 use Rattle.ados_machine.specs.Shells.{ShellState}
 use Rattle.ados_machine.specs.Sinks.{newest_sink}
-use Rattle.ados_machine.specs.Step.{Response, Refused, Accepted, shell_of_turn, is_done, shell_after_turn, moved_at_turn, with_begun, turning_response, break_response, start, course_without_flag, step_of}
+use Rattle.ados_machine.specs.Step.{Response, Refused, Accepted, shell_after_turn, moved_at_turn, turning_response, break_response, start, course_without_flag, step_of}
 use Rattle.ados_machine.specs.Trace.{shell_frames}
-use Rattle.ados_machine.specs.Turning.{Input, Turning, Refuses, Ends, Turned, turning_in_phase, turning_at_break, flagged_turning, turning_of_completion}
+use Rattle.ados_machine.specs.Turning.{Turning, Refuses, Ends, Turned, turn_at_break}
 use Rattle.ados_machine.specs.World.{WorldState, numbered_shell, input_of}
-use Rattle.ados_machine.proofs.Shells.{found, shells_after, found-left, found-set_same, found-set_other, found-broken, broken-frames, broken_for, found-placed_other, carried-free, free-number, found-carried, carried-runs, runs_pos}
+use Rattle.ados_machine.proofs.Shells.{found, shells_after, found-left, found-left_other, left-same, found-set_same, found-set_other, found-broken, broken-frames, broken_for, runs_pos}
 use Rattle.ados_machine.proofs.StepCases.{of-step}
-use Rattle.ados_machine.proofs.TurnCases.{TurnIs, turning-is}
+use Rattle.ados_machine.proofs.TurnCases.{TurnIs, flagged-is, replied-is}
 
 -- of these frames the newest have ended
 abbrev Drops : List FrameState → List FrameState → Type 0
@@ -113,34 +111,8 @@ settle-lines (Calls word output script course) frames = called-lines word output
 settle-lines (Ticks before command after course) frames = inr ((Tick before after, command ∷ []), refl)
 settle-lines (Waits wait course) frames = inl (0, refl)
 
-abbrev TurningKeepsLines : List FrameState → Turning → Type 0
-TurningKeepsLines frames (Turned queue t) = KeepsLines frames t
-TurningKeepsLines frames turning = Unit {0}
-
-by-turn : (frames : List FrameState) (turning : Turning) → TurnIs KeepsLines frames turning → TurningKeepsLines frames turning
-by-turn frames (Refuses why) is = tt
-by-turn frames Ends is = tt
-by-turn frames (Turned queue t) is = is
-
-turning-lines : (input : Input) (frames : List FrameState) (course : Course) (now : Phase) → TurningKeepsLines frames (turning_in_phase input frames course now)
-turning-lines input frames course now =
-    by-turn frames (turning_in_phase input frames course now) (turning-is KeepsLines settle-lines (λ frame frames t keeps. keeps) input frames course now)
-
-in_place-lines : (turning : Turning) (input : Input) (frames : List FrameState) (course : Course) → TurningKeepsLines frames (turning_at_break turning input frames course)
-in_place-lines (Refuses why) input frames course = tt
-in_place-lines Ends input frames course = tt
-in_place-lines (Turned queue t) input frames course = inl (broken-drops frames (rule_state_of (with_bytes_printed break_text course)))
-
-flagged-lines : (flagged : Bool) (input : Input) (frames : List FrameState) (course : Course) (now : Phase) → TurningKeepsLines frames (flagged_turning flagged input frames course now)
-flagged-lines flagged input frames course now =
-    elim (cases_Bool (flagged && has_script frames)) [
-      | inl e ↦ rw e (in_place-lines (turning_in_phase input frames course now) input frames course)
-      | inr e ↦ rw e (turning-lines input frames course now)
-    ]
-
-replied-lines : (input : Input) (frames : List FrameState) (completion : Option Completion) → TurningKeepsLines frames (turning_of_completion input frames completion)
-replied-lines input frames None = tt
-replied-lines input frames (Some completion) = settle-lines completion frames
+break-lines : (frames : List FrameState) (course : Course) → KeepsLines frames (turn_at_break frames course)
+break-lines frames course = inl (broken-drops frames (rule_state_of (with_bytes_printed break_text course)))
 
 -- an event
 abbrev KeepsAll : WorldState → Response → Type 0
@@ -154,38 +126,21 @@ same-lines old o now same is = inl (0, ap lines_in (ap shell_frames (sym is) ∙
 others-frames : (shells : List (Option ShellState)) (k : ℕ) (shell : ShellState) (moved : List Renamed) (t : TurnResult) (j : ℕ) (other : ShellState) →
     found shells k ≡ Some shell → j ≢ k → found shells j ≡ Some other → shell_frames (found (shells_after shells k moved t) j) ≡ other.frames
 others-frames shells k shell moved t j other is differ there =
-    let carried = carried_shells moved shells in
-    let number = free_number shells in
-    let placed = with_begun t.course.begun number carried in
-    let then_there = found-placed_other carried t.course.begun number j (carried_or_same moved other) (carried-free moved shells number (free-number shells))
-    (found-carried moved shells j ∙ carried-runs moved (found shells j) other there) in
-    ap shell_frames (found-set_other (shells_after_break t.course.breaking placed) k (shell_after_turn k moved t) j differ (runs_pos shells k shell is))
-    ∙ (ap shell_frames (found-broken t.course.breaking placed j)
-    ∙ (broken-frames (broken_for t.course.breaking j) (found placed j) ∙ (ap shell_frames then_there ∙ frames-same moved other)))
+    ap shell_frames (found-left_other shells k shell moved t j other is differ there)
+    ∙ (broken-frames (broken_for t.course.breaking j) (Some (carried_or_same moved other)) ∙ frames-same moved other)
   where
     frames-same : (moved : List Renamed) (shell : ShellState) → (carried_or_same moved shell).frames ≡ shell.frames
     frames-same [] shell = refl
     frames-same (renamed ∷ more) shell = refl
-
-left-now : (k : ℕ) (moved : List Renamed) (t : TurnResult) (now : ShellState) → shell_after_turn k moved t ≡ Some now → now.frames ≡ t.frames
-left-now k moved t now is =
-    elim (cases_Bool (is_done k t.frames)) [
-      | inl d ↦ (let none = rw d at is in cc)
-      | inr d ↦ (let some : Some (carried_or_same moved (shell_of_turn t)) ≡ Some now = rw d at is in carried-now moved (shell_of_turn t) now some)
-    ]
-  where
-    carried-now : (moved : List Renamed) (shell now : ShellState) → Some (carried_or_same moved shell) ≡ Some now → now.frames ≡ shell.frames
-    carried-now [] shell now e = cc
-    carried-now (renamed ∷ more) shell now e = cc
 
 some-same : (o : Option ShellState) (a b : ShellState) → o ≡ Some a → o ≡ Some b → a ≡ b
 some-same o a b e f = cc
 
 own-lines : (k : ℕ) (moved : List Renamed) (shell old now : ShellState) (t : TurnResult) → shell ≡ old → KeepsLines shell.frames t → shell_after_turn k moved t ≡ Some now →
     LinesStay (lines_in old.frames) (lines_in now.frames)
-own-lines k moved shell old now t same keeps left = rw (sym same, left-now k moved t now left) keeps
+own-lines k moved shell old now t same keeps left = rw (sym same, left-same (λ s. s.frames) (λ moved shell. refl) k moved t now left) keeps
 
-applied-lines : (w : WorldState) (k : ℕ) (shell : ShellState) (turning : Turning) → numbered_shell w k ≡ Some shell → TurningKeepsLines shell.frames turning →
+applied-lines : (w : WorldState) (k : ℕ) (shell : ShellState) (turning : Turning) → numbered_shell w k ≡ Some shell → TurnIs KeepsLines shell.frames turning →
     KeepsAll w (turning_response w k shell.parts.codes turning)
 applied-lines w k shell (Refuses why) is keeps = tt
 applied-lines w k shell Ends is keeps = λ j old now before after.
@@ -215,9 +170,9 @@ step-lines w event = of-step w (λ event response. KeepsAll w response) (record 
   refused = λ event why. tt;
   typed = λ line. (λ j old now before after. same-lines old _ now (ap shell_frames before) after);
   ended = λ j old now before after. same-lines old _ now (ap shell_frames before) after;
-  turned = λ k shell is. applied-lines w k shell _ is (flagged-lines shell.flagged (input_of w k) shell.frames (course_without_flag (start w shell)) shell.phase);
+  turned = λ k shell is. applied-lines w k shell _ is (flagged-is KeepsLines settle-lines (λ frame frames t keeps. keeps) break-lines shell.flagged (input_of w k) shell.frames (course_without_flag (start w shell)) shell.phase);
   answered = λ k reply shell is. applied-lines w k shell _ is
-      (replied-lines (input_of w k) shell.frames (answered_in (newest_sink shell.frames) (start w shell) shell.phase reply));
+      (replied-is KeepsLines settle-lines (λ frame frames t keeps. keeps) (input_of w k) shell.frames (answered_in (newest_sink shell.frames) (start w shell) shell.phase reply));
   broken = λ k kind shell is. broken-lines w k kind (Some shell);
 }) event
 

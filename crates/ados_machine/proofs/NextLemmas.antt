@@ -10,9 +10,8 @@ use Rattle.ados_flow.specs.Frames.{FrameState, is_ended}
 use Rattle.ados_machine.specs.declared.events.Event.TheVariants.{Turn}
 use Rattle.ados_machine.specs.Phases.{Phase, Ready, GoingOn, Waiting}
 use Rattle.ados_machine.specs.Apply.{here_of, turn_of_completion}
-use Rattle.std.specs.List.{flat_map}
-use Rattle.ados_assign.specs.Assigns.{AssignMap}
-use Rattle.ados_machine.specs.Uses.{devices_reached, variable_devices}
+use Rattle.ados_machine.specs.Bound.{devices_of_raw, devices_in_phase}
+use Rattle.ados_machine.specs.Uses.{devices_reached}
 use Rattle.ados_machine.specs.CodeRule.{RuleState, finish}
 use Rattle.ados_machine.specs.Completions.{Answers}
 use Rattle.ados_machine.specs.Course.{Course}
@@ -25,24 +24,11 @@ use Rattle.ados_machine.specs.Turning.{Input, Turning, Turned, console_turning, 
 use Rattle.ados_machine.specs.World.{WorldState, input_of}
 use Rattle.ados_machine.proofs.Loops.{runs-not-over}
 
--- the devices that are noted as used: these, and those to which texts lead
-abbrev pub noted : AssignMap → List Text → List Text
-noted assigns devices = flat_map (devices_reached assigns) devices
-
-abbrev pub noted_of_raw : WorldState → ShellState → Option Text → List Text
-noted_of_raw w shell None = []
-noted_of_raw w shell (Some raw) = noted w.shared.assigns (variable_devices shell.parts raw)
-
-abbrev pub noted_in_phase : WorldState → ℕ → ShellState → Phase → List Text
-noted_in_phase w k shell Ready = noted_of_raw w shell (line_to_take shell.frames (input_of w k).queue)
-noted_in_phase w k shell (GoingOn parted) = []
-noted_in_phase w k shell (Waiting wait) = []
-
 -- the turn does what comes next, in a course that differs from the one with which it begins only in what it used
 pub record Turns (w : WorldState) (k : ℕ) (shell : ShellState) (next : Result Expanded LineFault) : Type 0 where
   pub queue : List Text
   pub used : List Text
-  pub used_is : used ≡ noted_in_phase w k shell shell.phase
+  pub used_is : used ≡ devices_in_phase w k shell shell.phase
   pub does : step_of w (Turn k) ≡ turn_taken w k queue (turn_of_completion (expanded_completion next (here_of (frames_at shell)) (record (course_without_flag (start w shell)) { used = used })) (frames_at shell))
 
 -- what a turning does
@@ -55,7 +41,8 @@ record TurningDoes (input : Input) (frames : List FrameState) (course : Course) 
 console-does : (w : WorldState) (shell : ShellState) (course : Course) (queue : List Text) (is_ended : Bool) (next : Result Expanded LineFault) →
     course ≡ course_without_flag (start w shell) →
     expansion_of_line w shell (slice_get queue 0) ≡ Some next →
-    TurningDoes (record { queue = queue; is_ended = is_ended }) [] course (noted_of_raw w shell (slice_get queue 0)) next (console_turning queue is_ended course)
+    TurningDoes (record { queue = queue; is_ended = is_ended }) [] course (devices_of_raw w shell (slice_get queue 0)) next (console_turning queue is_ended course)
+unfolding devices_reached
 console-does w shell course [] is_ended next begins is = cc
 console-does w shell course (line ∷ rest) is_ended next begins is = record {
   queue = rest;
@@ -67,7 +54,8 @@ console-does w shell course (line ∷ rest) is_ended next begins is = record {
 frame-does : (w : WorldState) (shell : ShellState) (frame : FrameState) (frames : List FrameState) (course : Course) (input : Input) (line : Option Text) (next : Result Expanded LineFault) →
     course ≡ course_without_flag (start w shell) →
     expansion_of_line w shell line ≡ Some next →
-    TurningDoes input (frames_taken (frame ∷ frames)) course (noted_of_raw w shell line) next (Turned input.queue (turn_of_frame frame frames course line))
+    TurningDoes input (frames_taken (frame ∷ frames)) course (devices_of_raw w shell line) next (Turned input.queue (turn_of_frame frame frames course line))
+unfolding devices_reached
 frame-does w shell frame frames course input None next begins is = cc
 frame-does w shell frame frames course input (Some line) next begins is = record {
   queue = input.queue;
@@ -79,14 +67,14 @@ frame-does w shell frame frames course input (Some line) next begins is = record
 ready-does : (w : WorldState) (shell : ShellState) (input : Input) (frames : List FrameState) (course : Course) (next : Result Expanded LineFault) →
     course ≡ course_without_flag (start w shell) →
     expansion_of_line w shell (line_to_take frames input.queue) ≡ Some next →
-    TurningDoes input (frames_taken frames) course (noted_of_raw w shell (line_to_take frames input.queue)) next (ready_turning input frames course)
+    TurningDoes input (frames_taken frames) course (devices_of_raw w shell (line_to_take frames input.queue)) next (ready_turning input frames course)
 ready-does w shell input [] course next begins is = console-does w shell course input.queue input.is_ended next begins is
 ready-does w shell input (frame ∷ frames) course next begins is = frame-does w shell frame frames course input (slice_get frame.lines frame.position) next begins is
 
 phase-does : (w : WorldState) (k : ℕ) (shell : ShellState) (now : Phase) (course : Course) (next : Result Expanded LineFault) →
     course ≡ course_without_flag (start w shell) →
     next_in_phase w k shell now ≡ Some next →
-    TurningDoes (input_of w k) (frames_in_phase shell now) course (noted_in_phase w k shell now) next (turning_in_phase (input_of w k) shell.frames course now)
+    TurningDoes (input_of w k) (frames_in_phase shell now) course (devices_in_phase w k shell now) next (turning_in_phase (input_of w k) shell.frames course now)
 phase-does w k shell Ready course next begins is = ready-does w shell (input_of w k) shell.frames course next begins is
 phase-does w k shell (GoingOn parted) course next begins is = record { queue = (input_of w k).queue; used = course.used; used_is = rw begins refl; does = let same : resume_line parted.before parted.output parted.after ≡ next = cc in rw (sym same) refl }
 phase-does w k shell (Waiting wait) course next begins is = cc

@@ -5,21 +5,18 @@ use Rattle.std.proofs.lemmas.Bool.{cases_Bool}
 use Rattle.ados_text.specs.Text.{Bytes}
 use Rattle.ados_text.specs.declared.codes.Result2.{Result2}
 use Rattle.ados_ram.specs.Place.{Place}
-use Rattle.ados_find.specs.declared.codes.Codes.{Codes}
 use Rattle.ados_find.specs.Codes.{went_well}
 use Rattle.ados_find.specs.Targets.{open_places}
 use Rattle.ados_flow.specs.Frames.{FrameState}
-use Rattle.ados_machine.specs.declared.answers.Answer.{Answer as Reply}
-use Rattle.ados_machine.specs.declared.answers.Answer.TheVariants.{Started, «Bytes» as Piece, End, PipeFault, Exit, Signal, WaitFault}
+use Rattle.ados_machine.specs.declared.answers.Answer.TheVariants.{Started}
 use Rattle.ados_machine.specs.declared.events.Event.TheVariants.{Answer}
 use Rattle.ados_machine.specs.declared.phases.Child.{Child}
 use Rattle.ados_machine.specs.Phases.{Phase}
 use Rattle.ados_machine.specs.Phases as phase
 use Rattle.ados_machine.specs.declared.phases.Starting.{Starting}
 use Rattle.ados_machine.specs.declared.phases.Wait.{Wait}
-use Rattle.ados_machine.specs.declared.phases.Wait.TheVariants.{ForStart, ForPiece, ForEnd}
-use Rattle.ados_machine.specs.Answers.{child_of, next_wait, with_break, started_completion, child_after_piece, output_fault, piece_completion, is_piece, ended_completion, answered_completion, answered_in}
-use Rattle.ados_machine.specs.Breaks.{marked_if}
+use Rattle.ados_machine.specs.declared.phases.Wait.TheVariants.{ForStart}
+use Rattle.ados_machine.specs.Answers.{child_of, next_wait, with_break, started_completion, child_after_piece, output_fault, piece_completion, answered_in}
 use Rattle.ados_machine.specs.Children.{child_during, child_of_shell}
 use Rattle.ados_machine.specs.Course.{Course, put, with_devices_used}
 use Rattle.ados_machine.specs.Completions.{Waits}
@@ -31,9 +28,8 @@ use Rattle.ados_machine.specs.Sinks.{Sink, newest_sink, sink_or, frame_outputs, 
 use Rattle.ados_machine.specs.Step.{Response, Refused, Accepted, shell_after_turn, moved_at_turn, turn_taken, start, turning_response, answer_response, step_of}
 use Rattle.ados_machine.specs.Turning.{turning_of_completion}
 use Rattle.ados_machine.specs.World.{WorldState, numbered_shell, is_over, input_of}
-use Rattle.ados_machine.proofs.Lasting.{Watch, SeenAfter, Keeps, seen_by, is_held, step-keeps, waits-keeps}
+use Rattle.ados_machine.proofs.Lasting.{Watch, SeenAfter, seen_by, is_held, waits-keeps, watched-stays}
 use Rattle.ados_machine.proofs.Marks.{break-same, marked-same, next-same, piece-same}
-use Rattle.ados_machine.proofs.Rests.{IsIdle}
 use Rattle.ados_machine.proofs.Shells.{found, found-left, shells_after}
 
 -- the outputs that a shell holds above these frames, in a phase
@@ -43,17 +39,9 @@ held_above frames now = frame_outputs frames ++ held_in_phase now
 never : false ≡ true → ⊥
 never e = cc
 
-marked-held : (frames : List FrameState) (marks : Bool) (now : Phase) → held_above frames (marked_if marks now) ≡ held_above frames now
-marked-held frames = marked-same (held_above frames) (λ starting. refl) (λ child. refl)
-
 -- the program of a shell in a phase runs
 abbrev runs_in : Phase → Bool
 runs_in now = is_running (child_during now)
-
-idle-runs : (now : Phase) → IsIdle now → runs_in now ≡ false
-idle-runs phase.Ready idle = refl
-idle-runs (phase.GoingOn parted) idle = refl
-idle-runs (phase.Waiting wait) idle = absurd idle
 
 -- an answer that does not end a program keeps its output
 next-held : (child : Child) → held_while (next_wait child) ≡ open_places child.output
@@ -72,42 +60,17 @@ piece-held frames child bytes sink course None =
     let fault = output_fault (put (sink_or child.output sink) bytes went_well course).codes in
     ap (λ l. frame_outputs frames ++ l) (next-held (child_after_piece (with_break child) fault) ∙ (put-held (with_break child) fault ∙ break-held child))
 
-ended-held : (frames : List FrameState) (outputs : List Place) (child : Child) (codes : Codes) (course : Course) (fault : Option Result2) →
-    SeenAfter held_above frames outputs (Some (ended_completion child codes course fault))
-ended-held frames outputs child codes course (Some fault) = tt
-ended-held frames outputs child codes course None = tt
-
-wait-held : (frames : List FrameState) (sink : Sink) (course : Course) (wait : Wait) (answer : Reply) → runs_in (phase.Waiting wait) ≡ true →
-    SeenAfter held_above frames (held_above frames (phase.Waiting wait)) (answered_completion sink course wait answer)
-wait-held frames sink course (ForStart starting) answer runs = absurd (never runs)
-wait-held frames sink course (ForPiece child) (Piece bytes) runs =
-    elim (cases_Bool (is_piece bytes)) [
-      | inl e ↦ rw e (piece-held frames child bytes sink course child.fault)
-      | inr e ↦ rw e tt
-    ]
-wait-held frames sink course (ForPiece child) End runs = ap (λ l. frame_outputs frames ++ l) (break-held child)
-wait-held frames sink course (ForPiece child) PipeFault runs = ap (λ l. frame_outputs frames ++ l) (break-held child)
-wait-held frames sink course (ForEnd child) (Exit status) runs = ended-held frames _ child _ course child.fault
-wait-held frames sink course (ForEnd child) Signal runs = ended-held frames _ child _ course child.fault
-wait-held frames sink course (ForEnd child) WaitFault runs = ended-held frames _ child _ course child.fault
-wait-held frames sink course wait answer runs = tt
-
-phase-held : (frames : List FrameState) (sink : Sink) (course : Course) (now : Phase) (answer : Reply) → runs_in now ≡ true →
-    SeenAfter held_above frames (held_above frames now) (answered_in sink course now answer)
-phase-held frames sink course phase.Ready answer runs = tt
-phase-held frames sink course (phase.GoingOn parted) answer runs = tt
-phase-held frames sink course (phase.Waiting wait) answer runs = wait-held frames sink course wait answer runs
-
 abbrev held_outputs : Watch (List Place)
 held_outputs = record {
   nothing = [];
   look = held_above;
   holds = runs_in;
-  marked = marked-held;
-  idle = idle-runs;
-  for_answer = λ asking. refl;
-  for_lines = λ gathering. refl;
-  answers = phase-held;
+  marked = λ frames. marked-same (held_above frames) (λ starting. refl) (λ child. refl);
+  free = (refl, λ parted. refl, λ asking. refl, λ gathering. refl);
+  starts = λ frames sink course starting answer held. absurd (never held);
+  pieces = λ frames sink course child bytes held. piece-held frames child bytes sink course child.fault;
+  ends = λ frames child held. ap (λ l. frame_outputs frames ++ l) (break-held child);
+  pipe_faults = λ frames child held. ap (λ l. frame_outputs frames ++ l) (break-held child);
 }
 
 -- what is seen, in the words of the law
@@ -120,10 +83,7 @@ runs-same None = refl
 runs-same (Some shell) = refl
 
 pub outputs-stay : OutputsStayOpen
-outputs-stay w event world out items is k before after =
-    let keeps : Keeps held_outputs w (Accepted world out items) = rw is at (step-keeps held_outputs w event) in
-    outputs-same (numbered_shell world k)
-    ∙ (keeps k (sym (runs-same (numbered_shell w k)) ∙ before) (sym (runs-same (numbered_shell world k)) ∙ after) ∙ sym (outputs-same (numbered_shell w k)))
+outputs-stay = watched-stays held_outputs (λ o. is_running (child_of_shell o)) (λ o. outputs_seen (option_map seen_of o)) runs-same outputs-same
 
 -- a shell whose program runs after an answer is seen to hold these
 abbrev HoldsAfter : ℕ → List Place → Response → Type 0

@@ -3,14 +3,10 @@ use Rattle.std.proofs.Common.{◌≡◌, ◌≢◌, ◌⊎◌, ◌∙◌, sym, �
 use Rattle.std.specs.Prelude.{option_map, take, codes}
 use Rattle.std.specs.List.{All, fold}
 use Rattle.std.proofs.lemmas.List.Elements.{All-head, All-tail}
-use Rattle.std.proofs.lemmas.Bool.{cases_Bool, le-leb}
+use Rattle.std.proofs.lemmas.Bool.{le-leb}
 use Rattle.ados_text.specs.Text.{Text, Bytes}
-use Rattle.ados_text.specs.declared.codes.Result2.{Result2}
 use Rattle.ados_line.specs.declared.lines.Line.{Line}
-use Rattle.ados_ram.specs.Files.{Files}
-use Rattle.ados_ram.specs.FileOperations.{put_open_of, put_open_fault}
-use Rattle.ados_find.specs.Shared.{limits_of}
-use Rattle.ados_ram.specs.Place.{Place, key_of, last_name, moved_place}
+use Rattle.ados_ram.specs.Place.{Place, moved_place}
 use Rattle.ados_readargs.specs.declared.args.Arg.{Arg}
 use Rattle.ados_readargs.specs.Args.{option_number}
 use Rattle.ados_readargs.specs.Fill.{fill_of}
@@ -40,27 +36,26 @@ use Rattle.ados_machine.specs.declared.events.Event.TheVariants.{Turn}
 use Rattle.ados_machine.specs.Apply.{TurnResult, here_of, rule_state_of, code_rule_of, turn_of_completion}
 use Rattle.ados_machine.proofs.Fronts.{front, ruled-front}
 use Rattle.ados_machine.specs.Commands.{action_of, template_of}
-use Rattle.ados_machine.specs.Carrying.{carried_shells, carried_or_same, moved_objects, place_after_moves}
+use Rattle.ados_machine.specs.Carrying.{carried_or_same, moved_objects, place_after_moves}
 use Rattle.ados_machine.specs.CodeRule.{RuleState, with_fault_line, finish}
 use Rattle.ados_machine.specs.Completions.{Completion, Answers, Here}
-use Rattle.ados_machine.specs.Course.{Course, kept_with_bytes, with_devices_used, put, put_unless, shared_after_event}
+use Rattle.ados_machine.specs.Course.{Course, kept_with_bytes, with_devices_used, put, shared_after_event}
 use Rattle.ados_machine.specs.Lines.{with_effect, with_argument_devices, with_search_used, found_completion, program_completion, builtin_completion, put_completion}
 use Rattle.ados_machine.specs.Next.{stands_for, frames_at, recorded}
-use Rattle.ados_machine.specs.Numbers.{free_number}
 use Rattle.ados_machine.specs.Opening.{output_devices}
 use Rattle.std.proofs.lemmas.List.{append-nil}
 use Rattle.ados_find.specs.Devices.{searched_devices}
-use Rattle.ados_machine.specs.Uses.{devices_named, devices_of}
+use Rattle.ados_machine.specs.Bound.{with_reached, devices_used}
+use Rattle.ados_machine.specs.Uses.{devices_named, devices_reached, devices_of}
 use Rattle.ados_machine.specs.Phases.{GoingOn}
 use Rattle.ados_machine.specs.Plain.{disk_command, own_command, IsPlain, TakesEffect, action_at, EnabledCommandsAreFound, limit_after, EffectsAreRecorded, EffectsArePrinted, FailAtSetsTheLimit, SubstitutionsKeepTheirOutput, HasGone, DirectoriesAreCarried}
 use Rattle.ados_machine.specs.Shells.{ShellState}
 use Rattle.ados_machine.specs.Sinks.{Sink, Console, Kept, To, newest_sink}
-use Rattle.ados_machine.specs.Step.{Accepted, shell_of_turn, is_done, shell_after_turn, moved_at_turn, turn_taken, with_begun, start, course_without_flag, step_of}
-use Rattle.ados_machine.specs.Breaks.{shells_after_break}
+use Rattle.ados_machine.specs.Step.{Accepted, shell_after_turn, moved_at_turn, turn_taken, start, course_without_flag, step_of}
 use Rattle.ados_machine.specs.World.{WorldState, numbered_shell}
-use Rattle.ados_machine.proofs.NextLemmas.{noted, noted_in_phase, turns, answer-record}
-use Rattle.ados_machine.proofs.Keeps.{put-parts}
-use Rattle.ados_machine.proofs.Shells.{found, shells_after, found-left, found-set_other, found-broken, broken-same, broken_for, found-placed_other, carried-free, free-number, found-carried, carried-runs, runs_pos}
+use Rattle.ados_machine.proofs.NextLemmas.{turns, answer-record}
+use Rattle.ados_machine.proofs.Keeps.{put-same, put-parts}
+use Rattle.ados_machine.proofs.Shells.{found, shells_after, found-left, found-left_other, left-same, broken-same, broken_for}
 
 pub enabled-found : EnabledCommandsAreFound
 enabled-found w shell word internal plain listed enabled = rw (plain, listed, enabled) refl
@@ -81,17 +76,11 @@ by-found (found.Directory place) builtin line here course is = cc
 by-found (found.NotExecutable fault) builtin line here course is = cc
 by-found found.Unknown builtin line here course is = cc
 
--- the devices that it notes as used
-abbrev pub noted_used : WorldState → ℕ → ShellState → Line → Builtin → List Text
-noted_used w k shell line builtin =
-    (noted_in_phase w k shell shell.phase ++ noted w.shared.assigns (searched_devices w.shared shell.parts.directory shell.parts.settings.path line.command))
-    ++ noted w.shared.assigns (devices_of builtin w.shared shell.parts line.args)
-
 -- its turn: what its effect gives is put where its frames' output goes
 pub record EffectTurns (w : WorldState) (k : ℕ) (shell : ShellState) (line : Line) (builtin : Builtin) (effect : Effect) : Type 0 where
   pub queue : List Text
   pub used : List Text
-  pub used_is : used ≡ noted_used w k shell line builtin
+  pub used_is : used ≡ devices_used w k shell line builtin
   pub does : step_of w (Turn k) ≡ turn_taken w k queue (turn_of_completion (put_completion line.command
       (put (newest_sink (frames_at shell)) effect.output effect.codes (with_effect effect (record (course_without_flag (start w shell)) { used = used })))) (frames_at shell))
 
@@ -103,8 +92,9 @@ record Works (w : WorldState) (shell : ShellState) (line : Line) (effect : Effec
       (put (newest_sink (frames_at shell)) effect.output effect.codes (with_effect effect (record (course_without_flag (start w shell)) { used = used })))
 
 works : (w : WorldState) (shell : ShellState) (line : Line) (builtin : Builtin) (effect : Effect) (used : List Text) → IsPlain w.shared.dialect builtin line → action_at w shell line builtin ≡ flow.Does effect →
-    Works w shell line effect (used ++ noted w.shared.assigns (devices_of builtin w.shared shell.parts line.args))
+    Works w shell line effect (used ++ with_reached w.shared.assigns (devices_of builtin w.shared shell.parts line.args))
     (builtin_completion builtin line (here_of (frames_at shell)) (record (course_without_flag (start w shell)) { used = used }))
+unfolding devices_reached
 works w shell line builtin effect used plain does =
     let read = with_devices_used (devices_named None) (record (course_without_flag (start w shell)) { used = used }) in
     record {
@@ -114,6 +104,7 @@ works w shell line builtin effect used plain does =
     }
 
 pub effect-turns : (w : WorldState) (k : ℕ) (shell : ShellState) (line : Line) (effect : Effect) → (takes : TakesEffect w k shell line effect) → EffectTurns w k shell line takes.builtin effect
+unfolding devices_reached
 effect-turns w k shell line effect takes =
     let turn = turns w k shell _ takes.command.takes in
     let course : Course = record (course_without_flag (start w shell)) { used = turn.used } in
@@ -124,7 +115,7 @@ effect-turns w k shell line effect takes =
       queue = turn.queue;
       used = work.used;
       used_is = work.used_is
-          ∙ ap (λ u. (u ++ noted w.shared.assigns search) ++ noted w.shared.assigns (devices_of takes.builtin w.shared shell.parts line.args)) turn.used_is;
+          ∙ ap (λ u. (u ++ with_reached w.shared.assigns search) ++ with_reached w.shared.assigns (devices_of takes.builtin w.shared shell.parts line.args)) turn.used_is;
       does = rw (turn.does, by-found (stands_for w shell line.command) takes.builtin line (here_of (frames_at shell)) (with_search_used line.command course) takes.command.is, work.does) refl;
     }
 
@@ -195,18 +186,6 @@ fail-at-sets w k shell line args n takes filled is =
     effects-recorded w k shell line (change_effect w.shared (Limit (record { 0 = pos n })))
     (record { builtin = Env env.FailAt; command = takes; does = limit-set w shell line args n filled is }) (inl refl)
 
--- what a turn leaves of its shell
-left-phase : (k : ℕ) (moved : List Renamed) (t : TurnResult) (now : ShellState) → shell_after_turn k moved t ≡ Some now → now.phase ≡ t.phase
-left-phase k moved t now is =
-    elim (cases_Bool (is_done k t.frames)) [
-      | inl d ↦ (let none = rw d at is in cc)
-      | inr d ↦ (let some : Some (carried_or_same moved (shell_of_turn t)) ≡ Some now = rw d at is in carried-phase moved (shell_of_turn t) now some)
-    ]
-  where
-    carried-phase : (moved : List Renamed) (shell now : ShellState) → Some (carried_or_same moved shell) ≡ Some now → now.phase ≡ shell.phase
-    carried-phase [] shell now e = cc
-    carried-phase (renamed ∷ more) shell now e = cc
-
 -- the end of a command substitution
 tick-ends : (word : Text) (answered : Codes) (before after : Text) (frame : FrameState) (frames : List FrameState) (rule_state : RuleState) (output : Bytes) (kept : List Bytes) →
     frame.kind ≡ Tick before after → is_over frame ≡ true → rule_state.kept ≡ output ∷ kept →
@@ -232,23 +211,10 @@ substitutions-keep w k shell line effect before after frame frames output kept w
     let left = found-left w.shells k shell (moved_at_turn w t) t takes.command.takes.runs in
     let now_is : shell_after_turn k (moved_at_turn w t) t ≡ Some now = sym left ∙ (ap (λ s. found s k) (sym shells) ∙ there) in
     let sink : newest_sink (frames_at shell) ≡ Kept = rw (at_frame, kind) refl in
-    left-phase k (moved_at_turn w t) t now now_is
+    left-same (λ s. s.phase) (λ moved s. refl) k (moved_at_turn w t) t now now_is
     ∙ tick-turn line.command effect course before after frame frames (frames_at shell) (newest_sink (frames_at shell)) output kept at_frame sink kind over is
 
 -- the renamed object, and what the others see of that
-unless-renamed : (fault : Option Result2) (answered : Codes) (files : Files) (course : Course) → (put_unless fault answered files course).course.renamed ≡ course.renamed
-unless-renamed None answered files course = refl
-unless-renamed (Some fault) answered files course = refl
-
-put-renamed : (sink : Sink) (output : Bytes) (answered : Codes) (course : Course) → (put sink output answered course).course.renamed ≡ course.renamed
-put-renamed Console output answered course = refl
-put-renamed Kept output answered course = refl
-put-renamed (To Nil) output answered course = refl
-put-renamed (To (At place)) [] answered course = refl
-put-renamed (To (At place)) (byte ∷ bytes) answered course =
-    let files = course.shared.files in
-    unless-renamed (put_open_fault (limits_of course.shared.dialect) files (key_of place) (last_name place) (byte ∷ bytes)) answered (put_open_of files (key_of place) (last_name place) (byte ∷ bytes)) course
-
 abbrev directory_of : Option ShellState → Option Place
 directory_of o = option_map (λ shell. shell.parts.directory) o
 
@@ -256,14 +222,8 @@ others-directory : (shells : List (Option ShellState)) (k : ℕ) (shell : ShellS
     found shells k ≡ Some shell → j ≢ k → found shells j ≡ Some other →
     directory_of (found (shells_after shells k moved t) j) ≡ Some (carried_or_same moved other).parts.directory
 others-directory shells k shell moved t j other is differ there =
-    let carried = carried_shells moved shells in
-    let number = free_number shells in
-    let placed = with_begun t.course.begun number carried in
-    let then_there = found-placed_other carried t.course.begun number j (carried_or_same moved other) (carried-free moved shells number (free-number shells))
-    (found-carried moved shells j ∙ carried-runs moved (found shells j) other there) in
-    ap directory_of (found-set_other (shells_after_break t.course.breaking placed) k (shell_after_turn k moved t) j differ (runs_pos shells k shell is))
-    ∙ (ap directory_of (found-broken t.course.breaking placed j)
-    ∙ (broken-same directory_of (λ breaks s. refl) (broken_for t.course.breaking j) (found placed j) ∙ ap directory_of then_there))
+    ap directory_of (found-left_other shells k shell moved t j other is differ there)
+    ∙ broken-same directory_of (λ breaks s. refl) (broken_for t.course.breaking j) (Some (carried_or_same moved other))
 
 runs-there : (o : Option ShellState) (place : Place) → directory_of o ≡ Some place → (other : ShellState) × (o ≡ Some other) × (other.parts.directory ≡ place)
 runs-there None place e = cc
@@ -294,7 +254,7 @@ directories-carried w k shell line effect world out items j place takes accepted
     let shells : world.shells ≡ shells_after w.shells k (moved_at_turn w t) t = cc in
     let shared : world.shared ≡ shared_after_event t.course = cc in
     let renames = renames_of effect.renamed effect.gathered in
-    let is_renamed : t.course.renamed ≡ renames = put-renamed (newest_sink (frames_at shell)) effect.output effect.codes course in
+    let is_renamed : t.course.renamed ≡ renames = put-same (λ c. c.renamed) (λ printed kept shared c. refl) (newest_sink (frames_at shell)) effect.output effect.codes course in
     let is_moved : moved_at_turn w t ≡ renames = rw (is_renamed, sym shared) (all-moved w world renames gone) in
     let other = runs-there (numbered_shell w j) place there in
     ap (λ s. directory_of (found s j)) shells

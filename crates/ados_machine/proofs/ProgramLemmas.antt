@@ -8,26 +8,20 @@ use Rattle.ados_text.specs.declared.codes.Result2.{Result2}
 use Rattle.ados_text.specs.declared.codes.TheConstants.Result2.{BREAK, PIPE_FAULT, NOT_IMPLEMENTED, UNMATCHED_QUOTES}
 use Rattle.ados_items.specs.Items.{words_of}
 use Rattle.ados_line.specs.declared.lines.Line.{Line}
-use Rattle.ados_find.specs.declared.codes.Codes.{Codes}
 use Rattle.ados_find.specs.declared.outcomes.Renamed.{Renamed}
 use Rattle.ados_find.specs.declared.search.Found.TheVariants as found
 use Rattle.ados_find.specs.Codes.{fail_codes}
 use Rattle.ados_flow.specs.Frames.{FrameState}
-use Rattle.ados_machine.specs.declared.answers.Answer.{Answer as Reply}
-use Rattle.ados_machine.specs.declared.answers.Answer.TheVariants.{«Bytes» as Piece, End, PipeFault, Exit, Signal, WaitFault}
 use Rattle.ados_machine.specs.declared.events.Event.TheVariants.{Turn}
 use Rattle.ados_machine.specs.declared.phases.Child.{Child}
 use Rattle.ados_machine.specs.Phases.{Phase}
 use Rattle.ados_machine.specs.Phases as phase
-use Rattle.ados_machine.specs.declared.phases.Wait.{Wait}
-use Rattle.ados_machine.specs.declared.phases.Wait.TheVariants.{ForStart, ForPiece, ForEnd}
-use Rattle.ados_machine.specs.Answers.{next_wait, with_break, with_fault, child_at_end, piece_completion, is_piece, ended_completion, answered_completion, answered_in}
+use Rattle.ados_machine.specs.Answers.{next_wait, with_break, with_fault, child_at_end, piece_completion, is_piece}
 use Rattle.ados_find.specs.declared.search.Found.{Found}
 use Rattle.ados_resident.specs.declared.programs.Program.{Program}
 use Rattle.ados_resident.specs.declared.programs.Program.TheVariants.{Disk, Host}
 use Rattle.ados_machine.specs.declared.requests.Request.TheVariants.{Start}
 use Rattle.ados_machine.specs.Apply.{here_of, TurnResult, rule_state_of, turn_of_completion}
-use Rattle.ados_machine.specs.Breaks.{marked_if}
 use Rattle.ados_machine.specs.Carrying.{carried_or_same}
 use Rattle.ados_machine.specs.Completions.{Here, Answers}
 use Rattle.ados_machine.specs.Course.{Course}
@@ -44,10 +38,10 @@ use Rattle.ados_machine.specs.Step.{Accepted, shell_of_turn, is_done, shell_afte
 use Rattle.ados_machine.specs.World.{numbered_shell, request_of_shell}
 use Rattle.ados_machine.proofs.GivenLemmas.{idle-request}
 use Rattle.ados_machine.proofs.Loops.{runs-not-over}
-use Rattle.ados_machine.proofs.Lasting.{Watch, SeenAfter, Keeps, seen_by, is_held, step-keeps}
+use Rattle.ados_machine.proofs.Lasting.{Watch, SeenAfter, seen_by, is_held, watched-stays}
 use Rattle.ados_machine.proofs.Marks.{marked-same, next-same}
 use Rattle.ados_machine.proofs.NextLemmas.{turns}
-use Rattle.ados_machine.proofs.Rests.{IsIdle, finished-rests}
+use Rattle.ados_machine.proofs.Rests.{finished-rests}
 use Rattle.ados_machine.proofs.Shells.{found, found-left, shells_after}
 
 never : false ≡ true → ⊥
@@ -148,14 +142,6 @@ fault_above frames now = fault_in now
 abbrev faulty : Phase → Bool
 faulty now = is_some (fault_in now)
 
-marked-fault : (frames : List FrameState) (marks : Bool) (now : Phase) → fault_above frames (marked_if marks now) ≡ fault_above frames now
-marked-fault frames = marked-same (fault_above frames) (λ starting. refl) (λ child. refl)
-
-idle-fault : (now : Phase) → IsIdle now → faulty now ≡ false
-idle-fault phase.Ready idle = refl
-idle-fault (phase.GoingOn parted) idle = refl
-idle-fault (phase.Waiting wait) idle = absurd idle
-
 next-fault : (child : Child) → fault_while (next_wait child) ≡ child.fault
 next-fault child = next-same fault_while child child.fault (λ e. refl) (λ e. refl)
 
@@ -176,45 +162,20 @@ piece-fault : (frames : List FrameState) (child : Child) (bytes : Bytes) (sink :
 piece-fault frames child bytes sink course (Some fault) is some = next-fault (with_break child) ∙ break-fault child (ap is_some is)
 piece-fault frames child bytes sink course None is some = absurd (never some)
 
-ended-fault : (frames : List FrameState) (seen : Option Result2) (child : Child) (codes : Codes) (course : Course) (fault : Option Result2) →
-    SeenAfter fault_above frames seen (Some (ended_completion child codes course fault))
-ended-fault frames seen child codes course (Some fault) = tt
-ended-fault frames seen child codes course None = tt
-
 pipe-fault : (child : Child) → is_some child.fault ≡ true → (with_fault (child_at_end child) PIPE_FAULT).fault ≡ child.fault
 pipe-fault child some = more-fault (child_at_end child) PIPE_FAULT (ap is_some (break-fault child some) ∙ some) ∙ break-fault child some
-
-wait-fault : (frames : List FrameState) (sink : Sink) (course : Course) (wait : Wait) (answer : Reply) → faulty (phase.Waiting wait) ≡ true →
-    SeenAfter fault_above frames (fault_above frames (phase.Waiting wait)) (answered_completion sink course wait answer)
-wait-fault frames sink course (ForStart starting) answer some = absurd (never some)
-wait-fault frames sink course (ForPiece child) (Piece bytes) some =
-    elim (cases_Bool (is_piece bytes)) [
-      | inl e ↦ rw e (piece-fault frames child bytes sink course child.fault refl some)
-      | inr e ↦ rw e tt
-    ]
-wait-fault frames sink course (ForPiece child) End some = break-fault child some
-wait-fault frames sink course (ForPiece child) PipeFault some = pipe-fault child some
-wait-fault frames sink course (ForEnd child) (Exit status) some = ended-fault frames _ child _ course child.fault
-wait-fault frames sink course (ForEnd child) Signal some = ended-fault frames _ child _ course child.fault
-wait-fault frames sink course (ForEnd child) WaitFault some = ended-fault frames _ child _ course child.fault
-wait-fault frames sink course wait answer some = tt
-
-phase-fault : (frames : List FrameState) (sink : Sink) (course : Course) (now : Phase) (answer : Reply) → faulty now ≡ true →
-    SeenAfter fault_above frames (fault_above frames now) (answered_in sink course now answer)
-phase-fault frames sink course phase.Ready answer some = tt
-phase-fault frames sink course (phase.GoingOn parted) answer some = tt
-phase-fault frames sink course (phase.Waiting wait) answer some = wait-fault frames sink course wait answer some
 
 abbrev first_faults : Watch (Option Result2)
 first_faults = record {
   nothing = None;
   look = fault_above;
   holds = faulty;
-  marked = marked-fault;
-  idle = idle-fault;
-  for_answer = λ asking. refl;
-  for_lines = λ gathering. refl;
-  answers = phase-fault;
+  marked = λ frames. marked-same (fault_above frames) (λ starting. refl) (λ child. refl);
+  free = (refl, λ parted. refl, λ asking. refl, λ gathering. refl);
+  starts = λ frames sink course starting answer held. absurd (never held);
+  pieces = λ frames sink course child bytes held. piece-fault frames child bytes sink course child.fault refl held;
+  ends = λ frames child held. break-fault child held;
+  pipe_faults = λ frames child held. pipe-fault child held;
 }
 
 -- what is seen, in the words of the law
@@ -227,10 +188,7 @@ faulty-same None = refl
 faulty-same (Some shell) = refl
 
 pub first-faults-stay : FirstFaultsStay
-first-faults-stay w event world out items is k before after =
-    let keeps : Keeps first_faults w (Accepted world out items) = rw is at (step-keeps first_faults w event) in
-    faults-same (numbered_shell world k)
-    ∙ (keeps k (sym (faulty-same (numbered_shell w k)) ∙ before) (sym (faulty-same (numbered_shell world k)) ∙ after) ∙ sym (faults-same (numbered_shell w k)))
+first-faults-stay = watched-stays first_faults (λ o. is_some (fault_of_shell o)) fault_of_shell faulty-same faults-same
 
 pub pieces-printed : PiecesArePrinted
 pieces-printed w k shell child bytes world out items awaits plain well console accepted =

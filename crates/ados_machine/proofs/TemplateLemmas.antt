@@ -11,23 +11,25 @@ use Rattle.ados_resident.specs.declared.commands.Builtin.{Builtin}
 use Rattle.ados_resident.specs.declared.commands.Builtin.TheVariants.{Env, Files, Flow}
 use Rattle.ados_machine.specs.Commands.{template_of}
 
--- the last clause of each crate in a dialect is checked at each other command
-checked : (dialect : Dialect) (builtin : Builtin) → (map to_ascii (template_of dialect builtin) ≡ template_of dialect builtin) × IsTemplate (template_of dialect builtin)
-checked Core (Env env.Alias) = (refl, refl)
-checked Core (Env command) = (refl, refl)
-checked Core (Files files.Copy) = (refl, refl)
-checked Core (Files command) = (refl, refl)
-checked Core (Flow flow.Ask) = (refl, refl)
-checked Core (Flow command) = (refl, refl)
-checked Full (Env env.Alias) = (refl, refl)
-checked Full (Env command) = (refl, refl)
-checked Full (Files files.Copy) = (refl, refl)
-checked Full (Files command) = (refl, refl)
-checked Full (Flow flow.Ask) = (refl, refl)
-checked Full (Flow command) = (refl, refl)
+-- a command's template is ASCII, and a template, in a dialect
+abbrev IsChecked : Builtin → Dialect → Type 0
+IsChecked builtin dialect = (map to_ascii (template_of dialect builtin) ≡ template_of dialect builtin) × IsTemplate (template_of dialect builtin)
+
+in_each : (builtin : Builtin) → IsChecked builtin Core → IsChecked builtin Full → (dialect : Dialect) → IsChecked builtin dialect
+in_each builtin core full Core = core
+in_each builtin core full Full = full
+
+-- the last clause of each crate is checked at each other command
+checked : (builtin : Builtin) (dialect : Dialect) → IsChecked builtin dialect
+checked (Env env.Alias) = in_each (Env env.Alias) (refl, refl) (refl, refl)
+checked (Env command) = in_each (Env command) (refl, refl) (refl, refl)
+checked (Files files.Copy) = in_each (Files files.Copy) (refl, refl) (refl, refl)
+checked (Files command) = in_each (Files command) (refl, refl) (refl, refl)
+checked (Flow flow.Ask) = in_each (Flow flow.Ask) (refl, refl) (refl, refl)
+checked (Flow command) = in_each (Flow command) (refl, refl) (refl, refl)
 
 pub ascii : (dialect : Dialect) (builtin : Builtin) → map to_ascii (template_of dialect builtin) ≡ template_of dialect builtin
-ascii dialect builtin = (checked dialect builtin).0
+ascii dialect builtin = (checked builtin dialect).0
 
 pub are_templates : (dialect : Dialect) (builtin : Builtin) → IsTemplate (template_of dialect builtin)
-are_templates dialect builtin = (checked dialect builtin).1
+are_templates dialect builtin = (checked builtin dialect).1

@@ -1,5 +1,6 @@
 -- A turn by what its shell does next, and what holds of each turn by what holds of each completion.
-use Rattle.std.proofs.Common.{◌≡◌, List, [], ◌∷◌, Bool, true, false, Option, Some, None, refl, slice_get}
+use Rattle.std.proofs.Common.{◌≡◌, List, [], ◌∷◌, Bool, true, false, ◌&&◌, Option, Some, None, refl, inl, inr, slice_get}
+use Rattle.std.proofs.lemmas.Bool.{cases_Bool}
 use Rattle.ados_text.specs.Text.{Text}
 use Rattle.ados_flow.specs.Frames.{FrameState, advanced_frame}
 use Rattle.ados_machine.specs.declared.phases.Asking.{Asking}
@@ -9,13 +10,14 @@ use Rattle.ados_machine.specs.declared.phases.Parted.{Parted}
 use Rattle.ados_machine.specs.declared.phases.Starting.{Starting}
 use Rattle.ados_machine.specs.declared.phases.Wait.TheVariants.{ForAnswer, ForLines, ForStart, ForPiece, ForEnd}
 use Rattle.ados_machine.specs.declared.refusals.Refusal.TheVariants.{NotReady}
+use Rattle.ados_machine.specs.Breaks.{has_script}
 use Rattle.ados_machine.specs.Completions.{Completion, Passes}
 use Rattle.ados_machine.specs.Course.{Course}
 use Rattle.ados_machine.specs.Lines.{answer_completion, line_completion, parted_completion}
 use Rattle.ados_machine.specs.NewShells.{gathered_completion, joined_completion}
 use Rattle.ados_machine.specs.Phases.{Phase, Ready, GoingOn, Waiting}
 use Rattle.ados_machine.specs.Apply.{TurnResult, here_of, turn_of_completion}
-use Rattle.ados_machine.specs.Turning.{Input, Turning, Refuses, Ends, Turned, console_turning, input_turning, ready_turning, turn_of_frame, turning_at_end, turning_in_phase}
+use Rattle.ados_machine.specs.Turning.{Input, Turning, Refuses, Ends, Turned, console_turning, input_turning, ready_turning, turn_of_frame, turning_at_end, turning_in_phase, turn_at_break, turning_at_break, flagged_turning, turning_of_completion}
 
 pub each-turning : (P : Phase → Turning → Type 0) (input : Input) (frames : List FrameState) (course : Course) →
     P Ready (ready_turning input frames course) →
@@ -69,3 +71,23 @@ module _ (P : List FrameState → TurnResult → Type 0) (settles : (completion 
   turning-is input frames course =
       each-turning (λ phase. TurnIs P frames) input frames course (ready-is input frames course) (λ parted completion. settles completion frames)
       (λ asking. input-is input.queue input.is_ended frames) (λ gathering. input-is input.queue input.is_ended frames) (λ starting. tt) (λ child. tt) (λ child. tt)
+
+  at_break-is : ((frames : List FrameState) (course : Course) → P frames (turn_at_break frames course)) →
+      (turning : Turning) (input : Input) (frames : List FrameState) (course : Course) → TurnIs P frames turning → TurnIs P frames (turning_at_break turning input frames course)
+  at_break-is breaks (Refuses why) input frames course is = tt
+  at_break-is breaks Ends input frames course is = is
+  at_break-is breaks (Turned queue t) input frames course is = breaks frames course
+
+  -- so does one that may find a flag, if that at a break is like this
+  pub flagged-is : ((frames : List FrameState) (course : Course) → P frames (turn_at_break frames course)) →
+      (flagged : Bool) (input : Input) (frames : List FrameState) (course : Course) (phase : Phase) → TurnIs P frames (flagged_turning flagged input frames course phase)
+  flagged-is breaks flagged input frames course phase =
+      elim (cases_Bool (flagged && has_script frames)) [
+        | inl e ↦ rw e (at_break-is breaks (turning_in_phase input frames course phase) input frames course (turning-is input frames course phase))
+        | inr e ↦ rw e (turning-is input frames course phase)
+      ]
+
+  -- and so does what an answer results in
+  pub replied-is : (input : Input) (frames : List FrameState) (completion : Option Completion) → TurnIs P frames (turning_of_completion input frames completion)
+  replied-is input frames None = tt
+  replied-is input frames (Some completion) = settles completion frames

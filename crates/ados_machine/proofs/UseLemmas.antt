@@ -1,33 +1,27 @@
 -- A resident entry stays in use from the start of a program to the answer that ends it.
-use Rattle.std.proofs.Common.{◌≡◌, ◌∙◌, sym, ℕ, List, Bool, false, Option, Some, None, Result, Ok, Err, is_some, refl, inl, inr}
+use Rattle.std.proofs.Common.{◌≡◌, ◌∙◌, ℕ, List, Bool, Option, Some, None, Result, Ok, Err, is_some, refl}
 use Rattle.std.specs.Prelude.{option_map}
-use Rattle.std.proofs.lemmas.Bool.{cases_Bool}
 use Rattle.ados_text.specs.Text.{Bytes, Text}
 use Rattle.ados_text.specs.declared.codes.Result2.{Result2}
-use Rattle.ados_find.specs.declared.codes.Codes.{Codes}
 use Rattle.ados_find.specs.Codes.{went_well}
 use Rattle.ados_flow.specs.Frames.{FrameState}
 use Rattle.ados_machine.specs.declared.answers.Answer.{Answer as Reply}
-use Rattle.ados_machine.specs.declared.answers.Answer.TheVariants.{Started, NotFound, Denied, Memory, Other, «Bytes» as Piece, End, PipeFault, Exit, Signal, WaitFault}
+use Rattle.ados_machine.specs.declared.answers.Answer.TheVariants.{Started}
 use Rattle.ados_machine.specs.declared.phases.Child.{Child}
 use Rattle.ados_machine.specs.Phases.{Phase}
 use Rattle.ados_machine.specs.Phases as phase
 use Rattle.ados_machine.specs.declared.phases.Starting.{Starting}
-use Rattle.ados_machine.specs.declared.phases.Wait.{Wait}
 use Rattle.ados_machine.specs.declared.phases.Wait.TheVariants.{ForAnswer, ForLines, ForStart, ForPiece, ForEnd}
-use Rattle.ados_machine.specs.Answers.{child_of, next_wait, with_break, started_completion, child_after_piece, output_fault, piece_completion, is_piece, ended_completion, answered_completion, answered_in}
-use Rattle.ados_machine.specs.Breaks.{marked_if}
+use Rattle.ados_machine.specs.Answers.{child_of, next_wait, with_break, started_completion, child_after_piece, output_fault, piece_completion, answered_completion}
 use Rattle.ados_machine.specs.Course.{Course, put}
 use Rattle.ados_machine.specs.InUse.{entry_seen, EntriesStayInUse, IdleShellsUseNoEntry}
 use Rattle.ados_machine.specs.Opening.{OpenedOutput, line_output}
 use Rattle.ados_machine.specs.Requests.{request_of}
 use Rattle.ados_machine.specs.Shells.{ShellState, seen_of, entry_while, phase_entry}
 use Rattle.ados_machine.specs.Sinks.{Sink, sink_or}
-use Rattle.ados_machine.specs.Step.{Accepted}
 use Rattle.ados_machine.specs.World.{numbered_shell, request_of_shell}
-use Rattle.ados_machine.proofs.Lasting.{Watch, SeenAfter, Keeps, seen_by, is_held, step-keeps}
+use Rattle.ados_machine.proofs.Lasting.{Watch, SeenAfter, seen_by, is_held, watched-stays}
 use Rattle.ados_machine.proofs.Marks.{break-same, marked-same, next-same, piece-same}
-use Rattle.ados_machine.proofs.Rests.{IsIdle}
 
 -- the entry from which a shell runs in a phase, whatever its frames are
 abbrev entry_above : List FrameState → Phase → Option Text
@@ -36,14 +30,6 @@ entry_above frames now = phase_entry now
 -- a shell in a phase asks for something, whatever its number is
 abbrev asks_in : Phase → Bool
 asks_in now = is_some (request_of 0 now)
-
-marked-entry : (frames : List FrameState) (marks : Bool) (now : Phase) → entry_above frames (marked_if marks now) ≡ entry_above frames now
-marked-entry frames = marked-same (entry_above frames) (λ starting. refl) (λ child. refl)
-
-idle-asks : (now : Phase) → IsIdle now → asks_in now ≡ false
-idle-asks phase.Ready idle = refl
-idle-asks (phase.GoingOn parted) idle = refl
-idle-asks (phase.Waiting wait) idle = absurd idle
 
 -- an answer: if its completion waits on, it waits with the same entry
 next-entry : (child : Child) → entry_while (next_wait child) ≡ child.entry
@@ -67,46 +53,22 @@ piece-entry frames child bytes sink course None =
     let fault = output_fault (put (sink_or child.output sink) bytes went_well course).codes in
     next-entry (child_after_piece (with_break child) fault) ∙ (put-entry (with_break child) fault ∙ break-entry child)
 
-ended-entry : (frames : List FrameState) (entry : Option Text) (child : Child) (codes : Codes) (course : Course) (fault : Option Result2) →
-    SeenAfter entry_above frames entry (Some (ended_completion child codes course fault))
-ended-entry frames entry child codes course (Some fault) = tt
-ended-entry frames entry child codes course None = tt
-
-wait-entry : (frames : List FrameState) (sink : Sink) (course : Course) (wait : Wait) (answer : Reply) →
-    SeenAfter entry_above frames (entry_while wait) (answered_completion sink course wait answer)
-wait-entry frames sink course (ForStart starting) Started = started-entry frames starting course (line_output course starting.output)
-wait-entry frames sink course (ForStart starting) NotFound = tt
-wait-entry frames sink course (ForStart starting) Denied = tt
-wait-entry frames sink course (ForStart starting) Memory = tt
-wait-entry frames sink course (ForStart starting) Other = tt
-wait-entry frames sink course (ForPiece child) (Piece bytes) =
-    elim (cases_Bool (is_piece bytes)) [
-      | inl e ↦ rw e (piece-entry frames child bytes sink course child.fault)
-      | inr e ↦ rw e tt
-    ]
-wait-entry frames sink course (ForPiece child) End = break-entry child
-wait-entry frames sink course (ForPiece child) PipeFault = break-entry child
-wait-entry frames sink course (ForEnd child) (Exit status) = ended-entry frames child.entry child _ course child.fault
-wait-entry frames sink course (ForEnd child) Signal = ended-entry frames child.entry child _ course child.fault
-wait-entry frames sink course (ForEnd child) WaitFault = ended-entry frames child.entry child _ course child.fault
-wait-entry frames sink course wait answer = tt
-
-phase-entry : (frames : List FrameState) (sink : Sink) (course : Course) (now : Phase) (answer : Reply) →
-    SeenAfter entry_above frames (entry_above frames now) (answered_in sink course now answer)
-phase-entry frames sink course phase.Ready answer = tt
-phase-entry frames sink course (phase.GoingOn parted) answer = tt
-phase-entry frames sink course (phase.Waiting wait) answer = wait-entry frames sink course wait answer
+start-entry : (frames : List FrameState) (sink : Sink) (course : Course) (starting : Starting) (answer : Reply) →
+    SeenAfter entry_above frames starting.entry (answered_completion sink course (ForStart starting) answer)
+start-entry frames sink course starting Started = started-entry frames starting course (line_output course starting.output)
+start-entry frames sink course starting answer = tt
 
 abbrev entries : Watch (Option Text)
 entries = record {
   nothing = None;
   look = entry_above;
   holds = asks_in;
-  marked = marked-entry;
-  idle = idle-asks;
-  for_answer = λ asking. refl;
-  for_lines = λ gathering. refl;
-  answers = λ frames sink course now answer held. phase-entry frames sink course now answer;
+  marked = λ frames. marked-same (entry_above frames) (λ starting. refl) (λ child. refl);
+  free = (refl, λ parted. refl, λ asking. refl, λ gathering. refl);
+  starts = λ frames sink course starting answer held. start-entry frames sink course starting answer;
+  pieces = λ frames sink course child bytes held. piece-entry frames child bytes sink course child.fault;
+  ends = λ frames child held. break-entry child;
+  pipe_faults = λ frames child held. break-entry child;
 }
 
 -- what is seen, in the words of the law
@@ -128,10 +90,7 @@ asks-same None = refl
 asks-same (Some shell) = any-number shell.parts.number shell.phase
 
 pub entries-stay : EntriesStayInUse
-entries-stay w event world out items is k before after =
-    let keeps : Keeps entries w (Accepted world out items) = rw is at (step-keeps entries w event) in
-    entry-same (numbered_shell world k)
-    ∙ (keeps k (sym (asks-same (numbered_shell w k)) ∙ before) (sym (asks-same (numbered_shell world k)) ∙ after) ∙ sym (entry-same (numbered_shell w k)))
+entries-stay = watched-stays entries (λ o. is_some (request_of_shell o)) (λ o. entry_seen (option_map seen_of o)) asks-same entry-same
 
 -- if nothing is asked for
 phase-idle : (n : ℕ) (now : Phase) → request_of n now ≡ None → phase_entry now ≡ None

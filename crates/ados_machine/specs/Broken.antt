@@ -6,12 +6,12 @@ use Rattle.ados_machine.specs.declared.events.Event.TheVariants.{Turn, Break}
 use Rattle.ados_machine.specs.declared.events.BreakKind.TheVariants.{C, D}
 use Rattle.ados_machine.specs.declared.outs.Out.{Out}
 use Rattle.ados_machine.specs.declared.phases.Wait.{Wait}
-use Rattle.ados_machine.specs.declared.phases.Wait.TheVariants.{ForAnswer, ForLines, ForStart, ForPiece, ForEnd}
+use Rattle.ados_machine.specs.declared.phases.Wait.TheVariants.{ForStart, ForPiece}
 use Rattle.ados_machine.specs.Breaks.{flags_own}
 use Rattle.ados_machine.specs.Children.{is_marked}
 use Rattle.ados_machine.specs.Items.{TraceItem}
 use Rattle.ados_machine.specs.Laws.{finds_flag}
-use Rattle.ados_machine.specs.Phases.{Phase, Ready, GoingOn, Waiting}
+use Rattle.ados_machine.specs.Phases.{Phase, Waiting}
 use Rattle.ados_machine.specs.Plain.{TakesEffect}
 use Rattle.ados_machine.specs.Shells.{ShellState}
 use Rattle.ados_machine.specs.Step.{Accepted, step_of}
@@ -28,17 +28,14 @@ is_flagged w k = flag_of_shell (numbered_shell w k)
 
 -- a shell that waits for this has a program that is to start, or whose output is read
 abbrev pub is_starting_or_read : Wait → Bool
-is_starting_or_read (ForAnswer asking) = false
-is_starting_or_read (ForLines gathering) = false
 is_starting_or_read (ForStart starting) = true
 is_starting_or_read (ForPiece child) = true
-is_starting_or_read (ForEnd child) = false
+is_starting_or_read wait = false
 
 -- a shell in this phase has a program that is to start, or whose output is read, so that a break by C marks it
 abbrev pub may_be_marked : Phase → Bool
-may_be_marked Ready = false
-may_be_marked (GoingOn parted) = false
 may_be_marked (Waiting wait) = is_starting_or_read wait
+may_be_marked phase = false
 
 -- the shell is there, and has a program that a break by C marks
 abbrev pub shell_may_be_marked : Option ShellState → Bool

@@ -15,12 +15,12 @@ use Rattle.ados_machine.specs.declared.events.Event.TheVariants.{Turn, Answer}
 use Rattle.ados_machine.specs.declared.outs.Out.{Out}
 use Rattle.ados_machine.specs.declared.phases.Child.{Child}
 use Rattle.ados_machine.specs.declared.phases.Wait.{Wait}
-use Rattle.ados_machine.specs.declared.phases.Wait.TheVariants.{ForAnswer, ForLines, ForStart, ForPiece, ForEnd}
+use Rattle.ados_machine.specs.declared.phases.Wait.TheVariants.{ForPiece, ForEnd}
 use Rattle.ados_machine.specs.Codes.{Awaits}
 use Rattle.ados_machine.specs.InUse.{StaysWhile, has_request, resident_name_of}
 use Rattle.ados_machine.specs.Items.{TraceItem}
 use Rattle.ados_machine.specs.Next.{TakesLine, stands_for}
-use Rattle.ados_machine.specs.Phases.{Phase, Ready, GoingOn, Waiting}
+use Rattle.ados_machine.specs.Phases.{Phase, Waiting}
 use Rattle.ados_machine.specs.Shells.{ShellState}
 use Rattle.ados_machine.specs.Sinks.{Console, newest_sink}
 use Rattle.ados_machine.specs.Step.{Accepted, step_of}
@@ -33,13 +33,9 @@ host_program (Host program) = Some program
 
 -- the program of the host that a word stands for, by what it stands for, if it is one
 abbrev pub program_found : Found → Option Text
-program_found (found.Internal command) = None
 program_found (found.Resident entry) = host_program entry.program
 program_found (found.File file) = host_program file.program
-program_found (found.Script place) = None
-program_found (found.Directory place) = None
-program_found (found.NotExecutable fault) = None
-program_found found.Unknown = None
+program_found word = None
 
 -- a line without redirections whose word stands for a program of the host asks for its start, with the words of its arguments
 abbrev pub StartsAskForTheirProgram : Type 0
@@ -59,17 +55,14 @@ StartsUseTheirEntry =
 
 -- the fault that came first of the program of a shell that waits for this, if one came
 abbrev pub fault_while : Wait → Option Result2
-fault_while (ForAnswer asking) = None
-fault_while (ForLines gathering) = None
-fault_while (ForStart starting) = None
 fault_while (ForPiece child) = child.fault
 fault_while (ForEnd child) = child.fault
+fault_while wait = None
 
 -- the fault that came first of the program of a shell in this phase, if one came
 abbrev pub fault_in : Phase → Option Result2
-fault_in Ready = None
-fault_in (GoingOn parted) = None
 fault_in (Waiting wait) = fault_while wait
+fault_in phase = None
 
 -- the fault that came first of a shell's program, if the shell is there and one came
 abbrev pub fault_of_shell : Option ShellState → Option Result2

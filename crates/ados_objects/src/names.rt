@@ -27,7 +27,7 @@ impl Model for NamedObjects {
     ghost view = { λ n. record { literal = n.literal; places = n.places.items } };
 }
 
-ghost use Rattle.ados_objects.specs.Names.{pattern_of, matches_form, matching_places, some_matches, directory_matches, matches_at, the_one, single_match, bases_at, places_by_form, directory_part, piece_of, named_places, named_bases};
+ghost use Rattle.ados_objects.specs.Names.{pattern_of, matches_form, matching_places, some_matches, directory_matches, the_one, single_match, bases_at, places_by_form, directory_part, piece_of, named_places, named_bases};
 
 impl NamedObjects {
     /// Several objects.
@@ -82,7 +82,10 @@ pub fn named_bases(
     let pattern = pattern_of(alloc, &piece_of(text)?)?;
     match pattern.literal() {
         Some(name) => bases_at(alloc, shared, directory, &head.join(name)?),
-        None => matches_at(alloc, shared, directory, &head, &pattern),
+        None => {
+            let bases = bases_of(alloc, shared, directory, &head)?;
+            directory_matches(alloc, &pattern, &shared.ram, bases.as_slice())
+        }
     }
 }
 
@@ -126,22 +129,11 @@ fn named_by(
 {
     match pattern.literal() {
         Some(name) => single_match(alloc, shared, directory, &head.join(name)?),
-        None => matches_at(alloc, shared, directory, head, pattern),
+        None => {
+            let bases = bases_of(alloc, shared, directory, head)?;
+            directory_matches(alloc, pattern, &shared.ram, bases.as_slice())
+        }
     }
-}
-
-// The matches in the directories for which a path stands.
-fn matches_at(
-    alloc: Global,
-    shared: &Shared,
-    directory: &Place,
-    head: &Text,
-    pattern: &Pattern,
-) -> Lookup<NamedObjects>
-    ensures { Gives result (if_found Err (bases_of shared.now directory.now head.now) (matches_at pattern.now.form shared.now.files)) }
-{
-    let bases = bases_of(alloc, shared, directory, head)?;
-    directory_matches(alloc, pattern, &shared.ram, bases.as_slice())
 }
 
 // The directories for which a path stands, or the one place to which it leads.

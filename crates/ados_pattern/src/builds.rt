@@ -43,8 +43,8 @@ fn built(alloc: Global, mode: Mode, bytes: &[u8]) -> Result<Stack, NoMemory>
     match bytes {
         [] => level(alloc, Stack::Bottom),
         [byte, rest @ ..] => {
-            let stack = built(alloc, mode.next(*byte, rest), rest)?;
-            added(alloc, mode.token(*byte, rest), stack)
+            let (token, next) = mode.read(*byte, rest);
+            added(alloc, token, built(alloc, next, rest)?)
         }
     }
 }

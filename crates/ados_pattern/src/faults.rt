@@ -14,8 +14,7 @@ pub fn first_fault(depth: usize, place: usize, mode: Mode, bytes: &[u8]) -> Opti
     match bytes {
         [] => None,
         [byte, rest @ ..] => {
-            let token = mode.token(*byte, rest);
-            let mode = mode.next(*byte, rest);
+            let (token, mode) = mode.read(*byte, rest);
             if is_bad(depth, token, mode, rest) {
                 Some(place)
             } else {
@@ -58,7 +57,10 @@ fn nothing_in(mode: Mode, bytes: &[u8]) -> bool
 {
     match bytes {
         [] => true,
-        [byte, rest @ ..] => row_ends(mode.token(*byte, rest)),
+        [byte, rest @ ..] => {
+            let (token, _) = mode.read(*byte, rest);
+            row_ends(token)
+        }
     }
 }
 
@@ -75,8 +77,8 @@ fn closed_in(depth: usize, mode: Mode, bytes: &[u8]) -> bool
     match bytes {
         [] => false,
         [byte, rest @ ..] => {
-            let next = mode.next(*byte, rest);
-            match mode.token(*byte, rest) {
+            let (token, next) = mode.read(*byte, rest);
+            match token {
                 Token::Open => closed_in(depth + 1, next, rest),
                 Token::Close => depth == 0 || closed_in(depth - 1, next, rest),
                 _ => closed_in(depth, next, rest),
@@ -91,8 +93,8 @@ fn bad_class(has_member: bool, mode: Mode, bytes: &[u8]) -> bool
     match bytes {
         [] => true,
         [byte, rest @ ..] => {
-            let next = mode.next(*byte, rest);
-            match mode.token(*byte, rest) {
+            let (token, next) = mode.read(*byte, rest);
+            match token {
                 Token::ClassClose => !has_member,
                 Token::Member(low, high) => high < low || bad_class(true, next, rest),
                 _ => bad_class(has_member, next, rest),

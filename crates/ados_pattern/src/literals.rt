@@ -28,8 +28,8 @@ fn reads(name: &mut Vec<u8>, mode: Mode, bytes: &[u8]) -> Result<bool, NoMemory>
     match bytes {
         [] => Ok(true),
         [byte, rest @ ..] => {
-            let next = mode.next(*byte, rest);
-            match mode.token(*byte, rest) {
+            let (token, next) = mode.read(*byte, rest);
+            match token {
                 Token::Char(c) => {
                     name.push(c)?;
                     reads(name, next, rest)

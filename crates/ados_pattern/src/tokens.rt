@@ -58,116 +58,74 @@ pub enum Mode {
 }
 
 impl Mode {
-    /// What the byte is, if the rest follows it.
-    pub fn token(self, byte: u8, rest: &[u8]) -> Token
-        ensures { result ≡ token_of self byte rest.now }
+    /// What the byte is, and what comes before the rest, which follows it.
+    pub fn read(self, byte: u8, rest: &[u8]) -> (Token, Mode)
+        ensures token { result.0 ≡ token_of self byte rest.now }
+        ensures mode { result.1 ≡ next_mode self byte rest.now }
     {
         match self {
-            Mode::Plain => token_of_plain(byte, rest),
-            Mode::Quoted => Token::Char(byte),
+            Mode::Plain => read_plain(byte, rest),
+            Mode::Quoted => (Token::Char(byte), Mode::Plain),
             Mode::Begun => match byte {
-                b'~' => Token::Negated,
-                _ => token_in_class(byte, rest),
+                b'~' => (Token::Negated, Mode::Class),
+                _ => read_in_class(byte, rest),
             },
-            Mode::Class => token_in_class(byte, rest),
-            Mode::ClassQuoted => token_of_member(byte, rest),
-            Mode::Low(_) => Token::Silent,
+            Mode::Class => read_in_class(byte, rest),
+            Mode::ClassQuoted => read_member(byte, rest),
+            Mode::Low(low) => (Token::Silent, Mode::Ranged(low)),
             Mode::Ranged(low) => match byte {
-                b'\'' => Token::Silent,
-                _ => Token::Member(low, byte),
+                b'\'' => (Token::Silent, Mode::RangedQuoted(low)),
+                _ => (Token::Member(low, byte), Mode::Class),
             },
-            Mode::RangedQuoted(low) => Token::Member(low, byte),
-        }
-    }
-
-    /// What comes before the rest, given the byte before it.
-    pub fn next(self, byte: u8, rest: &[u8]) -> Mode
-        ensures { result ≡ next_mode self byte rest.now }
-    {
-        match self {
-            Mode::Plain => match byte {
-                b'\'' => Mode::Quoted,
-                b'[' => Mode::Begun,
-                _ => Mode::Plain,
-            },
-            Mode::Quoted => Mode::Plain,
-            Mode::Begun => match byte {
-                b'~' => Mode::Class,
-                _ => mode_in_class(byte, rest),
-            },
-            Mode::Class => mode_in_class(byte, rest),
-            Mode::ClassQuoted => mode_of_member(byte, rest),
-            Mode::Low(low) => Mode::Ranged(low),
-            Mode::Ranged(low) => match byte {
-                b'\'' => Mode::RangedQuoted(low),
-                _ => Mode::Class,
-            },
-            Mode::RangedQuoted(_) => Mode::Class,
+            Mode::RangedQuoted(low) => (Token::Member(low, byte), Mode::Class),
         }
     }
 }
 
 // Outside of a class.
-fn token_of_plain(byte: u8, rest: &[u8]) -> Token
-    ensures { result ≡ plain_token byte rest.now }
+fn read_plain(byte: u8, rest: &[u8]) -> (Token, Mode)
+    ensures token { result.0 ≡ plain_token byte rest.now }
+    ensures mode { result.1 ≡ next_mode Mode.Plain byte rest.now }
 {
     match byte {
         b'\'' => {
             if rest.is_empty() {
-                Token::Hanging
+                (Token::Hanging, Mode::Quoted)
             } else {
-                Token::Silent
+                (Token::Silent, Mode::Quoted)
             }
         }
-        b'[' => Token::ClassOpen,
-        b'?' => Token::Any,
-        b'%' => Token::Nothing,
-        b'#' => Token::Many,
-        b'~' => Token::Other,
-        b'|' => Token::Bar,
-        b'(' => Token::Open,
-        b')' => Token::Close,
-        c => Token::Char(c),
+        b'[' => (Token::ClassOpen, Mode::Begun),
+        b'?' => (Token::Any, Mode::Plain),
+        b'%' => (Token::Nothing, Mode::Plain),
+        b'#' => (Token::Many, Mode::Plain),
+        b'~' => (Token::Other, Mode::Plain),
+        b'|' => (Token::Bar, Mode::Plain),
+        b'(' => (Token::Open, Mode::Plain),
+        b')' => (Token::Close, Mode::Plain),
+        c => (Token::Char(c), Mode::Plain),
     }
 }
 
-fn token_in_class(byte: u8, rest: &[u8]) -> Token
-    ensures { result ≡ class_token byte rest.now }
+fn read_in_class(byte: u8, rest: &[u8]) -> (Token, Mode)
+    ensures token { result.0 ≡ class_token byte rest.now }
+    ensures mode { result.1 ≡ class_mode byte rest.now }
 {
     match byte {
-        b']' => Token::ClassClose,
-        b'\'' => Token::Silent,
-        c => token_of_member(c, rest),
+        b']' => (Token::ClassClose, Mode::Plain),
+        b'\'' => (Token::Silent, Mode::ClassQuoted),
+        c => read_member(c, rest),
     }
 }
 
-fn mode_in_class(byte: u8, rest: &[u8]) -> Mode
-    ensures { result ≡ class_mode byte rest.now }
-{
-    match byte {
-        b']' => Mode::Plain,
-        b'\'' => Mode::ClassQuoted,
-        c => mode_of_member(c, rest),
-    }
-}
-
-fn token_of_member(byte: u8, rest: &[u8]) -> Token
-    ensures { result ≡ member_token byte rest.now }
+fn read_member(byte: u8, rest: &[u8]) -> (Token, Mode)
+    ensures token { result.0 ≡ member_token byte rest.now }
+    ensures mode { result.1 ≡ member_mode byte rest.now }
 {
     if starts_range(rest) {
-        Token::Silent
+        (Token::Silent, Mode::Low(byte))
     } else {
-        Token::Member(byte, byte)
-    }
-}
-
-fn mode_of_member(byte: u8, rest: &[u8]) -> Mode
-    ensures { result ≡ member_mode byte rest.now }
-{
-    if starts_range(rest) {
-        Mode::Low(byte)
-    } else {
-        Mode::Class
+        (Token::Member(byte, byte), Mode::Class)
     }
 }
 

@@ -6,6 +6,8 @@ use Rattle.ados_text.specs.Number.{is_number}
 use Rattle.ados_readargs.specs.declared.options.TemplateOption.{TemplateOption}
 use Rattle.ados_readargs.specs.declared.args.Arg.{Arg}
 use Rattle.ados_readargs.specs.declared.args.Arg.TheVariants.{Absent, On, One, Many}
+use Rattle.ados_readargs.specs.declared.checks.Demand.{Demand}
+use Rattle.ados_readargs.specs.declared.checks.Demand.TheVariants.{Argument, Numbers}
 
 -- the option was given nothing
 abbrev pub is_absent : Arg → Bool
@@ -46,3 +48,8 @@ is_bad option arg = option.qualifiers.number && has_bad_number arg
 -- an option with /N has a text that is not a number
 abbrev pub has_bad : List TemplateOption → List Arg → Bool
 has_bad options args = any_option is_bad options args
+
+-- the option with its argument does not meet what is asked of it
+abbrev pub is_broken_by : Demand → TemplateOption → Arg → Bool
+is_broken_by Argument = is_lacking
+is_broken_by Numbers = is_bad

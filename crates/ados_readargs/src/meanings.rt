@@ -1,6 +1,6 @@
 // What one word of a line says.
 ghost use Rattle.std.specs.Prelude.{◌≡◌};
-ghost use Rattle.ados_readargs.specs.Meanings.{is_full, given_meaning, keyword_value_meaning, switch_meaning, keyword_meaning, plain_meaning, word_meaning, value_meaning, next_meaning, rest_of, free_meaning, meaning_of};
+ghost use Rattle.ados_readargs.specs.Meanings.{is_full, given_meaning, keyword_value_meaning, switch_meaning, keyword_meaning, plain_meaning, word_meaning, value_meaning, rest_of, free_meaning, meaning_of};
 
 use crate::errors::ArgFault;
 use crate::keywords::{keyword_of, trimmed_len};
@@ -142,27 +142,6 @@ fn value_meaning(full: bool, place: usize, equal: bool, word: LineWord) -> Meani
     }
 }
 
-fn next_meaning(
-    options: &[TemplateOption],
-    line: &[u8],
-    given: &[Reading],
-    word: LineWord,
-    vacant: Option<usize>,
-) -> Meaning
-    ensures { result ≡ next_meaning options.now line.now given.now word vacant }
-{
-    if word.is_open_quote() {
-        return Meaning::Refuse(ArgFault::Unmatched);
-    }
-    word_meaning(
-        options,
-        given,
-        vacant,
-        word,
-        keyword_of(options, line, word),
-    )
-}
-
 // The text from a word to the line's end, without the blanks there.
 fn rest_of(line: &[u8], word: LineWord) -> Item
     ensures { result ≡ rest_of line.now word }
@@ -186,7 +165,14 @@ fn free_meaning(
         Some(place) if option_qualifiers(options, place).rest => {
             Meaning::Stop(Reading::Given(place, rest_of(line, word)))
         }
-        _ => next_meaning(options, line, given, word, vacant),
+        _ if word.is_open_quote() => Meaning::Refuse(ArgFault::Unmatched),
+        _ => word_meaning(
+            options,
+            given,
+            vacant,
+            word,
+            keyword_of(options, line, word),
+        ),
     }
 }
 

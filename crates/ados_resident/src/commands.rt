@@ -26,6 +26,11 @@ pub enum EnvCommand {
     Why,
 }
 
+impl EnvCommand {
+    /// How many there are.
+    pub const COUNT: usize = EnvCommand::Why as usize + 1;
+}
+
 /// The commands on files: those of `ados_files`.
 #[derive(Clone, Copy)]
 pub enum FilesCommand {
@@ -43,6 +48,11 @@ pub enum FilesCommand {
     Type,
 }
 
+impl FilesCommand {
+    /// How many there are.
+    pub const COUNT: usize = FilesCommand::Type as usize + 1;
+}
+
 /// The commands of control flow: those of `ados_flow`.
 #[derive(Clone, Copy)]
 pub enum FlowCommand {
@@ -55,6 +65,11 @@ pub enum FlowCommand {
     Lab,
     Quit,
     Skip,
+}
+
+impl FlowCommand {
+    /// How many there are.
+    pub const COUNT: usize = FlowCommand::Skip as usize + 1;
 }
 
 /// A command that takes its arguments by a template: all but Run.

@@ -102,7 +102,7 @@ pub fn put_into(
         out.push(entry)?;
         return copy_into(out, further);
     }
-    out.push(old.copy()?)?;
+    out.push(old.clone()?)?;
     put_into(out, further, entry)
 }
 
@@ -110,8 +110,6 @@ pub fn put_into(
 pub fn copy_into(out: &mut Vec<Resident>, entries: &[Resident]) -> Result<(), NoMemory>
     ensures { OnOk result (out.new.items ≡ out.old.items ++ entries.now) }
 {
-    for entry in entries {
-        out.push(entry.copy()?)?;
-    }
+    out.extend_from_slice(entries)?;
     Ok(())
 }

@@ -75,16 +75,23 @@ entries_more lines i text head table is are = with_more (map head_of lines) i he
 pub ends_below : {lines : List Text} {i : ℕ} {table : List Ends} {skips numbers : List ℕ} {found phrased : List Label} → AreRead lines i table skips numbers found phrased → IfSome (kept_ends table 0).end_if (λ m. i ≤ m)
 ends_below {lines} {i} {table} are = end_below (map head_of lines) i table are.entries
 
-pub read_end_skip : {lines : List Text} {i : ℕ} {text : Text} {head : Head} {table : List Ends} {skips numbers : List ℕ} {found phrased : List Label}
-    → IsLine lines i text head → is_end_skip head ≡ true → is_lab head ≡ false → AreRead lines (i + 1) table skips numbers found phrased
-    → AreRead lines i (with_entry table (ends_above table (i + 1) head)) (skips ++ (i + 1) ∷ []) numbers found phrased
-read_end_skip {lines} {i} {text} {head} {table} {skips} {numbers} {found} {phrased} is skip lab are = record {
+-- a line that is no Lab is read, by the EndSkip lines from it on
+read_no_lab : {lines : List Text} {i : ℕ} {text : Text} {head : Head} {table : List Ends} {skips before numbers : List ℕ} {found phrased : List Label}
+    → IsLine lines i text head → reverse skips ≡ filter (is_end_skip_at lines) (numbers_below lines i) → is_lab head ≡ false → AreRead lines (i + 1) table before numbers found phrased
+    → AreRead lines i (with_entry table (ends_above table (i + 1) head)) skips numbers found phrased
+read_no_lab {lines} {i} {text} {head} {table} {skips} {before} {numbers} {found} {phrased} is end_skips lab are = record {
   entries = entries_more lines i text head table is are.entries;
-  end_skips = joined (is_end_skip_at lines) lines i skips is.within are.end_skips (tested lines i text head is_end_skip is ∙ skip);
+  end_skips = end_skips;
   labs = passed (is_lab_at lines) lines i numbers is.within are.labs (tested lines i text head is_lab is ∙ lab);
   labels = label_passed label_of lines i found is.within are.labels (tested lines i text head is_lab is ∙ lab);
   phrases = label_passed phrase_of lines i phrased is.within are.phrases (tested lines i text head is_lab is ∙ lab);
 }
+
+pub read_end_skip : {lines : List Text} {i : ℕ} {text : Text} {head : Head} {table : List Ends} {skips numbers : List ℕ} {found phrased : List Label}
+    → IsLine lines i text head → is_end_skip head ≡ true → is_lab head ≡ false → AreRead lines (i + 1) table skips numbers found phrased
+    → AreRead lines i (with_entry table (ends_above table (i + 1) head)) (skips ++ (i + 1) ∷ []) numbers found phrased
+read_end_skip {lines} {i} {text} {head} {table} {skips} is skip lab are =
+    read_no_lab is (joined (is_end_skip_at lines) lines i skips is.within are.end_skips (tested lines i text head is_end_skip is ∙ skip)) lab are
 
 pub read_lab : {lines : List Text} {i : ℕ} {text : Text} {head : Head} {table : List Ends} {skips numbers : List ℕ} {found phrased : List Label} {label phrase : Text}
     → IsLine lines i text head → is_end_skip head ≡ false → is_lab head ≡ true → label ≡ label_of text → phrase ≡ phrase_of text → AreRead lines (i + 1) table skips numbers found phrased
@@ -104,13 +111,8 @@ read_lab {lines} {i} {text} {head} {table} {skips} {numbers} {found} {phrased} {
 pub read_other : {lines : List Text} {i : ℕ} {text : Text} {head : Head} {table : List Ends} {skips numbers : List ℕ} {found phrased : List Label}
     → IsLine lines i text head → is_end_skip head ≡ false → is_lab head ≡ false → AreRead lines (i + 1) table skips numbers found phrased
     → AreRead lines i (with_entry table (ends_above table (i + 1) head)) skips numbers found phrased
-read_other {lines} {i} {text} {head} {table} {skips} {numbers} {found} {phrased} is skip lab are = record {
-  entries = entries_more lines i text head table is are.entries;
-  end_skips = passed (is_end_skip_at lines) lines i skips is.within are.end_skips (tested lines i text head is_end_skip is ∙ skip);
-  labs = passed (is_lab_at lines) lines i numbers is.within are.labs (tested lines i text head is_lab is ∙ lab);
-  labels = label_passed label_of lines i found is.within are.labels (tested lines i text head is_lab is ∙ lab);
-  phrases = label_passed phrase_of lines i phrased is.within are.phrases (tested lines i text head is_lab is ∙ lab);
-}
+read_other {lines} {i} {text} {head} {table} {skips} is skip lab are =
+    read_no_lab is (passed (is_end_skip_at lines) lines i skips is.within are.end_skips (tested lines i text head is_end_skip is ∙ skip)) lab are
 
 -- a line that is neither an EndSkip nor a Lab
 pub neither : (head : Head) → (head ≡ EndSkip → ⊥) → (head ≡ Lab → ⊥) → (is_end_skip head ≡ false) × (is_lab head ≡ false)

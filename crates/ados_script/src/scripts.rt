@@ -1,8 +1,8 @@
 //! The lines of a script, and where its jumps lead.
-ghost use Rattle.std.specs.{Prelude.{◌≡◌, Some, IfOk}, List.{find}, Option.{option_copied, option_map}};
-ghost use Rattle.ados_script.specs.{Blocks.{after_if, after_else}, Jumps.{LeadsWithin}, Lines.{line_of, numbers_below}, Skips.{skip}, Tables.{sought_at}};
+ghost use Rattle.std.specs.{Prelude.{◌≡◌, ◌<◌, ◌^◌, Some, IfOk, length, map}, List.{find}, Option.{option_copied, option_map}};
+ghost use Rattle.ados_script.specs.{Blocks.{after_if, after_else}, Heads.{head_of}, Jumps.{LeadsWithin}, Lines.{line_of, numbers_below}, Skips.{is_end_skip_at, skip}, Tables.{first_ends, sought_at}};
 
-use crate::blocks::kept_ends;
+use crate::blocks::{Ends, kept_ends};
 use crate::jumps::{Jump, jump_to_next};
 use crate::labels::first_of;
 use crate::skips::{first_below, jump_past_first, nearer};
@@ -66,7 +66,7 @@ impl Script {
         ensures jump { result ≡ after_if self.now i }
         ensures within { LeadsWithin self.now result }
     {
-        jump_to_next(kept_ends(&self.tables.ends, i).branch)
+        jump_to_next(self.ends_below(i).branch)
     }
 
     /// Where the script continues after an Else in line `i`: after the first EndIf below it at depth 0. `None` if there
@@ -75,7 +75,15 @@ impl Script {
         ensures jump { result ≡ after_else self.now i }
         ensures within { LeadsWithin self.now result }
     {
-        jump_to_next(kept_ends(&self.tables.ends, i).end_if)
+        jump_to_next(self.ends_below(i).end_if)
+    }
+
+    // Where a block that is open in line `i` ends. The number of a line is far below the largest one.
+    fn ends_below(&self, i: usize) -> Ends
+        ensures ends { result ≡ first_ends (map head_of self.now) i }
+        ensures few { length self.now < 2 ^ 63 }
+    {
+        kept_ends(&self.tables.ends, i)
     }
 
     /// Where the script continues after a Skip in line `i`: after the first Lab below it that has the label, ignoring
@@ -87,15 +95,32 @@ impl Script {
         ensures within { LeadsWithin self.now result }
     {
         let start = if back { 0 } else { i };
-        let lab = match label {
-            None => first_below(&self.tables.labs, start),
-            Some(label) => self.first_lab(dialect, label, start),
-        };
-        jump_past_first(lab, first_below(&self.tables.end_skips, start))
+        jump_past_first(
+            self.first_lab(dialect, label, start),
+            self.first_end_skip(start),
+        )
+    }
+
+    // The first EndSkip below line `i`. The number of a line is far below the largest one.
+    fn first_end_skip(&self, i: usize) -> Option<usize>
+        ensures first { result ≡ find (is_end_skip_at self.now) (numbers_below self.now i) }
+        ensures few { length self.now < 2 ^ 63 }
+    {
+        first_below(&self.tables.end_skips, i)
+    }
+
+    // The first Lab below line `i`, or the first one that has a label.
+    fn first_lab(&self, dialect: Dialect, label: Option<&[u8]>, i: usize) -> Option<usize>
+        ensures { result ≡ find (sought_at dialect (option_map (λ t. t.now) label.entry) self.now) (numbers_below self.now i) }
+    {
+        match label {
+            None => first_below(&self.tables.labs, i),
+            Some(label) => self.first_labelled(dialect, label, i),
+        }
     }
 
     // The first Lab below line `i` that has a label.
-    fn first_lab(&self, dialect: Dialect, label: &[u8], i: usize) -> Option<usize>
+    fn first_labelled(&self, dialect: Dialect, label: &[u8], i: usize) -> Option<usize>
         ensures { result ≡ find (sought_at dialect (Some label.now) self.now) (numbers_below self.now i) }
     {
         let labelled = first_of(&self.tables.labels, label, i);

@@ -1,11 +1,11 @@
 //! Objects of the folder of a share that are moved aside while others of another kind get their places.
 
 use crate::account::{Account, Aside};
-use crate::departure::{Departures, Stage, move_aside, own_path};
+use crate::departure::{Stage, move_aside, own_path};
 use crate::mirror::Mirror;
 use crate::modes::set_folder_mode;
-use ados_ram::Ram;
-use ados_transfer::{Below, Here, Record, Stamp, TransferFault, place_new};
+use crate::update::Update;
+use ados_transfer::{Here, Record, Stamp, TransferFault, place_new};
 use std::io::ErrorKind;
 use std::rt::Files;
 use std::time::Clock;
@@ -16,16 +16,14 @@ impl Mirror {
     // it is written, and on the disk, and nothing changed aside by then; otherwise it gets its place back.
     pub(crate) fn change_kinds<R: AllocGlobal + Files + Clock>(
         &mut self,
-        rt: &Below<'_, R>,
-        files: &Ram,
-        departures: &Departures<'_>,
+        update: &Update<'_, R>,
         account: &mut Account,
     ) -> Result<(), TransferFault> {
-        let written = self.exchange_kinds(rt, files, departures, account);
+        let written = self.exchange_kinds(update, account);
         let is_safe = written.is_ok()
-            && (account.aside.is_empty() || matches!(self.is_synced(rt, account), Ok(true)))
-            && self.heed_changes_aside(rt, departures, account).is_ok();
-        let finished = self.finish_kind_changes(rt, account, is_safe);
+            && (account.aside.is_empty() || matches!(self.is_synced(update.rt, account), Ok(true)))
+            && self.heed_changes_aside(update, account).is_ok();
+        let finished = self.finish_kind_changes(update.rt, account, is_safe);
         written?;
         finished
     }
@@ -33,19 +31,17 @@ impl Mirror {
     // Moves aside what is in the way, and writes what needs the place.
     fn exchange_kinds<R: AllocGlobal + Files + Clock>(
         &mut self,
-        rt: &Below<'_, R>,
-        files: &Ram,
-        departures: &Departures<'_>,
+        update: &Update<'_, R>,
         account: &mut Account,
     ) -> Result<(), TransferFault> {
-        for (key, departure) in departures.by_key.iter().rev() {
+        for (key, departure) in update.departures.by_key.iter().rev() {
             if departure.is_within_kind_change
                 && (departure.changes_kind || departure.entry.is_none())
             {
-                self.delete_here(rt, key.as_str(), departure, account)?;
+                self.delete_here(update.rt, key.as_str(), departure, account)?;
             }
         }
-        self.write_stage(rt, files, departures, account, Stage::KindChange)
+        self.write_stage(update, account, Stage::KindChange)
     }
 
     // Moves an object aside; `false` if something else came to be there since it was looked at.

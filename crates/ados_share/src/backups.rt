@@ -204,16 +204,16 @@ impl Mirror {
             return Ok(());
         }
         let mut holders = self.holders(files)?;
-        let contents = self.contents_of_backups(files, &holders)?;
+        let contents = self.contents_of_backups(&holders)?;
         self.look_for(&mut holders, contents)?;
         if !account.is_meanwhile() {
-            self.renew_backups(rt, files, &holders)?;
-            self.restore_deleted(rt, files, &holders)?;
+            self.renew_backups(rt, &holders)?;
+            self.restore_deleted(rt, &holders)?;
         }
         let mut over = Vec::new(self.alloc);
         let mut remainders = Vec::new(self.alloc);
         for (path, backup) in &self.backups.by_path {
-            let elsewhere = self.needed_for(files, &holders, backup)?;
+            let elsewhere = self.needed_for(&holders, backup)?;
             let in_folder = self.is_in_folder(rt, &holders, backup)?;
             match (
                 retention_of(
@@ -232,7 +232,7 @@ impl Mirror {
                 _ => {}
             }
         }
-        self.let_go(rt, files, &holders, over.as_slice(), account)?;
+        self.let_go(rt, &holders, over.as_slice(), account)?;
         self.keep_remainders(rt, remainders.as_slice())
     }
 
@@ -240,7 +240,6 @@ impl Mirror {
     fn let_go<R: AllocGlobal + Files>(
         &mut self,
         rt: &R,
-        files: &Ram,
         holders: &Holders<'_>,
         paths: &[String],
         account: &mut Account,
@@ -259,7 +258,7 @@ impl Mirror {
         for path in paths {
             let path = path.as_str();
             if let Some(backup) = self.backups.by_path.remove(path) {
-                self.note_former(files, holders, backup)?;
+                self.note_former(holders, backup)?;
             }
             if fs::remove_file(rt, path).is_err() && fs::symlink_metadata(rt, path).is_ok() {
                 self.report_temporary(String::from_str(self.alloc, path)?)?;

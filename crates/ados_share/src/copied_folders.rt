@@ -1,9 +1,10 @@
 //! A new directory that the script made as a copy of a folder, or to which it renamed one, gets the permissions of that folder.
 
 use crate::account::Account;
-use crate::departure::Departures;
+use crate::departures::Departures;
 use crate::mirror::Mirror;
-use ados_ram::{Entry, Ram};
+use crate::update::Update;
+use ados_ram::Entry;
 use ados_transfer::{Manner, Record, TransferFault, lower};
 use std::rt::Files;
 
@@ -21,41 +22,37 @@ impl Mirror {
     // of one in that folder.
     pub(crate) fn note_folders<R: AllocGlobal + Files>(
         &self,
-        rt: &R,
-        files: &Ram,
-        departures: &Departures<'_>,
+        update: &Update<'_, R>,
         account: &mut Account,
     ) -> Result<(), TransferFault> {
-        for (key, departure) in &departures.by_key {
+        for (key, departure) in &update.departures.by_key {
             let key = key.as_str();
             let Some(bytes) = departure.entry.and_then(Entry::bytes) else {
                 continue;
             };
-            if bytes.len() == 0 || open_folder(departures, account, key).is_none() {
+            if bytes.len() == 0 || open_folder(&update.departures, account, key).is_none() {
                 continue;
             }
-            if let Some(original) = self.original_of(files, bytes) {
-                let is_copy = original.is_kept(files.look(&original.place));
+            if let Some(original) = self.original_of(update.files, bytes) {
+                let is_copy = original.is_kept(update.files.look(&original.place));
                 let pair = Pair {
                     key,
                     original,
                     is_copy,
                 };
-                self.note_folders_above(rt, departures, pair, account)?;
+                self.note_folders_above(update, pair, account)?;
             }
         }
-        self.note_folders_of_large(rt, files, departures, account)
+        self.note_folders_of_large(update, account)
     }
 
     // The same, for the new directories in which a large file has the name that it had in a folder.
     fn note_folders_of_large<R: AllocGlobal + Files>(
         &self,
-        rt: &R,
-        files: &Ram,
-        departures: &Departures<'_>,
+        update: &Update<'_, R>,
         account: &mut Account,
     ) -> Result<(), TransferFault> {
-        for moved in self.moved(files)? {
+        for moved in self.moved(update.files)? {
             let (Some(path), Some(original)) = (
                 &moved.new_path,
                 self.records.get(moved.key.as_str()),
@@ -68,7 +65,7 @@ impl Mirror {
                 original,
                 is_copy: false,
             };
-            self.note_folders_above(rt, departures, pair, account)?;
+            self.note_folders_above(update, pair, account)?;
         }
         Ok(())
     }
@@ -76,15 +73,14 @@ impl Mirror {
     // The folders above a file and those above its original belong together as long as the names below them are alike.
     fn note_folders_above<R: AllocGlobal + Files>(
         &self,
-        rt: &R,
-        departures: &Departures<'_>,
+        update: &Update<'_, R>,
         pair: Pair<'_>,
         account: &mut Account,
     ) -> Result<(), TransferFault> {
         let (mut key, mut path) = (pair.key, pair.original.path.as_str());
         for _ in 0..pair.key.len() {
             let (Some((directory, name)), Some((folder, old_name))) = (
-                open_folder(departures, account, key),
+                open_folder(&update.departures, account, key),
                 path.rsplit_once('/'),
             ) else {
                 return Ok(());
@@ -92,7 +88,7 @@ impl Mirror {
             if !name.eq_ignore_ascii_case(old_name) {
                 return Ok(());
             }
-            if let Some(rights) = self.rights_at(rt, folder, directory)? {
+            if let Some(rights) = self.rights_at(update.rt, folder, directory)? {
                 let manner = if pair.is_copy {
                     Manner::Copied(rights)
                 } else {

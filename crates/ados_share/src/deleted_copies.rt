@@ -9,7 +9,7 @@ use crate::elsewhere::Elsewhere;
 use crate::holders::Holders;
 use crate::mirror::Mirror;
 use crate::moves::Destination;
-use ados_ram::{Entry, Ram};
+use ados_ram::Entry;
 use ados_transfer::{Draft, Here, Last, Manner, TransferFault, holds, lower};
 use std::rt::Files;
 use std::{fs, mem};
@@ -130,15 +130,14 @@ impl Mirror {
     pub(crate) fn renew_backups<R: AllocGlobal + Files>(
         &mut self,
         rt: &R,
-        files: &Ram,
         holders: &Holders<'_>,
     ) -> Result<(), TransferFault> {
         for (path, backup) in self.backups.take_lost(rt)? {
-            let elsewhere = self.elsewhere(files, holders, &backup)?;
+            let elsewhere = self.elsewhere(holders, &backup)?;
             if elsewhere.is_some() && !self.is_in_folder(rt, holders, &backup)? {
                 self.restore(rt, backup)?;
             } else {
-                self.note_former(files, holders, backup)?;
+                self.note_former(holders, backup)?;
             }
             if fs::symlink_metadata(rt, path.as_str()).is_ok() {
                 self.report_temporary(path)?;
@@ -152,17 +151,16 @@ impl Mirror {
     pub(crate) fn restore_deleted<R: AllocGlobal + Files>(
         &mut self,
         rt: &R,
-        files: &Ram,
         holders: &Holders<'_>,
     ) -> Result<(), TransferFault> {
         self.backups.forget_beginnings(holders)?;
         let deleted = mem::replace(&mut self.backups.deleted, Vec::new(self.alloc));
         for backup in deleted {
-            if !self.is_in_memory(files, holders, &backup)? {
+            if !self.is_in_memory(holders, &backup)? {
                 continue;
             }
             if self.is_in_folder(rt, holders, &backup)?
-                || self.has_needed(files, holders, &backup.bytes)?
+                || self.has_needed(holders, &backup.bytes)?
             {
                 self.backups.deleted.push(backup)?;
             } else {
@@ -176,18 +174,18 @@ impl Mirror {
     // among others.
     pub(crate) fn elsewhere(
         &self,
-        files: &Ram,
         holders: &Holders<'_>,
         backup: &Backup,
     ) -> Result<Option<Elsewhere>, TransferFault>
         ensures gave_way { backup.now.moved ≡ Some Destination.Replaced → IfOk result (λ elsewhere. is_some elsewhere ≡ true) }
     {
+        let files = holders.files();
         if let Some(holder) = holders.first_with(&backup.bytes) {
             return Ok(Some(Elsewhere::Copy(self.copy_path(files, holder.place())?)));
         }
         match self.unwritten_elsewhere(files, backup.moved.as_ref())? {
             Some(moved) => Ok(Some(moved)),
-            None => self.part_elsewhere(files, holders, &backup.bytes),
+            None => self.part_elsewhere(holders, &backup.bytes),
         }
     }
 

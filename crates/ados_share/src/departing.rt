@@ -7,7 +7,7 @@ ghost use Rattle.ados_share.specs.{Around.{keeps_within, lets_go}, Records.{has_
 use crate::account::Account;
 use crate::around::is_within;
 use crate::backups::Backup;
-use crate::departure::Departures;
+use crate::departures::Departures;
 use crate::holders::Holders;
 use crate::last_copies::bytes_of;
 use crate::mirror::Mirror;
@@ -32,12 +32,12 @@ impl Mirror {
             return Ok(());
         }
         let mut holders = self.holders(files)?;
-        let contents = self.contents_of_backups(files, &holders)?;
+        let contents = self.contents_of_backups(&holders)?;
         self.look_for(&mut holders, contents)?;
         let deleted = mem::replace(&mut self.backups.deleted, Vec::new(self.alloc));
         for backup in deleted {
-            let is_needed = self.is_in_memory(files, &holders, &backup)?
-                && !self.has_needed(files, &holders, &backup.bytes)?;
+            let is_needed = self.is_in_memory(&holders, &backup)?
+                && !self.has_needed(&holders, &backup.bytes)?;
             if is_needed && !self.will_stand(rt, &holders, departures, &backup)? {
                 self.save(rt, backup, departures, account)?;
             } else {

@@ -1,20 +1,15 @@
 //! One object of the Shell's files on its way to the folder of a share.
-ghost use Rattle.std.specs.{Prelude.{◌≡◌, [], ◌||◌, IfOk, OnOk, string_bytes}, BTreeMap.{IsEmpty}, Str.{bytes_eq}};
-ghost use Rattle.ados_text.specs.Text.{Bytes};
+ghost use Rattle.std.specs.Prelude.{◌≡◌, [], IfOk, string_bytes};
 ghost use Rattle.ados_transfer.specs.Paths.{IsBelow, path_in};
-ghost use Rattle.ados_share.specs.Records.{has_key};
 
 use crate::around::Around;
 use crate::elsewhere::Elsewhere;
 use crate::modes::set_folder_mode;
 use ados_ram::Entry;
-use ados_text::NoMemory;
 use ados_transfer::{
-    Below, Draft, Here, Last, Owner, Record, Rights, Stamp, TransferFault, enter, is_descendant,
-    open_beside, path_of, place_whole,
+    Below, Draft, Here, Last, Owner, Record, Rights, Stamp, TransferFault, enter, open_beside,
+    path_of, place_whole,
 };
-use std::alloc::Global;
-use std::collections::BTreeMap;
 use std::io::ErrorKind;
 use std::rt::Files;
 use std::{fs, io};
@@ -93,77 +88,6 @@ impl<'a> Departure<'a> {
     /// What was there is gone, or of another kind.
     pub fn is_gone(&self) -> bool {
         !self.is_new && (self.entry.is_none() || self.changes_kind)
-    }
-}
-
-/// Departures, each by its path below the folder in lower case.
-#[derive(Drop)]
-pub struct Departures<'a> {
-    /// In the order of these keys a directory comes before what is in it.
-    pub by_key: BTreeMap<String, Departure<'a>>,
-    // The keys of those that change their kind.
-    kind_changes: Vec<String>,
-}
-
-impl<'a> Departures<'a> {
-    /// No departures.
-    pub fn new(alloc: Global) -> Departures<'a>
-        ensures { IsEmpty result.by_key }
-    {
-        Departures {
-            by_key: BTreeMap::new(alloc),
-            kind_changes: Vec::new(alloc),
-        }
-    }
-
-    /// Adds one; what is in a directory is added after it.
-    pub fn add(&mut self, key: String, departure: Departure<'a>) -> Result<(), TransferFault>
-        ensures { OnOk result ((q : Bytes) → has_key self.new.by_key q ≡ (bytes_eq (string_bytes key) q || has_key self.old.by_key q)) }
-    {
-        let mut departure = departure;
-        departure.is_within_kind_change = self.note_kind_change(
-            key.as_str(),
-            departure.changes_kind,
-        )?;
-        Ok(self.put(key, departure)?)
-    }
-
-    /// Adds one that was among them before.
-    pub fn put(&mut self, key: String, departure: Departure<'a>) -> Result<(), NoMemory>
-        ensures { OnOk result ((q : Bytes) → has_key self.new.by_key q ≡ (bytes_eq (string_bytes key) q || has_key self.old.by_key q)) }
-    {
-        self.by_key.insert(key, departure)?;
-        Ok(())
-    }
-
-    /// The object with this key is deleted or written over, and the Shell has what it was nowhere else.
-    pub fn has_leaving(&self, key: &str) -> bool {
-        self.by_key
-            .get(key)
-            .is_some_and(|departure| departure.elsewhere.is_none())
-    }
-
-    /// Leaves out those in the volumes with these labels.
-    pub fn leave_out(&mut self, labels: &[String]) {
-        self.by_key.retain(|key, _| !labels
-            .iter()
-            .any(|label| is_descendant(label.as_str(), key.as_str())));
-    }
-
-    // An object changes its kind, which is noted, or is below one that does.
-    fn note_kind_change(&mut self, key: &str, changes_kind: bool) -> Result<bool, TransferFault>
-        ensures { self.new.by_key ≡ self.old.by_key }
-    {
-        if !changes_kind {
-            return Ok(
-                self.kind_changes
-                    .iter()
-                    .any(|above| is_descendant(above.as_str(), key)),
-            );
-        }
-        self.kind_changes
-            .push(String::from_str(*self.kind_changes.allocator(), key)?)?;
-        Ok(true)
     }
 }
 

@@ -35,6 +35,7 @@ impl Holder<'_> {
 /// The files of the Shell that have bytes: those in the directory, and those outside of it.
 #[derive(Drop)]
 pub struct Holders<'a> {
+    files: &'a Ram,
     inside: Index<'a>,
     outside: Index<'a>,
     // What was looked for in them.
@@ -103,6 +104,11 @@ fn first_with<'h, 'a>(holders: &'h [Holder<'a>], bytes: &FileBytes) -> Option<&'
 }
 
 impl<'a> Holders<'a> {
+    /// All files of the Shell.
+    pub fn files(&self) -> &'a Ram {
+        self.files
+    }
+
     /// The first file that has these bytes, of those outside if one of them does.
     pub fn first_with(&self, bytes: &FileBytes) -> Option<&Holder<'a>>
         ensures { IfSome result (λ holder. has_bytes bytes.now holder.now ≡ true) }
@@ -183,6 +189,7 @@ impl Mirror {
     // The Shell's files that have bytes.
     pub(crate) fn holders<'a>(&self, files: &'a Ram) -> Result<Holders<'a>, TransferFault> {
         let mut holders = Holders {
+            files,
             inside: Index::new(self.alloc),
             outside: Index::new(self.alloc),
             parts: Sought::empty(self.alloc),

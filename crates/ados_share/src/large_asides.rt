@@ -56,9 +56,7 @@ impl Mirror {
             left = blocked;
         }
         let is_renamed = left.len() < count;
-        for aside in left {
-            self.return_aside(rt, aside, account)?;
-        }
+        self.return_asides(rt, left, account)?;
         Ok(is_renamed)
     }
 
@@ -94,30 +92,34 @@ impl Mirror {
         }
     }
 
-    // Gives one that was moved aside its old name back. If something else has that by now it stays where it is, and a line says so.
-    fn return_aside<R: AllocGlobal + Files>(
+    // Gives those that were moved aside their old names back. If something else has one by now the file stays where it is, and a line says
+    // so.
+    fn return_asides<R: AllocGlobal + Files>(
         &mut self,
         rt: &R,
-        aside: Aside,
+        asides: Vec<Aside>,
         account: &mut Account,
     ) -> Result<(), TransferFault> {
-        let Aside {
-            key,
-            record,
-            beside,
-            ..
-        } = aside;
-        let Some(beside) = beside else {
-            return Ok(());
-        };
-        let path = record.path.clone()?;
-        match renamed(rt, beside.as_str(), path.as_str(), &record.stamp)? {
-            Some(stamp) => self.keep(key, Record { stamp, ..record }),
-            None => {
-                self.stand_ins.is_lost = true;
-                account.refuse(path.as_str())?;
-                self.report_aside(beside, path.as_str(), account)
+        for aside in asides {
+            let Aside {
+                key,
+                record,
+                beside,
+                ..
+            } = aside;
+            let Some(beside) = beside else {
+                continue;
+            };
+            let path = record.path.clone()?;
+            match renamed(rt, beside.as_str(), path.as_str(), &record.stamp)? {
+                Some(stamp) => self.keep(key, Record { stamp, ..record })?,
+                None => {
+                    self.stand_ins.is_lost = true;
+                    account.refuse(path.as_str())?;
+                    self.report_aside(beside, path.as_str(), account)?;
+                }
             }
         }
+        Ok(())
     }
 }

@@ -4,6 +4,7 @@ use crate::account::{Account, Aside};
 use crate::mirror::Mirror;
 use crate::modes::restrict;
 use crate::renaming::{blocked_text, renamed};
+use crate::update::Update;
 use ados_ram::{Entry, Place, Ram};
 use ados_transfer::{
     Last, Record, Stamp, TransferFault, folder_of, is_descendant, lower, own_entry,
@@ -77,14 +78,14 @@ impl Mirror {
     // is not free. Gives whether anything was renamed. While one has not the name that it is to have, no program starts.
     pub(crate) fn finish_moves<R: AllocGlobal + Files>(
         &mut self,
-        rt: &R,
-        files: &Ram,
+        update: &Update<'_, R>,
         asides: Vec<Aside>,
         account: &mut Account,
     ) -> Result<bool, TransferFault> {
         if self.options.dry {
             return Ok(false);
         }
+        let (rt, files) = (update.rt, update.files);
         let first = self.rename_all(rt, files)?;
         let is_aside = self.rename_asides(rt, files, asides, account)?;
         let last = self.rename_all(rt, files)?;

@@ -2,7 +2,8 @@
 ghost use Rattle.std.specs.{Prelude.{◌≡◌, true, IfSome}, Option.{option_copied}, BTreeMap.{get_by_text}};
 ghost use Rattle.ados_share.specs.{Contents.{if_file_of, is_file_of}, Records.{file_of_record}};
 
-use crate::departure::{Departure, Departures};
+use crate::departure::Departure;
+use crate::departures::Departures;
 use crate::elsewhere::Elsewhere;
 use crate::failures::with_more;
 use crate::mirror::Mirror;
@@ -102,7 +103,7 @@ impl Mirror {
                 };
             }
         }
-        self.find_parts(files, &mut holders, departures)
+        self.find_parts(&mut holders, departures)
     }
 
     // The path of a file of the Shell, for lines.

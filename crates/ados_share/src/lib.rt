@@ -45,6 +45,7 @@ mod spoils;
 mod start_place;
 mod syncs;
 mod temporaries;
+mod update;
 mod watches;
 mod writes;
 

@@ -119,7 +119,7 @@ impl Mirror {
         ensures gave_way { list_any gave_way (followed self.now.backups.deleted.items (get_by_text self.now.records key.now) (get_by_text self.now.moves.by_key key.now)) ≡ true → IfOk result (λ elsewhere. is_some elsewhere ≡ true) }
     {
         for destination in self.followed(key)? {
-            let elsewhere = self.destined_elsewhere(files, Some(destination))?;
+            let elsewhere = self.destined_elsewhere(files, destination)?;
             if elsewhere.is_some() {
                 return Ok(elsewhere);
             }

@@ -189,17 +189,17 @@ impl Mirror {
     pub(crate) fn destined_elsewhere(
         &self,
         files: &Ram,
-        destination: Option<&Destination>,
+        destination: &Destination,
     ) -> Result<Option<Elsewhere>, TransferFault>
-        ensures there { IfOk result (λ elsewhere. is_some elsewhere ≡ true → may_be_elsewhere files.now (option_copied destination.entry) ≡ true) }
-        ensures replaced { option_copied destination.entry ≡ Some Destination.Replaced → IfOk result (λ elsewhere. elsewhere ≡ Some Elsewhere.Replaced) }
+        ensures there { IfOk result (λ elsewhere. is_some elsewhere ≡ true → may_be_elsewhere files.now (Some destination.now) ≡ true) }
+        ensures replaced { destination.now ≡ Destination.Replaced → IfOk result (λ elsewhere. elsewhere ≡ Some Elsewhere.Replaced) }
     {
         match destination {
-            Some(Destination::At(place)) if self.is_out(files, place) => {
+            Destination::At(place) if self.is_out(files, place) => {
                 Ok(Some(Elsewhere::Moved(self.copy_path(files, place)?)))
             }
-            Some(Destination::Replaced) => Ok(Some(Elsewhere::Replaced)),
-            _ => Ok(None),
+            Destination::At(_) => Ok(None),
+            Destination::Replaced => Ok(Some(Elsewhere::Replaced)),
         }
     }
 
@@ -216,7 +216,8 @@ impl Mirror {
             Some(Destination::At(place)) if self.is_unwritten(files, place)? => {
                 Ok(Some(Elsewhere::Moved(self.copy_path(files, place)?)))
             }
-            _ => self.destined_elsewhere(files, destination),
+            Some(destination) => self.destined_elsewhere(files, destination),
+            None => Ok(None),
         }
     }
 

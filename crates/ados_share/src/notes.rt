@@ -8,7 +8,7 @@ use crate::elsewhere::Elsewhere;
 use crate::holders::Holders;
 use crate::mirror::Mirror;
 use crate::moves::Destination;
-use ados_ram::{FileBytes, Ram};
+use ados_ram::FileBytes;
 use ados_text::NoMemory;
 use ados_transfer::TransferFault;
 use std::mem;
@@ -118,11 +118,10 @@ impl Mirror {
     // What is a backup no longer, since the folder has its bytes in another file, is noted if they would be in memory alone without that.
     pub(crate) fn note_former(
         &mut self,
-        files: &Ram,
         holders: &Holders<'_>,
         backup: Backup,
     ) -> Result<(), TransferFault> {
-        if self.is_in_memory(files, holders, &backup)? {
+        if self.is_in_memory(holders, &backup)? {
             self.backups.note(backup)?;
         }
         Ok(())
@@ -132,13 +131,12 @@ impl Mirror {
     // not written.
     pub(crate) fn is_in_memory(
         &self,
-        files: &Ram,
         holders: &Holders<'_>,
         backup: &Backup,
     ) -> Result<bool, TransferFault>
         ensures gave_way { backup.now.moved ≡ Some Destination.Replaced → IfOk result (λ is. is ≡ true) }
     {
-        let moved = self.unwritten_elsewhere(files, backup.moved.as_ref())?;
+        let moved = self.unwritten_elsewhere(holders.files(), backup.moved.as_ref())?;
         Ok(
             moved.is_some()
                 || holders.has_outside(&backup.bytes)
@@ -149,19 +147,21 @@ impl Mirror {
     // Where the Shell has the file of a backup, or one that was moved, which had the same bytes and has no backup of its own.
     pub(crate) fn needed_for(
         &self,
-        files: &Ram,
         holders: &Holders<'_>,
         backup: &Backup,
     ) -> Result<Option<Elsewhere>, TransferFault>
         ensures gave_way { backup.now.moved ≡ Some Destination.Replaced → IfOk result (λ elsewhere. is_some elsewhere ≡ true) }
     {
-        let own = self.elsewhere(files, holders, backup)?;
-        if own.is_some() || self.has_needed(files, holders, &backup.bytes)? {
+        let own = self.elsewhere(holders, backup)?;
+        if own.is_some() || self.has_needed(holders, &backup.bytes)? {
             return Ok(own);
         }
         for other in &self.backups.deleted {
             if other.bytes == backup.bytes
-                && let Some(elsewhere) = self.unwritten_elsewhere(files, other.moved.as_ref())?
+                && let Some(elsewhere) = self.unwritten_elsewhere(
+                    holders.files(),
+                    other.moved.as_ref(),
+                )?
             {
                 return Ok(Some(elsewhere));
             }
@@ -172,12 +172,11 @@ impl Mirror {
     // There is a backup of these bytes that is needed for its own file.
     pub(crate) fn has_needed(
         &self,
-        files: &Ram,
         holders: &Holders<'_>,
         bytes: &FileBytes,
     ) -> Result<bool, TransferFault> {
         for backup in self.backups.by_path.values() {
-            if backup.bytes == *bytes && self.elsewhere(files, holders, backup)?.is_some() {
+            if backup.bytes == *bytes && self.elsewhere(holders, backup)?.is_some() {
                 return Ok(true);
             }
         }

@@ -4,12 +4,12 @@
 use crate::around::Around;
 use crate::beginning::Beginning;
 use crate::contents::digest;
-use crate::departure::Departures;
+use crate::departures::Departures;
 use crate::elsewhere::Elsewhere;
 use crate::holders::{Holder, Holders};
 use crate::mirror::Mirror;
 use crate::sought::{Content, Sought};
-use ados_ram::{Entry, FileBytes, Ram};
+use ados_ram::{Entry, FileBytes};
 use ados_transfer::{Last, TransferFault};
 
 impl Mirror {
@@ -17,7 +17,6 @@ impl Mirror {
     // the Shell does not have them as a whole, and if they do so in one that is in it.
     pub(crate) fn find_parts(
         &mut self,
-        files: &Ram,
         holders: &mut Holders<'_>,
         departures: &mut Departures<'_>,
     ) -> Result<(), TransferFault> {
@@ -32,7 +31,7 @@ impl Mirror {
                     departure.inside = Some(around.copy()?);
                 }
                 if departure.elsewhere.is_none() {
-                    departure.elsewhere = self.part_elsewhere(files, holders, bytes)?;
+                    departure.elsewhere = self.part_elsewhere(holders, bytes)?;
                 }
             }
         }
@@ -69,9 +68,9 @@ impl Mirror {
     // The same of the backups, and of what was deleted or written over.
     pub(crate) fn contents_of_backups(
         &self,
-        files: &Ram,
         holders: &Holders<'_>,
     ) -> Result<Vec<Content>, TransferFault> {
+        let files = holders.files();
         let mut contents = Vec::new(self.alloc);
         let backups = self.backups.by_path.values();
         for backup in backups.chain(self.backups.deleted.iter()) {
@@ -92,12 +91,11 @@ impl Mirror {
     // Where the Shell has these bytes among others, of those that were looked for.
     pub(crate) fn part_elsewhere(
         &self,
-        files: &Ram,
         holders: &Holders<'_>,
         bytes: &FileBytes,
     ) -> Result<Option<Elsewhere>, TransferFault> {
         match holders.place_of_part(bytes) {
-            Some(place) => Ok(Some(Elsewhere::Part(self.copy_path(files, place)?))),
+            Some(place) => Ok(Some(Elsewhere::Part(self.copy_path(holders.files(), place)?))),
             None => Ok(None),
         }
     }

@@ -3,7 +3,8 @@ ghost use Rattle.std.specs.{Prelude.{◌≡◌, IfOk, IfSome, Some, bit_and}, BT
 
 use crate::account::Account;
 use crate::backups::Backup;
-use crate::departure::{Departure, Departures};
+use crate::departure::Departure;
+use crate::departures::Departures;
 use crate::mirror::Mirror;
 use crate::moves::Destination;
 use ados_ram::{Entry, FileBytes, Ram};

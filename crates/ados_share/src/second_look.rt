@@ -1,8 +1,10 @@
 //! A second look at what was moved aside, before it goes: what another program wrote to it meanwhile is nowhere else.
 
 use crate::account::{Account, Aside};
-use crate::departure::{Departure, Departures, remove};
+use crate::departure::remove;
 use crate::mirror::Mirror;
+use crate::update::Update;
+use ados_ram::Entry;
 use ados_transfer::{Below, Decision, Here, Last, Stamp, TransferFault, still_holds};
 use std::rt::Files;
 use std::{fs, io};
@@ -12,13 +14,12 @@ impl Mirror {
     // moved aside gets its place back.
     pub(crate) fn heed_changes_aside<R: AllocGlobal + Files>(
         &mut self,
-        rt: &Below<'_, R>,
-        departures: &Departures<'_>,
+        update: &Update<'_, R>,
         account: &mut Account,
     ) -> Result<(), TransferFault> {
         let mut changed = Vec::new(self.alloc);
         for aside in &account.aside {
-            let looked = has_changed(rt, aside);
+            let looked = has_changed(update.rt, aside);
             if !account.has_unwritten() && !matches!(looked, Ok(false)) {
                 changed.push((aside.key.clone()?, aside.record.path.clone()?, looked))?;
             }
@@ -26,9 +27,12 @@ impl Mirror {
         if changed.is_empty() {
             return Ok(());
         }
-        for (key, departure) in departures.by_key.iter().rev() {
-            if departure.is_within_kind_change {
-                self.take_back(rt, key.as_str(), departure, account)?;
+        for (key, departure) in update.departures.by_key.iter().rev() {
+            if departure.is_within_kind_change
+                && let Some(entry) = departure.entry
+            {
+                let object = (key.as_str(), departure.path.as_str());
+                self.take_back(update.rt, object, entry, account)?;
             }
         }
         for (key, path, looked) in changed {
@@ -72,14 +76,11 @@ impl Mirror {
     fn take_back<R: AllocGlobal + Files>(
         &mut self,
         rt: &Below<'_, R>,
-        key: &str,
-        departure: &Departure<'_>,
+        object: (&str, &str),
+        entry: &Entry,
         account: &mut Account,
     ) -> Result<(), TransferFault> {
-        let Some(entry) = departure.entry else {
-            return Ok(());
-        };
-        let path = departure.path.as_str();
+        let (key, path) = object;
         let here = Here::look(rt, self.options.limits, path)?;
         if here.decision(None, Some(entry)) == Decision::Keep {
             // What cannot be deleted keeps the place, and a line says where the other object is.

@@ -5,6 +5,7 @@ ghost use Rattle.ados_share.specs.Account.{contents_of, failed_files, files_of};
 ghost use Rattle.ados_transfer.specs.Paths.{IsBelow};
 
 use crate::account::Account;
+use crate::backups::Backup;
 use crate::mirror::Mirror;
 use ados_ram::FileBytes;
 use ados_text::NoMemory;
@@ -231,21 +232,23 @@ fn failed_files(alloc: Global, attempts: Vec<Attempt>) -> Result<Vec<NamedFile>,
     Ok(failed)
 }
 
-// Writes a temporary file in a folder, with these permissions, brings it to the disk, and gives its path.
-pub(crate) fn write_synced<R: AllocGlobal + Files>(
-    rt: &R,
-    folder: &str,
-    bytes: &FileBytes,
-    manner: Manner,
-) -> io::Result<String>
-    ensures { IfOk result (λ path. IsBelow folder.now (string_bytes path)) }
-{
-    let beside = write_beside(rt, folder, bytes, manner)?;
-    match sync(rt, beside.as_str()) {
-        Ok(()) => Ok(beside),
-        Err(error) => {
-            let _ = fs::remove_file(rt, beside.as_str());
-            Err(error)
+impl Backup {
+    // Writes it to a temporary file in a folder, with these permissions, brings that to the disk, and gives its path.
+    pub(crate) fn write_synced<R: AllocGlobal + Files>(
+        &self,
+        rt: &R,
+        folder: &str,
+        manner: Manner,
+    ) -> io::Result<String>
+        ensures { IfOk result (λ path. IsBelow folder.now (string_bytes path)) }
+    {
+        let beside = write_beside(rt, folder, &self.bytes, manner)?;
+        match sync(rt, beside.as_str()) {
+            Ok(()) => Ok(beside),
+            Err(error) => {
+                let _ = fs::remove_file(rt, beside.as_str());
+                Err(error)
+            }
         }
     }
 }

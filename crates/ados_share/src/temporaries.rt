@@ -4,7 +4,6 @@ use crate::account::Account;
 use crate::backups::Backup;
 use crate::failures::with_more;
 use crate::mirror::Mirror;
-use crate::syncs::write_synced;
 use ados_transfer::{Below, Look, Obstacle, TransferFault, no_memory, path_of};
 use std::rt::Files;
 use std::{fs, io, mem};
@@ -23,7 +22,7 @@ impl Mirror {
         let root = self.volumes.root_of(backup.original.as_str());
         let in_root = path_of(self.alloc, root, TEMPORARY)?;
         match self.manner_at(rt, backup, in_root.as_str()) {
-            Ok(manner) => write_synced(rt, root, &backup.bytes, manner),
+            Ok(manner) => backup.write_synced(rt, root, manner),
             Err(_) => Err(no_memory()),
         }
     }

@@ -6,7 +6,7 @@ ghost use Rattle.ados_share.specs.Account.{contents_of, is_moved_away};
 use crate::account::Account;
 use crate::around::Around;
 use crate::backups::needs_backup;
-use crate::departure::{Departure, Departures, write_entry};
+use crate::departure::{Departure, write_entry};
 use crate::mirror::Mirror;
 use crate::syncs::NamedFile;
 use ados_ram::{Entry, Ram};
@@ -58,7 +58,7 @@ impl Mirror {
                 let is_last = self.is_lost_below(rt, files, key, departure)?;
                 let draft = Draft::new(entry, &here, manner, is_last);
                 self.note_written_over(key, departure, &draft)?;
-                self.write(rt, (key, path), &draft, departure.inside.as_ref(), account)
+                self.write(rt, key, departure, &draft, account)
             }
         }
     }
@@ -67,25 +67,25 @@ impl Mirror {
     fn write<R: AllocGlobal + Files + Clock>(
         &mut self,
         rt: &R,
-        object: (&str, &str),
+        key: &str,
+        departure: &Departure<'_>,
         draft: &Draft<'_>,
-        around: Option<&Around>,
         account: &mut Account,
     ) -> Result<(), TransferFault> {
-        let (key, path) = object;
+        let path = departure.path.as_str();
         if is_moved_away(draft, account)? {
             account.add_unwritten_entry(path, draft.entry)?;
             account.refuse(path)?;
             return self.hold(key, path, account);
         }
-        match self.replace(rt, object, draft, around, account) {
+        match self.replace(rt, (key, path), draft, departure.inside.as_ref(), account) {
             Ok(Some(stamp)) => {
                 if let Some(bytes) = draft.entry.bytes() {
                     let path = String::from_str(self.alloc, path)?;
                     let bytes = bytes.clone()?;
                     account.add_fresh(NamedFile { path, bytes })?;
                 }
-                self.keep_written(rt, object, draft.entry, stamp)
+                self.keep_written(rt, (key, path), draft.entry, stamp)
             }
             Ok(None) => {
                 account.add_unwritten_entry(path, draft.entry)?;

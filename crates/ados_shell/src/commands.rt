@@ -2,14 +2,14 @@
 ghost use Rattle.std.specs.{Prelude.{◌≡◌, ◌++◌, IfErr, IfOk, Ok, OnOk}, List.{flat_map}, Option.{option_copied}};
 ghost use Rattle.ados_readargs.specs.{Faults.{IsFaultOf}, Fill.{fill_of}};
 ghost use Rattle.ados_assign.specs.Uses.{reached_devices};
-ghost use Rattle.ados_machine.specs.{Uses.{argument_devices, devices_of}, Commands.{action_of, row_of, template_of}};
+ghost use Rattle.ados_machine.specs.{Uses.{devices_of}, Commands.{action_of, template_of}};
 ghost use Rattle.ados_flow.specs.{Actions.{action_effect}, Frames.{script_line_of}};
 
 use ados_find::{Codes, Shared, ShellView};
 use ados_flow::{Action, Frame};
 use ados_machine::{Builtin, parsed_template, template};
 use ados_readargs::{ArgFault, Args, Template};
-use ados_resident::Dialect;
+use ados_resident::{Dialect, EnvCommand, FilesCommand, FlowCommand};
 use ados_text::{Name, NoMemory, Text};
 use std::alloc::Global;
 use std::cell::OnceCell;
@@ -19,7 +19,7 @@ use std::marker::Model;
 #[derive(Drop)]
 pub struct Commands {
     dialect: Dialect,
-    // Each list is in the order of the crate's `COMMANDS`.
+    // Each list is in the order of the enum that names its commands.
     env: Vec<Kept>,
     files: Vec<Kept>,
     flow: Vec<Kept>,
@@ -74,9 +74,9 @@ impl Commands {
     {
         Ok(Commands {
             dialect,
-            env: none_kept(alloc, ados_env::COMMANDS.len())?,
-            files: none_kept(alloc, ados_files::COMMANDS.len())?,
-            flow: none_kept(alloc, ados_flow::COMMANDS.len())?,
+            env: none_kept(alloc, EnvCommand::COUNT)?,
+            files: none_kept(alloc, FilesCommand::COUNT)?,
+            flow: none_kept(alloc, FlowCommand::COUNT)?,
         })
     }
 
@@ -137,12 +137,22 @@ impl Commands {
         ensures action { IfOk result (λ action. action_effect shared.now action ≡ action_of builtin shared.now (script_line_of (option_copied frame.entry)) view.now text.now) }
         ensures used { OnOk result (used.new.items ≡ used.old.items ++ flat_map (reached_devices shared.now.assigns) (devices_of builtin shared.now view.now.parts text.now)) }
     {
-        match self.fill(alloc, shared.dialect, builtin, text.as_bytes(), args) {
-            Ok(()) => {
-                push_devices(alloc, builtin, shared, view, args, used)?;
-                row(alloc, builtin, shared, frame, view, args)
+        if let Err(fault) = self.fill(alloc, shared.dialect, builtin, text.as_bytes(), args) {
+            return Ok(Action::answering(alloc, Codes::failed(fault.result2()?)));
+        }
+        match builtin {
+            Builtin::Env(command) => {
+                ados_env::push_devices(alloc, command, shared, view, args, used)?;
+                Ok(Action::Does(ados_env::run(alloc, command, shared, view, args)?))
             }
-            Err(fault) => Ok(Action::answering(alloc, Codes::failed(fault.result2()?))),
+            Builtin::Files(command) => {
+                ados_files::push_devices(alloc, command, shared, args, used)?;
+                Ok(Action::Does(ados_files::run(alloc, command, shared, view, args)?))
+            }
+            Builtin::Flow(command) => {
+                ados_flow::push_devices(alloc, command, shared, view, args, used)?;
+                ados_flow::run(alloc, command, shared, frame, view, args)
+            }
         }
     }
 }
@@ -154,43 +164,4 @@ fn none_kept(alloc: Global, count: usize) -> Result<Vec<Kept>, NoMemory> {
         kept.push(OnceCell::new())?;
     }
     Ok(kept)
-}
-
-fn row(
-    alloc: Global,
-    builtin: Builtin,
-    shared: &Shared,
-    frame: Option<&Frame>,
-    view: &ShellView,
-    args: &Args,
-) -> Result<Action, NoMemory>
-    ensures { IfOk result (λ action. action_effect shared.now action ≡ row_of builtin shared.now (script_line_of (option_copied frame.entry)) view.now args.now) }
-{
-    match builtin {
-        Builtin::Env(command) => Ok(Action::Does(ados_env::run(
-            alloc, command, shared, view, args,
-        )?)),
-        Builtin::Files(command) => Ok(Action::Does(ados_files::run(
-            alloc, command, shared, view, args,
-        )?)),
-        Builtin::Flow(command) => ados_flow::run(alloc, command, shared, frame, view, args),
-    }
-}
-
-/// Pushes the devices that the arguments of a command use, with those to which they lead.
-fn push_devices(
-    alloc: Global,
-    builtin: Builtin,
-    shared: &Shared,
-    view: &ShellView,
-    args: &Args,
-    used: &mut Vec<Name>,
-) -> Result<(), NoMemory>
-    ensures { OnOk result (used.new.items ≡ used.old.items ++ flat_map (reached_devices shared.now.assigns) (argument_devices builtin shared.now view.now.parts args.now)) }
-{
-    match builtin {
-        Builtin::Env(command) => ados_env::push_devices(alloc, command, shared, view, args, used),
-        Builtin::Files(command) => ados_files::push_devices(alloc, command, shared, args, used),
-        Builtin::Flow(command) => ados_flow::push_devices(alloc, command, shared, view, args, used),
-    }
 }

@@ -1,7 +1,7 @@
 // The directives of a script, and its comments.
 ghost use Rattle.std.specs.Prelude.{◌≡◌, IfOk};
 ghost use Rattle.ados_text.specs.Text.{IsText};
-ghost use Rattle.ados_subst.specs.{Faults.{Gives}, Directives.{default_of, default_result, directive_result, directive_named, is_remark, key_result, mark_named, mark_result, slots_of_template}};
+ghost use Rattle.ados_subst.specs.{Faults.{Gives}, Directives.{default_of, default_result, directive_result, directive_named, is_remark, mark_named, mark_result, slots_of_template}};
 
 use crate::above::Above;
 use crate::faults::SubstFault;
@@ -44,7 +44,11 @@ pub fn directed(
     let rest = rest_of(body);
     match directive_named(first_word(body)) {
         None => Err(SubstFault::BadDirective(number)),
-        Some(Directive::Key) => keyed(alloc, above, args, number, rest),
+        Some(Directive::Key) if above.slots.is_some() => Err(SubstFault::BadDirective(number)),
+        Some(Directive::Key) => Ok(Above {
+            marks: above.marks,
+            slots: Some(slots_for(alloc, rest, args)?),
+        }),
         Some(Directive::Default) => defaulted(alloc, above, number, rest),
         Some(Directive::Sets(mark)) => marked(above, number, mark, rest),
     }
@@ -88,31 +92,12 @@ fn mark_named(word: &[u8]) -> Option<Mark>
     }
 }
 
-// `.KEY`: the template, which is filled at once.
-fn keyed(
-    alloc: Global,
-    above: Above,
-    args: &[u8],
-    number: usize,
-    text: &[u8],
-) -> Result<Above, SubstFault>
+// The options of a template's text, filled with the arguments at once.
+fn slots_for(alloc: Global, text: &[u8], args: &[u8]) -> Result<Slots, SubstFault>
     requires { IsText text.now }
-    ensures { Gives result (key_result above args.now number text.now) }
-{
-    if above.slots.is_some() {
-        return Err(SubstFault::BadDirective(number));
-    }
-    Ok(Above {
-        marks: above.marks,
-        slots: Some(slots_for(alloc, &Text::of_ascii(alloc, text)?, args)?),
-    })
-}
-
-// The options of a template's text, filled with the arguments.
-fn slots_for(alloc: Global, text: &Text, args: &[u8]) -> Result<Slots, SubstFault>
     ensures { Gives result (slots_of_template text.now args.now) }
 {
-    let template = Template::parse(alloc, text)?;
+    let template = Template::parse(alloc, &Text::of_ascii(alloc, text)?)?;
     let args = template.fill(alloc, args)?;
     Ok(Slots::filled(alloc, &template, &args)?)
 }

@@ -74,7 +74,8 @@ IsRefusalOf k BadLine = (IsRequest k → ⊥) × (k ≢ kind.OutOfMemory)
 IsRefusalOf k (Help text) = IsRequest k
 IsRefusalOf k NoMemory = Unit {0}
 
--- why the words are refused, by the faults that `clap` finds in them
+-- why the words are refused: `clap` finds a fault in them, or none and they ask for nothing (as `--turns 0`); they ask for help or the
+-- version, whose text is not said here; or memory ran out
 abbrev pub IsRefusal : List Text → Refused → Type 0
 IsRefusal words BadLine = HasMistake (fault_of amishell words) ⊎ ((fault_of amishell words ≡ []) × AsksNothing (subcommand_of amishell words))
 IsRefusal words (Help text) = HasRequest (fault_of amishell words)

@@ -87,7 +87,7 @@ fn reason(
         return Ok(Some(format!(in alloc; "{name} is given twice")?));
     }
     let mut alone = Vec::new(alloc);
-    alone.push(host.copy()?)?;
+    alone.push(host.clone()?)?;
     match hosts_fault(dialect, alone.as_slice()) {
         None => Ok(None),
         Some(NewFault::Double(_)) => Ok(Some(format!(in alloc;

@@ -1,7 +1,8 @@
-use Rattle.std.proofs.Common.{[], ◌≡◌, ◌∙◌, ◌+◌, ◌-◌, ◌^◌, ◌<◌, ◌||◌, ap, arith, drop, length, min, rules, subst, sym}
+use Rattle.std.proofs.Common.{[], ◌≡◌, ◌∙◌, ◌+◌, ◌-◌, ◌^◌, ◌<◌, ◌||◌, ap, arith, drop, length, min, refl, rules, subst, sym}
 use Rattle.ados_text.specs.Lines.{lines_of}
-use Rattle.ados_check.specs.LeftOut.{IsStruck, is_idle_in_line, is_idle_in_lines}
-use Rattle.ados_check.proofs.StrikeLemmas.{blanked_again, drop_at, drop_past, leaves_less, leaves_none, line_left}
+use Rattle.ados_check.specs.LeftOut.{IsStruck, is_idle_in_line, is_idle_in_lines, struck}
+use Rattle.ados_check.proofs.ChangeLemmas.{leaves_less, leaves_none}
+use Rattle.ados_check.proofs.StrikeLemmas.{blanked_again, drop_at, drop_past, line_left, struck_again}
 use Rattle.ados_check.proofs.left_out.strike.Goals as goal
 
 pub loop-line-preserved : goal.loop-line-preserved
@@ -15,7 +16,7 @@ loop-line-preserved c =
     let end : c.saturating_add.result ≡ min (from + length c.line-item.result) (2 ^ 64 - 1) =
     c.saturating_add.ensures ∙ ap (λ bytes. min (from + length bytes) (2 ^ 64 - 1)) c.as_bytes-in-loop-line.ensures.value in (
       blanked_again _ _ _ c.loop-line.invariant.0 c.in_ok-strike_line.ensures.blanked,
-      leaves_less (is_idle_in_line reader.commands.now reader.dialect reader.aliases.now from c.as_bytes.result.now)
+      leaves_less struck struck_again (is_idle_in_line reader.commands.now reader.dialect reader.aliases.now from c.as_bytes.result.now)
           (is_idle_in_lines reader.commands.now reader.dialect c.saturating_add-from.result (drop (i + 1) lines))
           (is_idle_in_lines reader.commands.now reader.dialect from (drop i lines))
           (is_idle_in_lines reader.commands.now reader.dialect 0 lines) c.args.script.now c.loop-line.script c.strike_line.new.script
@@ -44,7 +45,7 @@ returns-clause-struck c =
       c.new-reader.ensures.commands,
       subst (λ d. IsStruck (is_idle_in_lines reader.commands.now d 0 (lines_of old)) old new) c.new-reader.ensures.dialect
           (subst (λ ls. IsStruck (is_idle_in_lines reader.commands.now reader.dialect 0 ls) old new) are
-          (leaves_none (is_idle_in_lines reader.commands.now reader.dialect c.loop-line.from (drop c.loop-line.line-index lines))
+          (leaves_none struck (λ c. refl) (is_idle_in_lines reader.commands.now reader.dialect c.loop-line.from (drop c.loop-line.line-index lines))
           (is_idle_in_lines reader.commands.now reader.dialect 0 lines) old new
           (λ k within. ap (λ ls. is_idle_in_lines reader.commands.now reader.dialect c.loop-line.from ls k) past) c.loop-line.invariant.1)),
     )

@@ -1,6 +1,7 @@
 use Rattle.std.proofs.Common.{◌∙◌, ◌+◌, ◌-◌, ◌^◌, ◌<◌, ◌||◌, ap, arith, drop, map, sym}
-use Rattle.ados_check.specs.LeftOut.{is_in_idle, shown}
-use Rattle.ados_check.proofs.StrikeLemmas.{drop_at, is_in_parts, leaves_less, part_left}
+use Rattle.ados_check.specs.LeftOut.{is_in_idle, shown, struck}
+use Rattle.ados_check.proofs.ChangeLemmas.{leaves_less}
+use Rattle.ados_check.proofs.StrikeLemmas.{drop_at, is_in_parts, part_left, struck_again}
 use Rattle.ados_check.proofs.left_out.strike_line.Goals as goal
 
 pub loop-one-preserved : goal.loop-one-preserved
@@ -9,7 +10,7 @@ loop-one-preserved c =
     let i = c.loop-one.one-index in
     let from = c.args.from in
     let at = c.saturating_add.result in
-    leaves_less (is_in_idle at c.deref.result.now) (is_in_parts from (map shown (drop (i + 1) items))) (is_in_parts from (map shown (drop i items)))
+    leaves_less struck struck_again (is_in_idle at c.deref.result.now) (is_in_parts from (map shown (drop (i + 1) items))) (is_in_parts from (map shown (drop i items)))
     (is_in_parts from (map shown items)) c.args.script.now c.loop-one.script c.strike_options.new.script
     (λ k within.
     let fits = c.well_formed in

@@ -3,9 +3,10 @@ use Rattle.std.specs.List.{slice_split}
 use Rattle.std.proofs.lemmas.List.{length-map}
 use Rattle.ados_text.specs.Lines.{is_newline}
 use Rattle.ados_check.specs.LeftOut.{is_between}
-use Rattle.ados_check.specs.Marks.{is_in_printed, prints_sign}
+use Rattle.ados_check.specs.Marks.{is_in_printed, marked_if, prints_sign}
 use Rattle.ados_check.specs.Signs.{is_dotted, sign_of}
-use Rattle.ados_check.proofs.MarkLemmas.{LeavesMarked, line_parted, marks_less, marks_same, with_test}
+use Rattle.ados_check.proofs.ChangeLemmas.{Leaves, leaves_less, leaves_same}
+use Rattle.ados_check.proofs.MarkLemmas.{line_parted, marked_again, with_test}
 use Rattle.ados_check.proofs.marks.mark_lines.Goals as goal
 use Rattle.ados_check.proofs.marks.mark_lines.Goals.{in_default, in-Some+in_ok-push_problem}
 
@@ -34,9 +35,9 @@ loop-place-preserved c =
     ∙ with_test (is_between from to k) (prints_sign place line (sign_of dotted line)) (less k) b test in
     elim c.match-printed_problem.branch [
       | in_default w ↦
-          subst (LeavesMarked less whole c.args.script.now) (sym w.script-is)
-          (marks_same less rest whole c.args.script.now c.loop-place.script (parted false (sym prints ∙ ap is_some w.in_default.is)) c.loop-place.invariant)
+          subst (Leaves marked_if less whole c.args.script.now) (sym w.script-is)
+          (leaves_same marked_if less rest whole c.args.script.now c.loop-place.script (parted false (sym prints ∙ ap is_some w.in_default.is)) c.loop-place.invariant)
       | in-Some+in_ok-push_problem w ↦
-          subst (LeavesMarked less whole c.args.script.now) (sym w.script-is)
-          (marks_less (is_between from to) less rest whole c.args.script.now c.loop-place.script w.mark_between.new.script (parted true (sym prints ∙ ap is_some w.in-Some.is)) c.loop-place.invariant w.mark_between.ensures)
+          subst (Leaves marked_if less whole c.args.script.now) (sym w.script-is)
+          (leaves_less marked_if marked_again (is_between from to) less rest whole c.args.script.now c.loop-place.script w.mark_between.new.script (parted true (sym prints ∙ ap is_some w.in-Some.is)) c.loop-place.invariant w.mark_between.ensures)
     ]

@@ -1,25 +1,18 @@
-use Rattle.ados_script.specs.Heads.{label_of}
-use Rattle.ados_script.specs.Phrases.{phrase_of}
-use Rattle.ados_script.proofs.SkipLemmas.{label-is, phrase-is, text_rises}
+use Rattle.std.proofs.Common.{◌≡◌, ◌∙◌}
+use Rattle.std.specs.List.{find}
+use Rattle.ados_script.specs.Lines.{numbers_below}
+use Rattle.ados_script.specs.Tables.{is_lab_at}
+use Rattle.ados_script.proofs.SkipLemmas.{any-is, first-is, numbers_rise}
 use Rattle.ados_script.proofs.scripts.Script.first_lab.Goals as goal
 
-pub first_of-labelled-requires-clause-rising : goal.first_of-labelled-requires-clause-rising
-first_of-labelled-requires-clause-rising c =
-    rw c.deref.ensures.value (text_rises label_of c.args.label.now c.self.inside.lines.items c.self.inside.tables.labels.items c.self.invariant.labels)
-
-pub first_of-requires-clause-rising : goal.first_of-requires-clause-rising
-first_of-requires-clause-rising c =
-    rw c.deref-in-Full.ensures.value (text_rises phrase_of c.args.label.now c.self.inside.lines.items c.self.inside.tables.phrases.items c.self.invariant.phrases)
-
-pub returns-in-Core : goal.returns-in-Core
-returns-in-Core c =
-    rw (c.in-Core.is, ← c.self.view_is, c.first_of-labelled.ensures, c.deref.ensures.value)
-    (label-is label_of c.args.label.now c.self.inside.lines.items c.self.inside.tables.labels.items c.args.i c.self.invariant.labels)
-
-pub returns-in-Full : goal.returns-in-Full
-returns-in-Full c =
+pub first_below-requires : goal.first_below-requires
+first_below-requires c =
     let lines = c.self.inside.lines.items in
-    let labelled = label-is label_of c.args.label.now lines c.self.inside.tables.labels.items c.args.i c.self.invariant.labels in
-    let phrased = label-is phrase_of c.args.label.now lines c.self.inside.tables.phrases.items c.args.i c.self.invariant.phrases in
-    rw (c.in-Full.is, ← c.self.view_is, c.nearer.ensures, c.first_of-labelled.ensures, c.first_of.ensures, c.deref.ensures.value, c.deref-in-Full.ensures.value, labelled, phrased)
-    (phrase-is c.args.label.now lines c.args.i)
+    rw (c.deref.ensures.value, c.self.invariant.labs) (numbers_rise (is_lab_at lines) lines)
+
+pub returns-in-None : goal.returns-in-None
+returns-in-None c =
+    let lines = c.self.inside.lines.items in
+    let first : c.first_below.result ≡ find (is_lab_at lines) (numbers_below lines c.args.i) =
+    rw (c.first_below.ensures, c.deref.ensures.value, c.self.invariant.labs) (first-is (is_lab_at lines) lines c.args.i) in
+    rw (c.in-None.is, ← c.self.view_is) (first ∙ any-is c.args.dialect lines c.args.i)

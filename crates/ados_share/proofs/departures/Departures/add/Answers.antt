@@ -1,7 +1,7 @@
 use Rattle.std.proofs.Common.{◌∙◌, ◌||◌, ap, string_bytes}
 use Rattle.std.specs.Str.{bytes_eq}
 use Rattle.ados_share.specs.Records.{has_key}
-use Rattle.ados_share.proofs.departure.Departures.add.Goals as goal
+use Rattle.ados_share.proofs.departures.Departures.add.Goals as goal
 
 pub returns : goal.returns
 returns c = λ q.

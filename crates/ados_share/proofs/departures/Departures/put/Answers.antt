@@ -1,7 +1,7 @@
 use Rattle.std.proofs.Common.{string_bytes}
 use Rattle.std.proofs.lemmas.Map.Text.{btree_map_updates_text}
 use Rattle.ados_share.proofs.KeyLemmas.{has_key_set}
-use Rattle.ados_share.proofs.departure.Departures.put.Goals as goal
+use Rattle.ados_share.proofs.departures.Departures.put.Goals as goal
 
 pub returns : goal.returns
 returns c = λ q.
