@@ -5,6 +5,7 @@ use Rattle.std.specs.FinMap as map
 use Rattle.ados_ram.specs.Place.{Place, key_of}
 use Rattle.ados_ram.specs.Files.{Files}
 use Rattle.ados_ram.specs.Contents.{children, contents}
+use Rattle.ados_find.specs.Done.{Done, act_on_each}
 
 -- the objects directly in the directory at a place, in order; a file has none
 abbrev pub objects_in : Files → Place → List Place
@@ -29,3 +30,7 @@ objects_down (suc levels) files place = unless_root place ++ flat_map (objects_d
 abbrev pub objects_of : Bool → Files → Place → List Place
 objects_of true files place = objects_down (object_count files) files place
 objects_of false files place = place ∷ []
+
+-- does `act` on each of the objects that a place stands for in the files as they are by then
+abbrev pub on_all : Bool → (Done → Place → Done) → Done → Place → Done
+on_all all act done place = act_on_each act done (objects_of all done.shared.files place)

@@ -19,7 +19,7 @@ use Rattle.ados_find.specs.Done.{Done, fresh_work, refused_or, act_on_each, end_
 use Rattle.ados_files.specs.Letters.{are_letters_of, has_letter}
 use Rattle.ados_files.specs.Texts.{text_or_empty}
 use Rattle.ados_objects.specs.Acts.{at_names}
-use Rattle.ados_files.specs.Below.{objects_of}
+use Rattle.ados_files.specs.Below.{on_all}
 use Rattle.ados_files.specs.declared.options.TheConstants.{PROTECT_FILE, PROTECT_FLAGS, PROTECT_ADD, PROTECT_SUB, PROTECT_ALL}
 use Rattle.ados_files.specs.declared.protect.Way.{Way}
 use Rattle.ados_files.specs.declared.protect.Way.TheVariants.{Set, Add, Take}
@@ -97,14 +97,10 @@ protect_one change done place = (let bits = changed_bits change (object_bits (ma
     refused_or (protect_fault done.shared.files (key_of place)) done
     (record done { shared = with_files done.shared (protect_of done.shared.files (key_of place) bits) }))
 
--- changes the bits of the objects that a place stands for: with ALL (`all`) all below it too
-abbrev pub protect_place : Bool → Change → Done → Place → Done
-protect_place all change done place = act_on_each (protect_one change) done (objects_of all done.shared.files place)
-
--- Protect of the objects that texts name, given the change or its fault
+-- Protect of the objects that texts name, with ALL (`all`) of all below them too, given the change or its fault
 abbrev pub protect_texts : SharedState → View → Bool → Result Change Result2 → List Text → Effect
 protect_texts shared view all (Err fault) texts = codes_effect shared (fail_codes fault)
-protect_texts shared view all (Ok change) texts = end_effect (act_on_each (at_names (protect_place all change) view) (fresh_work shared) texts)
+protect_texts shared view all (Ok change) texts = end_effect (act_on_each (at_names (on_all all (protect_one change)) view) (fresh_work shared) texts)
 
 -- Protect, given its arguments
 abbrev pub protect_row : SharedState → View → List Arg → Effect

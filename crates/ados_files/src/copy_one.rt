@@ -4,7 +4,7 @@ ghost use Rattle.std.specs.FinMap as map;
 ghost use Rattle.ados_ram.specs.{Place.{key_of}, Files.{Files}};
 ghost use Rattle.ados_text.specs.{Stop.{Answers}, declared.codes.Result2.{Result2}};
 ghost use Rattle.ados_find.specs.{Done.{done_of, act_on_each}, Shared.{limits_of, version}};
-ghost use Rattle.ados_files.specs.Copy.{middle_directories, make_missing, copy_fault, files_unless, new_bits, noted_files, cloned_files, copied_files, copied_fault, written_files, copy_written, copy_unless, copy_entry, copy_one};
+ghost use Rattle.ados_files.specs.Copy.{middle_directories, make_missing, copy_fault, files_unless, new_bits, noted_files, cloned_files, copied_files, copied_fault, written_files, copy_unless, copy_entry, copy_one};
 
 use crate::jobs::Job;
 use crate::make_dir::Making;
@@ -84,7 +84,7 @@ fn copy_entry(
     }
 }
 
-// Creates the missing directories and writes a copy, unless the work stopped.
+// Creates the missing directories, writes a copy and reports it, unless the work stopped.
 fn copy_below(
     copying: &Copying,
     shared: &Shared,
@@ -100,7 +100,11 @@ fn copy_below(
     make_between(copying.to, shared, work, job)?;
     match work.stopped {
         Some(_) => Ok(()),
-        None => copy_written(copying, shared, work, &job.source, target, entry),
+        None => {
+            let change = copied(copying, current(shared, &work.shared), target, entry);
+            let quiet = copying.manner.quiet;
+            go_on_saying(shared, work, change, quiet, &job.source, b"..copied\n")
+        }
     }
 }
 
@@ -146,30 +150,6 @@ impl Act<Place> for MakingMissing {
             }
         }
     }
-}
-
-// Writes a copy, and reports it.
-fn copy_written(
-    copying: &Copying,
-    shared: &Shared,
-    work: &mut Work,
-    source: &Place,
-    target: &Place,
-    entry: &Entry,
-) -> Result<(), NoMemory>
-    ensures { OnOk result (done_of shared.now work.new ≡
-        copy_written copying.now.view.now copying.now.manner source.now target.now entry.now (done_of shared.now work.old)) }
-{
-    let now = current(shared, &work.shared);
-    let change = copied(copying, now, target, entry);
-    go_on_saying(
-        shared,
-        work,
-        change,
-        copying.manner.quiet,
-        source,
-        b"..copied\n",
-    )
 }
 
 // The files with a copy of an entry.

@@ -3,7 +3,7 @@ ghost use Rattle.std.specs.{Prelude.{◌≡◌, IfOk}, Option.{option_copied}};
 ghost use Rattle.ados_find.specs.{Effects.{effect_of}, Paths.{Gives}};
 ghost use Rattle.ados_files.specs.Dir.{choice_by, choice_of, dir_by, dir_effect, directories_given, dir_row};
 
-use crate::dir_lines::{Choice, dir_text};
+use crate::dir_lines::Choice;
 use crate::letters::{are_letters_of, has_letter, text_or_empty};
 use crate::options::{DIR_ALL, DIR_DIR, DIR_DIRS, DIR_FILES, DIR_INTER, DIR_OPT};
 use ados_assign::Places;
@@ -90,7 +90,7 @@ fn dir_effect(alloc: Global, shared: &Shared, choice: Choice, bases: &[Place]) -
         Some(fault) => Ok(Outcome::answering(alloc, Codes::erred(fault))),
         None => {
             let places = all_children(alloc, &shared.ram, bases)?;
-            let output = dir_text(alloc, choice, &shared.ram, &places)?;
+            let output = choice.text(alloc, &shared.ram, &places)?;
             Ok(Outcome::putting(output))
         }
     }

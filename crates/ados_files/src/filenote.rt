@@ -1,11 +1,11 @@
 // Filenote: the comment of objects.
 ghost use Rattle.std.specs.Prelude.{◌≡◌, IfOk};
 ghost use Rattle.ados_find.specs.Effects.{effect_of};
-ghost use Rattle.ados_files.specs.Filenote.{comment_given, note_one, note_place, filenote_row};
+ghost use Rattle.ados_files.specs.Filenote.{comment_given, note_one, filenote_row};
 
-use crate::below::objects_of;
+use crate::below::OnAll;
 use crate::options::{FILENOTE_ALL, FILENOTE_COMMENT, FILENOTE_FILE};
-use ados_find::{Act, CommandResult, Shared, ShellView, Work, current, each};
+use ados_find::{Act, CommandResult, Shared, ShellView, Work, current};
 use ados_objects::{done_with_named, go_on};
 use ados_ram::Place;
 use ados_readargs::Args;
@@ -17,9 +17,9 @@ pub fn filenote(alloc: Global, shared: &Shared, view: &ShellView, args: &Args) -
     ensures { IfOk result (λ outcome. effect_of shared.now outcome ≡ filenote_row shared.now view.now args.now) }
 {
     let comment = comment_given(alloc, args)?;
-    let act = Noting {
+    let act = OnAll {
         all: args.has_switch(FILENOTE_ALL),
-        comment: &comment,
+        act: &Noting { comment: &comment },
     };
     let texts = args.made_texts(alloc, FILENOTE_FILE)?;
     done_with_named(alloc, shared, view, &act, texts.as_slice())
@@ -35,33 +35,13 @@ fn comment_given(alloc: Global, args: &Args) -> Result<Text, NoMemory>
     }
 }
 
-/// The setting of the comment of the objects that a place stands for.
+/// The setting of one object's comment.
 #[derive(Drop)]
 pub struct Noting<'a> {
-    pub all: bool,
     pub comment: &'a Text,
 }
 
 impl<'a> Act<Place> for Noting<'a> {
-    ghost act = { λ s. note_place s.all s.comment.now };
-
-    fn act(&self, shared: &Shared, work: &mut Work, place: &Place) -> Result<(), NoMemory> {
-        let alloc = *work.output.allocator();
-        let places = objects_of(alloc, self.all, &current(shared, &work.shared).ram, place)?;
-        let act = NotingOne {
-            comment: self.comment,
-        };
-        each(&act, shared, work, &places)
-    }
-}
-
-/// The setting of one object's comment.
-#[derive(Drop)]
-pub struct NotingOne<'a> {
-    pub comment: &'a Text,
-}
-
-impl<'a> Act<Place> for NotingOne<'a> {
     ghost act = { λ s. note_one s.comment.now };
 
     fn act(&self, shared: &Shared, work: &mut Work, place: &Place) -> Result<(), NoMemory> {

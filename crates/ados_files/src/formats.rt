@@ -1,5 +1,5 @@
 // LFORMAT of List: a text in which parts of an object are put.
-ghost use Rattle.std.specs.{Prelude.{◌≡◌, ◌≤◌, ◌++◌, false, length, decimal, IfOk, OnOk}, List.{flat_map, suffix_len}};
+ghost use Rattle.std.specs.{Prelude.{◌≡◌, ◌≤◌, ◌++◌, false, length, decimal, IfOk, OnOk}, List.{suffix_len}};
 ghost use Rattle.ados_text.specs.Text.{fold_of};
 ghost use Rattle.ados_ram.specs.Entry.{size_of};
 ghost use Rattle.ados_files.specs.Formats.{part_named, parts_behind_sign, parts_from, slot_count, slot_part, without_slots, format_of, is_no_dot, behind_dot, stem_of, extension_of, part_text, format_line};
@@ -72,7 +72,10 @@ impl Format {
         ensures { OnOk result (output.new.items ≡ output.old.items ++ format_line self.now path.now entry.now) }
     {
         let mut line = Vec::new(*output.allocator());
-        push_parts(&mut line, &self.parts, path, entry)?;
+        let parts = self.parts.as_slice();
+        for part in parts {
+            push_part(&mut line, *part, path, entry)?;
+        }
         output.extend_from_slice(at_most(&line, LINE_BYTES))?;
         output.push(b'\n')?;
         Ok(())
@@ -174,20 +177,6 @@ fn slot_part(count: usize, number: usize) -> Part
     } else {
         Part::Name
     }
-}
-
-fn push_parts(
-    output: &mut Vec<u8>,
-    parts: &[Part],
-    path: &Text,
-    entry: &Entry,
-) -> Result<(), NoMemory>
-    ensures { OnOk result (output.new.items ≡ output.old.items ++ flat_map (part_text path.now entry.now) parts.now) }
-{
-    for part in parts {
-        push_part(output, *part, path, entry)?;
-    }
-    Ok(())
 }
 
 fn push_part(output: &mut Vec<u8>, part: Part, path: &Text, entry: &Entry) -> Result<(), NoMemory>

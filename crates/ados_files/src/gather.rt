@@ -1,9 +1,9 @@
 // Rename of several objects: each goes into a directory under its own name.
-ghost use Rattle.std.specs.{Prelude.{◌≡◌, ◌++◌, IfOk, OnOk}, Option.{option_copied}};
+ghost use Rattle.std.specs.Prelude.{◌≡◌, IfOk, OnOk};
 ghost use Rattle.ados_find.specs.{Effects.{effect_of}, Shared.{SharedState}};
 
 use ados_find::{Codes, CommandResult, Outcome, Renamed, Shared, ShellView, Work, current};
-use ados_ram::{Busy, Entry, Place, Ram};
+use ados_ram::{Busy, Place, Ram};
 use ados_text::{NoMemory, Result2, Stop};
 use std::alloc::Global;
 use std::slice;
@@ -15,7 +15,7 @@ pub struct Gathering {
     moves: Vec<Renamed>,
 }
 
-ghost use Rattle.ados_files.specs.Gather.{gather_each, gather_into, gather_moves, gather_one, gathered_effect, gathered_of, move_into, moves_into};
+ghost use Rattle.ados_files.specs.Gather.{gather_each, gather_into, gather_moves, gather_one, gathered_effect, gathered_of, moves_into};
 
 /// The outcome of Rename for several objects, each of which goes into a directory.
 pub fn gather_into(
@@ -50,26 +50,13 @@ fn moves_into(
 {
     let mut moves = Vec::new(alloc);
     for place in places {
-        push_move(&mut moves, to, place, ram.look(place))?;
+        if let Some(entry) = ram.look(place) {
+            let from = place.copy()?;
+            let to = to.joined(slice::from_ref(&entry.name))?;
+            moves.push(Renamed { from, to })?;
+        }
     }
     Ok(moves)
-}
-
-fn push_move(
-    moves: &mut Vec<Renamed>,
-    to: &Place,
-    place: &Place,
-    there: Option<&Entry>,
-) -> Result<(), NoMemory>
-    ensures { OnOk result (moves.new.items ≡ moves.old.items ++ move_into to.now place.now (option_copied there.entry)) }
-{
-    let Some(entry) = there else {
-        return Ok(());
-    };
-    let from = place.copy()?;
-    let to = to.joined(slice::from_ref(&entry.name))?;
-    moves.push(Renamed { from, to })?;
-    Ok(())
 }
 
 // Renames one object after the other.

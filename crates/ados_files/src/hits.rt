@@ -42,7 +42,7 @@ pub struct Hits {
     pub has_hit: bool,
 }
 
-ghost use Rattle.ados_files.specs.{declared.hits.Wanted.TheVariants.{Matching}, Hits.{hit_lines, hit_text, hits_of, is_hit, search_bytes, search_file, search_files, search_lines, search_name, unread_line, with_hit, with_hits}};
+ghost use Rattle.ados_files.specs.{declared.hits.Wanted.TheVariants.{Matching}, Hits.{hit_lines, hit_text, hits_of, is_hit, search_file, search_files, search_lines, search_name, unread_line, with_hit, with_hits}};
 
 /// Looks in one file after the other.
 pub fn search_files(
@@ -72,7 +72,21 @@ fn search_file(
     if searching.names {
         return search_name(searching, &shared.ram, hits, place);
     }
-    search_bytes(searching, shared, view, hits, place)
+    match shared.ram.read(&view.busy, place) {
+        Err(fault) => say_unread(hits, &shared.ram, place, fault),
+        Ok(bytes) => {
+            say_path(
+                searching.quiet,
+                &mut hits.output,
+                &shared.ram,
+                place,
+                b"..\n",
+            )?;
+            let alloc = *hits.output.allocator();
+            let bytes = bytes.to_vec(alloc)?;
+            search_lines(searching, hits, &bytes)
+        }
+    }
 }
 
 // FILE: the name of a file is looked at.
@@ -96,32 +110,6 @@ fn search_name(
     hits.output.push(b'\n')?;
     hits.has_hit = true;
     Ok(())
-}
-
-fn search_bytes(
-    searching: &Searching,
-    shared: &Shared,
-    view: &ShellView,
-    hits: &mut Hits,
-    place: &Place,
-) -> Result<(), NoMemory>
-    ensures { OnOk result (hits_of hits.new ≡ search_bytes searching.now view.now.busy shared.now.files place.now (hits_of hits.old)) }
-{
-    match shared.ram.read(&view.busy, place) {
-        Err(fault) => say_unread(hits, &shared.ram, place, fault),
-        Ok(bytes) => {
-            say_path(
-                searching.quiet,
-                &mut hits.output,
-                &shared.ram,
-                place,
-                b"..\n",
-            )?;
-            let alloc = *hits.output.allocator();
-            let bytes = bytes.to_vec(alloc)?;
-            search_lines(searching, hits, &bytes)
-        }
-    }
 }
 
 // A file that cannot be read is reported.

@@ -29,7 +29,7 @@ impl Job {
     }
 }
 
-ghost use Rattle.ados_files.specs.Jobs.{gathered_places, sources_of, directory_job, directory_jobs, source_jobs, all_jobs, target_jobs};
+ghost use Rattle.ados_files.specs.Jobs.{gathered_places, sources_of, directory_job, source_jobs, all_jobs, target_jobs};
 
 /// The objects that the arguments of FROM name.
 pub fn sources_of(
@@ -80,24 +80,14 @@ fn push_jobs(jobs: &mut Vec<Job>, all: bool, ram: &Ram, place: &Place) -> Result
     match ram.look(place) {
         None => Ok(()),
         Some(entry) if entry.is_directory() => {
-            push_below(jobs, ram, place, &ram.directory_files(place, all)?)
+            let files = ram.directory_files(place, all)?;
+            for file in files.as_slice() {
+                jobs.push(job_below(*jobs.allocator(), ram, place, file)?)?;
+            }
+            Ok(())
         }
         Some(entry) => push_named(jobs, place, entry),
     }
-}
-
-fn push_below(
-    jobs: &mut Vec<Job>,
-    ram: &Ram,
-    directory: &Place,
-    places: &[Place],
-) -> Result<(), NoMemory>
-    ensures { OnOk result (jobs.new.items ≡ jobs.old.items ++ directory_jobs ram.now directory.now places.now) }
-{
-    for place in places {
-        jobs.push(job_below(*jobs.allocator(), ram, directory, place)?)?;
-    }
-    Ok(())
 }
 
 // A file below a directory keeps its path below it.

@@ -1,17 +1,17 @@
 // Join: files, one after the other, written to a file.
 ghost use Rattle.std.specs.Prelude.{◌≡◌, IfOk, OnOk};
 ghost use Rattle.ados_find.specs.{Done.{done_of}, Effects.{effect_of}};
-ghost use Rattle.ados_files.specs.Join.{write_one, write_read, join_to_target, join_row};
+ghost use Rattle.ados_files.specs.Join.{write_one, write_read, join_row};
 
 use crate::options::{JOIN_FILE, JOIN_TO};
 use crate::type_files::{Printing, Typing};
 use ados_find::{Act, CommandResult, Outcome, Shared, ShellView, Work, current, each};
-use ados_objects::{Paths, at_path, done_with, go_on};
+use ados_objects::{Paths, at_path, go_on};
 use ados_ram::Place;
 use ados_readargs::Args;
 use ados_text::{NoMemory, Text};
 use std::alloc::Global;
-use std::{mem, slice};
+use std::mem;
 
 /// Join writes files, one after the other, to a file.
 pub fn join_files(alloc: Global, shared: &Shared, view: &ShellView, args: &Args) -> CommandResult
@@ -21,36 +21,18 @@ pub fn join_files(alloc: Global, shared: &Shared, view: &ShellView, args: &Args)
         return Ok(Outcome::missing(alloc));
     };
     let texts = args.made_texts(alloc, JOIN_FILE)?;
-    let act = Joining {
-        view,
-        texts: texts.as_slice(),
+    let typing = Typing {
+        view: &*view,
+        printing: Printing::Plain,
     };
-    done_with(alloc, shared, &act, slice::from_ref(&to))
-}
-
-/// The joining of files into one.
-#[derive(Drop)]
-pub struct Joining<'a> {
-    pub view: &'a ShellView<'a>,
-    pub texts: &'a [Text],
-}
-
-impl<'a> Act<Text> for Joining<'a> {
-    ghost act = { λ s. join_to_target s.view.now s.texts.now };
-
-    fn act(&self, shared: &Shared, work: &mut Work, to: &Text) -> Result<(), NoMemory> {
-        let view = self.view;
-        let act = Typing {
-            view: &*view,
-            printing: Printing::Plain,
-        };
-        let paths = Paths {
-            act: &act,
-            view: &*view,
-        };
-        each(&paths, shared, work, self.texts)?;
-        written_to(view, shared, work, to)
-    }
+    let paths = Paths {
+        act: &typing,
+        view: &*view,
+    };
+    let mut work = Work::new(alloc);
+    each(&paths, shared, &mut work, texts.as_slice())?;
+    written_to(view, shared, &mut work, &to)?;
+    Ok(work.end())
 }
 
 /// Writes all that was read, if nothing was refused.

@@ -110,7 +110,7 @@ fn list_texts(
 {
     if texts.is_empty() {
         let here = slice::from_ref(view.directory);
-        return done_with(alloc, shared, &ListingAt { shape }, here);
+        return done_with(alloc, shared, shape, here);
     }
     done_with(alloc, shared, &Listing { shape, view }, texts)
 }
@@ -143,15 +143,10 @@ impl<'a> Act<Text> for Listing<'a> {
     }
 }
 
-/// The listing of a directory.
-#[derive(Drop)]
-pub struct ListingAt<'a> {
-    pub shape: &'a Shape,
-}
+impl Act<Place> for Shape {
+    ghost act = { λ s. list_directory s };
 
-impl<'a> Act<Place> for ListingAt<'a> {
-    ghost act = { λ s. list_directory s.shape.now };
-
+    // Lists a directory.
     fn act(&self, shared: &Shared, work: &mut Work, place: &Place) -> Result<(), NoMemory> {
         let ram = &current(shared, &work.shared).ram;
         match list_refusal(ram.look(place)) {
@@ -162,7 +157,7 @@ impl<'a> Act<Place> for ListingAt<'a> {
             None => {
                 let path = Text::new(*work.output.allocator());
                 let places = ram.children(place)?;
-                push_listed(&mut work.output, self.shape, &path, ram, &places)
+                push_listed(&mut work.output, self, &path, ram, &places)
             }
         }
     }

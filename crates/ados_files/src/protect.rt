@@ -2,10 +2,10 @@
 ghost use Rattle.std.specs.{Prelude.{◌≡◌, IfOk}, Option.{option_copied}};
 ghost use Rattle.ados_find.specs.Effects.{effect_of};
 
-use crate::below::objects_of;
+use crate::below::OnAll;
 use crate::letters::{are_letters_of, has_letter, text_or_empty};
 use crate::options::{PROTECT_ADD, PROTECT_ALL, PROTECT_FILE, PROTECT_FLAGS, PROTECT_SUB};
-use ados_find::{Act, Codes, CommandResult, Outcome, Shared, ShellView, Work, current, each};
+use ados_find::{Act, Codes, CommandResult, Outcome, Shared, ShellView, Work, current};
 use ados_objects::{done_with_named, go_on};
 use ados_ram::{Bits, Entry, Place};
 use ados_readargs::Args;
@@ -27,7 +27,7 @@ pub struct Change {
     pub bits: Bits,
 }
 
-ghost use Rattle.ados_files.specs.Protect.{begins_with, flag_letters, bits_of, way_of, change_of, changed_bit, changed_bits, object_bits, protect_one, protect_place, protect_row};
+ghost use Rattle.ados_files.specs.Protect.{begins_with, flag_letters, bits_of, way_of, change_of, changed_bit, changed_bits, object_bits, protect_one, protect_row};
 
 /// Protect changes the bits of objects.
 pub fn protect(alloc: Global, shared: &Shared, view: &ShellView, args: &Args) -> CommandResult
@@ -42,8 +42,10 @@ pub fn protect(alloc: Global, shared: &Shared, view: &ShellView, args: &Args) ->
     match change {
         Err(fault) => Ok(Outcome::answering(alloc, Codes::failed(fault))),
         Ok(change) => {
-            let all = args.has_switch(PROTECT_ALL);
-            let act = Protecting { all, change };
+            let act = OnAll {
+                all: args.has_switch(PROTECT_ALL),
+                act: &change,
+            };
             done_with_named(alloc, shared, view, &act, texts.as_slice())
         }
     }
@@ -152,38 +154,13 @@ fn object_bits(there: Option<&Entry>) -> Bits
     }
 }
 
-/// The change of the bits of the objects that a place stands for.
-#[derive(Drop)]
-pub struct Protecting {
-    pub all: bool,
-    pub change: Change,
-}
+impl Act<Place> for Change {
+    ghost act = { λ s. protect_one s };
 
-impl Act<Place> for Protecting {
-    ghost act = { λ s. protect_place s.all s.change };
-
-    fn act(&self, shared: &Shared, work: &mut Work, place: &Place) -> Result<(), NoMemory> {
-        let alloc = *work.output.allocator();
-        let places = objects_of(alloc, self.all, &current(shared, &work.shared).ram, place)?;
-        let act = ProtectingOne {
-            change: self.change,
-        };
-        each(&act, shared, work, &places)
-    }
-}
-
-/// The change of one object's bits.
-#[derive(Drop)]
-pub struct ProtectingOne {
-    pub change: Change,
-}
-
-impl Act<Place> for ProtectingOne {
-    ghost act = { λ s. protect_one s.change };
-
+    // Changes the bits of one object.
     fn act(&self, shared: &Shared, work: &mut Work, place: &Place) -> Result<(), NoMemory> {
         let now = current(shared, &work.shared);
-        let bits = changed_bits(self.change, object_bits(now.ram.look(place)));
+        let bits = changed_bits(*self, object_bits(now.ram.look(place)));
         let protected = now.ram.protect(place, bits);
         go_on(shared, work, protected)
     }

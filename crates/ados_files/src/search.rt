@@ -1,9 +1,7 @@
 // Search: the lines of files in which a text stands.
-ghost use Rattle.std.specs.Prelude.{◌≡◌, ◌++◌, IfOk, OnOk};
-ghost use Rattle.std.specs.FinMap as map;
-ghost use Rattle.ados_ram.specs.Place.{key_of};
+ghost use Rattle.std.specs.Prelude.{◌≡◌, IfOk};
 ghost use Rattle.ados_find.specs.{Effects.{effect_of}, Paths.{Gives}, Shared.{SharedState}};
-ghost use Rattle.ados_files.specs.{Search.{hits_effect, no_hits, object_files, search_row, search_sources, search_wanted, searched_files, searching_of, wanted_of}, Hits.{hits_of, search_files}};
+ghost use Rattle.ados_files.specs.{Search.{hits_effect, no_hits, search_row, search_sources, search_wanted, searched_files, searching_of, wanted_of}, Hits.{hits_of, search_files}};
 
 use crate::hits::{Hits, Searching, Wanted, search_files};
 use crate::jobs::sources_of;
@@ -88,23 +86,15 @@ fn searched_files(
 {
     let mut files = Vec::new(alloc);
     for place in places {
-        push_files(&mut files, all, ram, place)?;
+        match ram.look(place) {
+            None => {}
+            Some(entry) if entry.is_directory() => {
+                push_places(&mut files, &ram.directory_files(place, all)?)?;
+            }
+            Some(_) => push_places(&mut files, slice::from_ref(place))?,
+        }
     }
     Ok(files)
-}
-
-// Appends the files that an object stands for.
-fn push_files(files: &mut Vec<Place>, all: bool, ram: &Ram, place: &Place) -> Result<(), NoMemory>
-    ensures { OnOk result (files.new.items ≡ files.old.items ++ object_files all ram.now place.now (map.get ram.now (key_of place.now))) }
-{
-    match ram.look(place) {
-        None => Ok(()),
-        Some(entry) if entry.is_directory() => push_places(
-            files,
-            &ram.directory_files(place, all)?,
-        ),
-        Some(_) => push_places(files, slice::from_ref(place)),
-    }
 }
 
 fn searching_of(args: &Args, wanted: Wanted) -> Searching

@@ -1,5 +1,5 @@
 // What List shows of objects, and of what is below them.
-ghost use Rattle.std.specs.{Prelude.{◌≡◌, ◌++◌, ◌∷◌, [], IfOk, OnOk}, List.{flat_map}, Option.{option_copied}};
+ghost use Rattle.std.specs.{Prelude.{◌≡◌, ◌++◌, ◌∷◌, [], IfOk, OnOk}, Option.{option_copied}};
 
 use crate::formats::Format;
 use crate::parts::stands_in;
@@ -21,7 +21,7 @@ pub struct Shape {
     pub depth: usize,
 }
 
-ghost use Rattle.ados_files.specs.Shapes.{passes, has_part, is_selected, plain_line, kept_line, line_by_shape, directory_lines, group_lines};
+ghost use Rattle.ados_files.specs.Shapes.{passes, has_part, is_selected, plain_line, kept_line, line_by_shape, group_lines};
 
 /// The lines of objects, given the path before their names.
 #[derive(Drop)]
@@ -39,7 +39,6 @@ impl<'a> Line for Shown<'a> {
 }
 
 /// Appends the lines of objects, and behind them those of what is in the directories among them, down to a depth.
-#[cycle(group)]
 pub fn push_group(
     output: &mut Vec<u8>,
     shown: &Shown,
@@ -53,29 +52,13 @@ pub fn push_group(
     if depth == 0 {
         return Ok(());
     }
-    push_inside(output, shown, depth - 1, ram, places)?;
-    Ok(())
-}
-
-// Appends the lines of what is in the directories among objects, and of what is below it, down to a depth.
-#[cycle(group)]
-fn push_inside(
-    output: &mut Vec<u8>,
-    shown: &Shown,
-    depth: usize,
-    ram: &Ram,
-    places: &[Place],
-) -> Result<(), NoMemory>
-    ensures { OnOk result (output.new.items ≡ output.old.items
-        ++ flat_map (directory_lines (group_lines shown.now.shape.now ram.now depth) ram.now shown.now.path.now) places.now) }
-{
     let shape = shown.shape;
     for place in places {
         match ram.look(place) {
             Some(entry) if entry.is_directory() => {
                 let path = path_below(shown.path, entry)?;
                 let inside = Shown { shape, path: &path };
-                push_group(output, &inside, depth, ram, &ram.children(place)?)?;
+                push_group(output, &inside, depth - 1, ram, &ram.children(place)?)?;
             }
             _ => {}
         }

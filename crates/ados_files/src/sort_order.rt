@@ -45,10 +45,7 @@ pub fn line_len(bytes: &[u8]) -> usize
     ensures value { result ≡ line_len bytes.now }
     ensures within { result ≤ length bytes.now }
 {
-    match newline(bytes) {
-        None => bytes.len(),
-        Some(place) => place,
-    }
+    newline(bytes).unwrap_or(bytes.len())
 }
 
 // The place of the first newline.
@@ -144,10 +141,7 @@ fn digit_count(text: &[u8]) -> usize
     ensures count { result ≡ digit_count text.now }
     ensures within { result ≤ length text.now }
 {
-    match first_other(text) {
-        None => text.len(),
-        Some(count) => count,
-    }
+    first_other(text).unwrap_or(text.len())
 }
 
 // The place of the first byte that is no digit.
