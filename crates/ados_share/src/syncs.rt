@@ -9,7 +9,7 @@ use crate::backups::Backup;
 use crate::mirror::Mirror;
 use ados_ram::FileBytes;
 use ados_text::NoMemory;
-use ados_transfer::{Here, Manner, TransferFault, lower, no_memory, write_beside};
+use ados_transfer::{Here, Manner, TransferFault, is_nothing, lower, no_memory, write_beside};
 use std::alloc::Global;
 use std::collections::BTreeMap;
 use std::fs::OpenFile;
@@ -253,14 +253,11 @@ impl Backup {
     }
 }
 
-// Brings a file to the disk. One that may not be read, or that another program moved, is left.
+// Brings a file to the disk. One that may not be read, or that is no longer there, as its directory became a file, is left.
 fn sync<R: AllocGlobal + Files>(rt: &R, path: &str) -> io::Result<()> {
     match try_sync(rt, path) {
-        Err(error)
-            if matches!(
-                error.kind(),
-                ErrorKind::NotFound | ErrorKind::PermissionDenied
-            ) => { Ok(()) }
+        Err(error) if is_nothing(error.kind()) => Ok(()),
+        Err(error) if matches!(error.kind(), ErrorKind::PermissionDenied) => Ok(()),
         done => done,
     }
 }
