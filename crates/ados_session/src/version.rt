@@ -1,4 +1,4 @@
 // Which version this is.
 
 /// The version of both programs, which `--version` prints.
-pub const VERSION: &str = "1.15";
+pub const VERSION: &str = "1.16";
