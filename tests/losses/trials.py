@@ -34,7 +34,7 @@ NOT_SHARED = re.compile(rb"taken twice|files and folders, left alone from")
 # The folder, or the script beside what fills the Shell, is not there, cannot be opened or is too large.
 NOT_RUN = re.compile(rb"not a folder|cannot read f\n|does not fit|more than \d+ bytes in all, with script")
 NOT_STARTED = re.compile(rb"^show: ", re.M)
-GAVE_WAY = re.compile(rb"both changed|left alone|since its name|since it is not empty|cannot read|cannot bring in")
+GAVE_WAY = re.compile(rb"both changed|left alone|since its name|since it is not empty|since \S+ is in it|cannot read|cannot bring in")
 UNWRITTEN = re.compile(rb"both changed|cannot |not written|nothing is written")
 
 
